@@ -1,0 +1,4 @@
+pub mod Parts
+pub mod Order
+pub mod Half
+pub mod Table
