@@ -1,0 +1,37 @@
+-- What is shown of boxes and of their halves. The proofs stand in proofs/.
+use mathlib.Core.Path.{_≡_}
+use mathlib.Core.Bool.{true}
+use mathlib.Core.List.{List, List·Memᴰ}
+use mathlib.Core.Logic.{_⊎_}
+use Prim.Native.Nat.{ℕ, _+_, _≤_, _<_}
+use lib.IntN.{ℤ}
+use lib.ListN.{length, getD}
+use Rattle.integers.specs.Lists.{All, Distinct}
+use Rattle.boxes.specs.declared.Box.{Box}
+use Rattle.boxes.specs.Boxes.{InBox, atMost, sideAt, volume, grid}
+use Rattle.boxes.specs.Split.{longestSide, leftHalf, rightHalf}
+
+-- "V is their number": `grid` lists the vectors of the box and no others, each once, and V is its length.
+pub record Counted (b : Box) : Type 0 where
+  pub only : All (λ v. InBox v b) (grid b)
+  pub every : (v : List ℤ) → InBox v b → List·Memᴰ v (grid b)
+  pub once : Distinct (grid b)
+  pub number : length (grid b) ≡ volume b
+
+-- "its longest side, the lowest coordinate among equals": no side is longer, and those before it are shorter.
+pub record Longest (b : Box) : Type 0 where
+  pub none-longer : (k : ℕ) → sideAt b k ≤ sideAt b (longestSide b)
+  pub lowest : (k : ℕ) → k < longestSide b → sideAt b k < sideAt b (longestSide b)
+
+-- The halves of a box of two vectors or more: both are boxes, every vector of the box lies in one half and not in both, nothing else
+-- lies in a half, and the volumes add up.
+pub record Halved (b : Box) : Type 0 where
+  pub left-box : atMost ((leftHalf b) .low) ((leftHalf b) .high) ≡ true
+  pub right-box : atMost ((rightHalf b) .low) ((rightHalf b) .high) ≡ true
+  pub left-some : 1 ≤ volume (leftHalf b)
+  pub right-some : 1 ≤ volume (rightHalf b)
+  pub covers : (v : List ℤ) → InBox v b → InBox v (leftHalf b) ⊎ InBox v (rightHalf b)
+  pub apart : (v : List ℤ) → InBox v (leftHalf b) → InBox v (rightHalf b) → ⊥
+  pub left-in : (v : List ℤ) → InBox v (leftHalf b) → InBox v b
+  pub right-in : (v : List ℤ) → InBox v (rightHalf b) → InBox v b
+  pub adds : volume (leftHalf b) + volume (rightHalf b) ≡ volume b
