@@ -1,7 +1,7 @@
 -- What a caller has of the checks that passed, and the halves of a box that passed pass too. Assumes nothing.
 use mathlib.Core.Path.{_≡_}
-use mathlib.Core.Bool.{Bool, _&&_}
-use mathlib.Core.List.{List, [], _∷_}
+use mathlib.Core.Bool.{_&&_}
+use mathlib.Core.List.{List}
 use Prim.Native.Nat.{ℕ, zero, suc, _*_, _≤_}
 use native.Mathlib.Omega.{arith}
 use borrow.Author.Tests.{eq-eqb}
@@ -34,7 +34,8 @@ pub record Shaped (n d : ℕ) : Type 0 where
 pub shape-passed : (n d : ℕ) → checkShape n d ≡ Pass → Shaped n d
 unfolding checkShape
 shape-passed n d e =
-    let all = and-parts (within 1 n 4 && within 1 d 4) (leb (n * d) 8) (passed (within 1 n 4 && within 1 d 4 && leb (n * d) 8) Refusal.Shape e) in
+    let few = leb (n * d) 8 in
+    let all = and-parts (within 1 n 4 && within 1 d 4) few (passed (within 1 n 4 && within 1 d 4 && few) Refusal.Shape e) in
     let both = and-parts (within 1 n 4) (within 1 d 4) (all .0) in
     let lines = and-parts (leb 1 n) (leb n 4) (both .0) in
     let used = and-parts (leb 1 d) (leb d 4) (both .1) in
@@ -76,17 +77,21 @@ module _ (n d : ℕ) (b : Box) where
   pub box-passed : checkBox n d b ≡ Pass → Boxed n d b
   unfolding checkBox
   box-passed e =
-      let all = and-parts (atMost (b .low) (b .high) && unusedZero n d (b .low)) (unusedZero n d (b .high)) (passed (atMost (b .low) (b .high) && unusedZero n d (b .low) && unusedZero n d (b .high)) Refusal.Box e) in
-      let both = and-parts (atMost (b .low) (b .high)) (unusedZero n d (b .low)) (all .0) in
+      let order = atMost (b .low) (b .high) in
+      let low-zero = unusedZero n d (b .low) in
+      let high-zero = unusedZero n d (b .high) in
+      let all = and-parts (order && low-zero) high-zero (passed (order && low-zero && high-zero) Refusal.Box e) in
+      let both = and-parts order low-zero (all .0) in
       record { ordered = both .0; low-unused = both .1; high-unused = all .1 }
 
   pub box-passes : Boxed n d b → checkBox n d b ≡ Pass
   unfolding checkBox
   box-passes h =
-      passes (atMost (b .low) (b .high) && unusedZero n d (b .low) && unusedZero n d (b .high)) Refusal.Box
-      (and-both (atMost (b .low) (b .high) && unusedZero n d (b .low)) (unusedZero n d (b .high))
-      (and-both (atMost (b .low) (b .high)) (unusedZero n d (b .low)) (h .ordered) (h .low-unused))
-      (h .high-unused))
+      let order = atMost (b .low) (b .high) in
+      let low-zero = unusedZero n d (b .low) in
+      let high-zero = unusedZero n d (b .high) in
+      passes (order && low-zero && high-zero) Refusal.Box
+      (and-both (order && low-zero) high-zero (and-both order low-zero (h .ordered) (h .low-unused)) (h .high-unused))
 
   -- a box that passed has a vector, its low one among them
   pub box-some : checkBox n d b ≡ Pass → 1 ≤ volume b
@@ -102,7 +107,12 @@ module _ (n d : ℕ) (b : Box) where
       zero-between (between-drop (n * d) (i .between)) (h .low-unused) (h .high-unused)
 
 -- a box of which each vector is one of a box that passed passes
-inner-passes : (n d : ℕ) (b inner : Box) → checkBox n d b ≡ Pass → 1 ≤ volume inner → ((v : List ℤ) → InBox v inner → InBox v b) → checkBox n d inner ≡ Pass
+inner-passes :
+    (n d : ℕ) (b inner : Box) →
+    checkBox n d b ≡ Pass →
+    1 ≤ volume inner →
+    ((v : List ℤ) → InBox v inner → InBox v b) →
+    checkBox n d inner ≡ Pass
 inner-passes n d b inner e some inside =
     box-passes n d inner
     (record {

@@ -1,7 +1,7 @@
 -- Tests of all coordinates and the largest of the sides, one coordinate after the other, as the loops go. Assumes nothing.
 use mathlib.Core.Path.{_≡_, refl}
 use mathlib.Core.Bool.{true, _&&_}
-use mathlib.Core.List.{List, [], _∷_}
+use mathlib.Core.List.{List}
 use Prim.Native.Nat.{ℕ, suc, _≤_, _<_}
 use native.Mathlib.Omega.{arith}
 use borrow.Author.Tests.{le-leb, lt-leb}
@@ -24,7 +24,9 @@ module _ (v : List ℤ) (k : ℕ) where
   zero-end past = rw (drop-of-length-le v past)
 
 module _ (a b : List ℤ) (k : ℕ) (same : length a ≡ length b) where
-  pub at-most-step : k < length a → atMost (drop k a) (drop k b) ≡ (leZ (getD a k (pos 0)) (getD b k (pos 0)) && atMost (drop (suc k) a) (drop (suc k) b))
+  pub at-most-step :
+      k < length a →
+      atMost (drop k a) (drop k b) ≡ (leZ (getD a k (pos 0)) (getD b k (pos 0)) && atMost (drop (suc k) a) (drop (suc k) b))
   unfolding atMost
   at-most-step inside =
       let inside-b : k < length b = omega arith in
@@ -41,10 +43,15 @@ module _ (ss : List ℕ) (k : ℕ) (inside : k < length ss) where
   abbrev later : List ℕ
   later = drop (suc k) ss
 
-  pub largest-here : getD later (firstLargest later) 0 ≤ getD ss k 0 → (firstLargest (drop k ss) ≡ 0) × (getD (drop k ss) (firstLargest (drop k ss)) 0 ≡ getD ss k 0)
+  pub largest-here :
+      getD later (firstLargest later) 0 ≤ getD ss k 0 →
+      (firstLargest (drop k ss) ≡ 0) × (getD (drop k ss) (firstLargest (drop k ss)) 0 ≡ getD ss k 0)
   unfolding firstLargest
   largest-here up = rw (drop-cons ss k 0, le-leb (getD later (firstLargest later) 0) (getD ss k 0) up) (refl, refl)
 
-  pub largest-later : getD ss k 0 < getD later (firstLargest later) 0 → (firstLargest (drop k ss) ≡ suc (firstLargest later)) × (getD (drop k ss) (firstLargest (drop k ss)) 0 ≡ getD later (firstLargest later) 0)
+  pub largest-later :
+      getD ss k 0 < getD later (firstLargest later) 0 →
+      (firstLargest (drop k ss) ≡ suc (firstLargest later))
+      × (getD (drop k ss) (firstLargest (drop k ss)) 0 ≡ getD later (firstLargest later) 0)
   unfolding firstLargest
   largest-later down = rw (drop-cons ss k 0, lt-leb (getD later (firstLargest later) 0) (getD ss k 0) down) (refl, refl)

@@ -1,5 +1,5 @@
 -- The halves of a box of two vectors or more have all its vectors, each in one. Assumes nothing.
-use mathlib.Core.Path.{_≡_, refl, ap}
+use mathlib.Core.Path.{_≡_, ap}
 use mathlib.Core.List.{List, [], _∷_}
 use mathlib.Core.Logic.{_⊎_, inl, inr, ⊎-elim}
 use Prim.Native.Nat.{ℕ, zero, suc, _+_, _*_, _≤_}
@@ -11,7 +11,7 @@ use lib.ListN.{length, getD, set, length-set}
 use Rattle.integers.proofs.Tests.{is-true}
 use Rattle.integers.specs.Integers.{floorHalf}
 use Rattle.boxes.specs.declared.Box.{Box}
-use Rattle.boxes.specs.Boxes.{Between, side, InBox, sideSize, sides, product, volume}
+use Rattle.boxes.specs.Boxes.{Between, side, sideSize, sides, product, volume}
 use Rattle.boxes.specs.Split.{longestSide, middleOf, leftHalf, rightHalf}
 use Rattle.boxes.specs.Laws.{Halved}
 use Rattle.boxes.proofs.Sides.{side-halves, side-left, side-right, side-covers, side-apart}
@@ -34,7 +34,11 @@ record Cut (ls hs : List ℤ) (k : ℕ) (m : ℤ) : Type 0 where
   covers : (v : List ℤ) → Between v ls hs → Between v ls (set hs k m) ⊎ Between v (set ls k (m +ℤ pos 1)) hs
   apart : (v : List ℤ) → Between v ls (set hs k m) → Between v (set ls k (m +ℤ pos 1)) hs → ⊥
 
-cut-at : (k : ℕ) (ls hs : List ℤ) → 1 ≤ product (sides ls hs) → 2 ≤ getD (sides ls hs) k 0 → Cut ls hs k (floorHalf (getD ls k (pos 0) +ℤ getD hs k (pos 0)))
+cut-at :
+    (k : ℕ) (ls hs : List ℤ) →
+    1 ≤ product (sides ls hs) →
+    2 ≤ getD (sides ls hs) k 0 →
+    Cut ls hs k (floorHalf (getD ls k (pos 0) +ℤ getD hs k (pos 0)))
 unfolding sides product
 cut-at k [] [] some two = absurd (omega arith)
 cut-at k [] (h ∷ hs) some two = absurd (omega arith)
@@ -53,7 +57,9 @@ cut-at zero (l ∷ ls) (h ∷ hs) some two =
       covers =
           λ v. by-side (λ v. Between v (l ∷ ls) (m ∷ hs) ⊎ Between v ((m +ℤ pos 1) ∷ ls) (h ∷ hs))
           (λ x xs p q b. ⊎-elim (λ j. inl (side p j b)) (λ j. inr (side j q b)) (side-covers l h x));
-      apart = λ v. by-side (λ v. Between v ((m +ℤ pos 1) ∷ ls) (h ∷ hs) → ⊥) (λ x xs p q b i. side-apart l h x q (first-side i));
+      apart =
+          λ v. by-side (λ v. Between v ((m +ℤ pos 1) ∷ ls) (h ∷ hs) → ⊥)
+          (λ x xs p q b i. side-apart l h x q (first-side i));
     }
 cut-at (suc k) (l ∷ ls) (h ∷ hs) some two =
     let r = cut-at k ls hs (right-pos (sideSize l h) (product (sides ls hs)) some) two in

@@ -1,6 +1,6 @@
--- Signed numbers as the machine has them: widened, tested for 0 by their bits, and the order read the other way. Assumes nothing.
+-- Signed numbers as the machine has them: widened, compared, tested for 0 by their bits. Assumes nothing.
 use mathlib.Core.Path.{_≡_, sym, ap, _∙_}
-use mathlib.Core.Bool.{true, false}
+use mathlib.Core.Bool.{Bool, true, false}
 use Prim.Native.Nat.{suc}
 use native.Mathlib.Omega.{arith}
 use borrow.Author.Tests.{eq-eqb, ne-eqb}
@@ -26,6 +26,14 @@ widened x f =
     let g : SFits w32 x = sfits-widen tt f in
     simp toZ-ofZ
 
+-- the order of two numbers, as the machine tests it
+pub read-lt : (w : Width) (x y : ℤ) {t : Bool} → SFits w x → SFits w y → ltZ (toZ w (ofZ w x)) (toZ w (ofZ w y)) ≡ t → ltZ x y ≡ t
+read-lt w x y fx fy e = simp toZ-ofZ at e
+
+pub read-le : (w : Width) (x y : ℤ) {t : Bool} → SFits w x → SFits w y → leZ (toZ w (ofZ w x)) (toZ w (ofZ w y)) ≡ t → leZ x y ≡ t
+read-le w x y fx fy e = simp toZ-ofZ at e
+
+-- 0, by the bits
 pub bits-zero : (x : ℤ) → SFits w16 x → ofZ w16 x ≡ 0 → eqb (natAbs x) 0 ≡ true
 bits-zero x f e = eq-eqb (natAbs x) 0 (ap natAbs (sym (toZ-ofZ f) ∙ ap (toZ w16) e))
 
@@ -33,6 +41,7 @@ pub bits-not-zero : (x : ℤ) → (ofZ w16 x ≡ 0 → ⊥) → eqb (natAbs x) 0
 bits-not-zero (pos n) ne = ne-eqb n 0 ne
 bits-not-zero (negsuc n) ne = ne-eqb (suc n) 0 (omega arith)
 
+-- the order read the other way
 pub lt-not-le : (a b : ℤ) → ltZ b a ≡ true → leZ a b ≡ false
 lt-not-le a b e = is-false (leZ a b) (not-T (leZ a b) (λ t. omega (arith, le-parts {a = a} {b = b} (record { le = t }), ltZ-true b a e)))
 

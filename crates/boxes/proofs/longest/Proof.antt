@@ -15,9 +15,6 @@ use Rattle.boxes.proofs.Coordinates.{largest-here, largest-later}
 use Rattle.boxes.proofs.LongestSide.{sides-length, side-at}
 use Rattle.boxes.proofs.longest.Statement.{statement}
 use Rattle.boxes.proofs.longest.Tie as tie
-use Rattle.boxes.proofs.longest.Reads as reads
-use Rattle.boxes.proofs.longest.Lts as lts
-use Rattle.boxes.proofs.side_size.Reads as side-size-reads
 
 record Best (ss : List ℕ) (best size k : ℕ) : Type 0 where
   inside : k ≤ 8

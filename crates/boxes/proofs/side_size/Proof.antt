@@ -1,17 +1,17 @@
 -- The difference of two 16-bit numbers, the first at most the second, fits 32 bits and is not negative.
-use mathlib.Core.Path.{_≡_, refl}
-use mathlib.Core.Bool.{true, false}
-use Prim.Native.Nat.{suc, _+_, _<_, _≤_}
+use mathlib.Core.Path.{_≡_}
+use mathlib.Core.Bool.{true}
+use Prim.Native.Nat.{_≤_}
 use native.Mathlib.Numerals.{add-one}
 use native.Mathlib.Omega.{arith}
 use lib.Dec.{T}
 use lib.IntN.{ℤ, pos, natAbs, _-ℤ_}
 use lib.Signed.{leZ, nonNeg, yes-nonNeg}
 use mir.Syntax.{w16, w32}
-use mir.Val.{SFits, Fits}
+use mir.Val.{SFits}
 use mir.Facts.{toZ-ofZ, sfits-widen}
 use Rattle.integers.proofs.Parts.{apart, sub-parts, parts-le, leZ-true, pos-up, pos-dn, fits-sub, abs-fits, abs-sub}
-use Rattle.integers.proofs.Signed.{widened}
+use Rattle.integers.proofs.Signed.{widened, read-le}
 use Rattle.boxes.specs.Boxes.{sideSize}
 use Rattle.boxes.proofs.side_size.Statement.{statement}
 use Rattle.boxes.proofs.side_size.Tie as tie
@@ -29,10 +29,7 @@ not-negative lo hi e =
     (parts-le (pos 0) (hi -ℤ lo) (omega (arith, sub-parts hi lo, apart (hi -ℤ lo), leZ-true lo hi e, pos-up 0, pos-dn 0)))
 
 test : (c : tie.Then1) → leZ (c .before .args .lo) (c .before .args .hi) ≡ true
-test c =
-    let fl = c .before .fits .lo in
-    let fh = c .before .fits .hi in
-    simp toZ-ofZ at (c .if1 .taken)
+test c = read-le w16 (c .before .args .lo) (c .before .args .hi) (c .before .fits .lo) (c .before .fits .hi) (c .if1 .taken)
 
 cast-result : tie.Need-cast-result
 cast-result c = rw (toZ-ofZ (c .before .fits .hi)) (sfits-widen tt (c .before .fits .hi))
@@ -69,11 +66,7 @@ returns c =
 
 returns-2 : tie.Need-returns-2
 unfolding sideSize
-returns-2 c =
-    let fl = c .before .fits .lo in
-    let fh = c .before .fits .hi in
-    let over : leZ (c .before .args .lo) (c .before .args .hi) ≡ false = simp toZ-ofZ at (c .if1 .left) in
-    rw over
+returns-2 c = let s = c .before in rw (read-le w16 (s .args .lo) (s .args .hi) (s .fits .lo) (s .fits .hi) (c .if1 .left))
 
 pub side-size-spec : {M : Type 1} → statement M
 side-size-spec =

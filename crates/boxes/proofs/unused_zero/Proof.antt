@@ -1,19 +1,20 @@
 -- The invariant: the coordinates from n × d on are all 0 if those from k on are. The measure is what is left of the 8.
 use borrow.Author.Needs.{needs}
 use mathlib.Core.Path.{_≡_, refl, sym, _∙_}
-use Prim.Native.Nat.{ℕ, _+_, _*_, _-_, _≤_, _<_}
+use mathlib.Core.Bool.{_&&_}
+use mathlib.Core.List.{List}
+use Prim.Native.Nat.{suc, _*_, _-_}
 use native.Mathlib.Nat.{mul-le-mul, le-of-lt}
 use native.Mathlib.Numerals.{add-one}
 use native.Mathlib.Omega.{arith}
-use lib.IntN.{pos}
+use lib.Dec.{eqb}
+use lib.IntN.{ℤ, pos, natAbs}
 use lib.ListN.{length, getD, drop}
 use Rattle.integers.specs.Integers.{allZero}
 use Rattle.integers.proofs.Signed.{bits-zero, bits-not-zero}
 use Rattle.boxes.proofs.Coordinates.{zero-step, zero-end}
 use Rattle.boxes.proofs.unused_zero.Statement.{statement}
 use Rattle.boxes.proofs.unused_zero.Tie as tie
-use Rattle.boxes.proofs.unused_zero.Reads as reads
-use Rattle.boxes.proofs.unused_zero.Lts as lts
 
 abbrev Inv-loop : tie.InvT-loop
 Inv-loop n d v k₀ k = allZero (drop (n * d) v) ≡ allZero (drop k v)
@@ -33,15 +34,24 @@ mul-if1 c = omega arith
 array-copy-out-if1 : tie.Need-array-copy-out-if1 Inv-loop μ-loop
 array-copy-out-if1 c = omega arith
 
+-- what a turn knows, once the coordinate is read
+module _ (c : tie.After-if12 Inv-loop μ-loop) where
+  abbrev turn : tie.At-loop Inv-loop μ-loop
+  turn = c .before .before
+
+  abbrev v : List ℤ
+  v = turn .before .args .t3
+
+  abbrev x : ℤ
+  x = getD v (turn .loop .k) (pos 0)
+
+  step : allZero (drop (turn .before .args .n * turn .before .args .d) v) ≡ (eqb (natAbs x) 0 && allZero (drop (suc (turn .loop .k)) v))
+  step =
+      let long : length v ≡ 8 = search needs in
+      turn .loop .inv ∙ zero-step v (turn .loop .k) (omega arith)
+
 returns : tie.Need-returns Inv-loop μ-loop
-returns c =
-    let turn = c .before .before .before in
-    let v = turn .before .args .t3 in
-    let k = turn .loop .k in
-    let long : length v ≡ 8 = search needs in
-    let inside : k < length v = omega arith in
-    let not-zero = bits-not-zero (getD v k (pos 0)) (c .if1 .taken) in
-    sym (turn .loop .inv ∙ zero-step v k inside ∙ rw not-zero)
+returns c = let r = c .before in sym (step r ∙ rw (bits-not-zero (x r) (c .if1 .taken)))
 
 add-k : tie.Need-add-k Inv-loop μ-loop
 add-k c = omega arith
@@ -51,13 +61,8 @@ loop-less c = omega arith
 
 loop-again : tie.Need-loop-again Inv-loop μ-loop
 loop-again c =
-    let turn = c .before .before .before in
-    let v = turn .before .args .t3 in
-    let k = turn .loop .k in
-    let long : length v ≡ 8 = search needs in
-    let inside : k < length v = omega arith in
-    let is-zero = bits-zero (getD v k (pos 0)) (record { sfits = c .before .if12 .given }) (c .if1 .left) in
-    rw add-one (turn .loop .inv ∙ zero-step v k inside ∙ rw is-zero)
+    let r = c .before in
+    rw add-one (step r ∙ rw (bits-zero (x r) (record { sfits = r .if12 .given }) (c .if1 .left)))
 
 returns-2 : tie.Need-returns-2 Inv-loop μ-loop
 returns-2 c =
