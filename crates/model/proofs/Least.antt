@@ -1,0 +1,58 @@
+-- The least of values over the lines, and the loss of the least size. Assumes nothing.
+use mathlib.Core.Path.{_≡_, refl, ap, _∙_}
+use mathlib.Core.Bool.{cond}
+use Prim.Native.Nat.{ℕ, zero, suc, _+_, _*_, _≤_, _<_, min}
+use native.Mathlib.Nat.{mul-le-mul-right, add-mul, min-eq-left, min-eq-right}
+use native.Mathlib.Numerals.{add-one}
+use native.Mathlib.Omega.{arith, min-cases}
+use lib.Dec.{ltb}
+use Rattle.integers.proofs.Tests.{by-cond}
+use Rattle.loss.specs.Loss.{lossOf}
+use Rattle.loss.proofs.Laws.{loss-mono}
+use Rattle.model.specs.Cost.{least, firstLeast}
+
+-- one line more
+pub least-more : (f : ℕ → ℕ) (j : ℕ) → 1 ≤ j → least f (j + 1) ≡ min (least f j) (f j)
+unfolding least
+least-more f zero h = absurd (omega arith)
+least-more f (suc j) h = rw add-one
+
+pub first-least-more : (f : ℕ → ℕ) (j : ℕ) → 1 ≤ j → firstLeast f (j + 1) ≡ cond (ltb (f j) (least f j)) j (firstLeast f j)
+unfolding firstLeast
+first-least-more f zero h = absurd (omega arith)
+first-least-more f (suc j) h = rw add-one
+
+pub first-least-below : (f : ℕ → ℕ) (n : ℕ) → 1 ≤ n → firstLeast f n < n
+unfolding firstLeast
+first-least-below f zero h = absurd (omega arith)
+first-least-below f (suc zero) h = omega arith
+first-least-below f (suc (suc n)) h =
+    let k = first-least-below f (suc n) (omega arith) in
+    by-cond (λ (x : ℕ). x < suc (suc n)) (ltb (f (suc n)) (least f (suc n))) (λ t. omega arith) (λ t. omega arith)
+
+-- the least rises with the values
+pub least-mono : (f g : ℕ → ℕ) → ((j : ℕ) → f j ≤ g j) → (n : ℕ) → least f n ≤ least g n
+unfolding least
+least-mono f g h zero = omega arith
+least-mono f g h (suc zero) = h 0
+least-mono f g h (suc (suc n)) = omega (arith, least-mono f g h (suc n), h (suc n))
+
+pub least-same : (f g : ℕ → ℕ) → ((j : ℕ) → f j ≡ g j) → (n : ℕ) → least f n ≡ least g n
+least-same f g h n = ap (λ (u : ℕ → ℕ). least u n) (λ i j. h j i)
+
+-- "the least loss among the lines is the loss of the least |e|": one loss for each point is enough
+pub loss-of-least : (p ε : ℕ) (f : ℕ → ℕ) (n : ℕ) → 1 ≤ n → least (λ j. lossOf p ε (f j)) n ≡ lossOf p ε (least f n)
+unfolding least
+loss-of-least p ε f zero h = absurd (omega arith)
+loss-of-least p ε f (suc zero) h = refl
+loss-of-least p ε f (suc (suc n)) h =
+    ap (λ (m : ℕ). min m (lossOf p ε (f (suc n)))) (loss-of-least p ε f (suc n) (omega arith))
+    ∙ min-cases (least f (suc n)) (f (suc n)) (min (lossOf p ε (least f (suc n))) (lossOf p ε (f (suc n))) ≡ lossOf p ε (min (least f (suc n)) (f (suc n))))
+    (λ k e. rw e (min-eq-left (loss-mono p ε k)))
+    (λ k e. rw e (min-eq-right (loss-mono p ε k)))
+
+-- a line's coordinates end within the vector
+pub line-room : (j n d room : ℕ) → j < n → n * d ≤ room → j * d + d ≤ room
+line-room j n d room h k =
+    let g : j + 1 ≤ n = omega arith in
+    omega (arith, mul-le-mul-right d g, add-mul j 1 d)

@@ -1,0 +1,5 @@
+pub mod Least
+pub mod Sums
+pub mod Sizes
+pub mod Filling
+pub mod Passed

@@ -1,0 +1,73 @@
+-- By what the checks say: the sum is below any cap of 64 bits.
+use borrow.Author.Needs.{needs}
+use mathlib.Core.Path.{_≡_, refl, sym, ap, _∙_}
+use mathlib.Core.List.{List, [], _∷_}
+use Prim.Native.Nat.{ℕ, _≤_, min}
+use native.Mathlib.Omega.{arith}
+use lib.ListN.{length}
+use Rattle.codes.specs.declared.Check.the-variants.{Pass, Refuse}
+use Rattle.codes.specs.declared.Outcome.the-variants.{Value}
+use Rattle.model.specs.Cost.{leastSize, bound}
+use Rattle.model.specs.Calls.{checkBound, boundAnswer}
+use Rattle.model.specs.Ready.{Ready}
+use Rattle.model.proofs.Passed.{ready, bound-model}
+use Rattle.model.proofs.Sums.{total-uncapped}
+use Rattle.model.proofs.bound.Statement.{statement}
+use Rattle.model.proofs.bound.Tie as tie
+
+module _ (c : tie.After-enum-told) where
+  pass : checkBound (c .before .before .before .before .args .store .now) (c .before .before .before .before .args .m) (c .before .before .before .before .args .b) ≡ Pass
+  pass = sym (c .before .before .check-bound .ensures) ∙ c .enum-told .given .1
+
+  was-ready : Ready (length (c .before .before .before .before .args .store .now)) (c .before .before .before .before .args .m)
+  was-ready = ready (c .before .before .before .before .args .store .now) (c .before .before .before .before .args .m) (bound-model _ _ _ pass)
+
+check-bound-requires : tie.Need-check-bound-requires
+check-bound-requires c κs = search needs
+
+enum-told : tie.Need-enum-told
+enum-told c = search needs
+
+slice-aggregate-bound-sum : tie.Need-slice-aggregate-bound-sum
+slice-aggregate-bound-sum c = search needs
+
+slice-aggregate-bound-sum-2 : tie.Need-slice-aggregate-bound-sum-2
+slice-aggregate-bound-sum-2 c = search needs
+
+bound-sum-requires : tie.Need-bound-sum-requires
+bound-sum-requires c κs =
+    let box = c .before .before .before .before .before .before .before .before .args .b in
+    let low : length (box .low) ≡ 8 = search needs in
+    let high : length (box .high) ≡ 8 = search needs in
+    (was-ready (c .before .before .before .before), omega arith, omega arith)
+
+enum-known-r : tie.Need-enum-known-r
+enum-known-r c = search needs
+
+returns : tie.Need-returns
+unfolding boundAnswer bound
+returns c =
+    let e = c .before .before .before .before .before in
+    let a = e .before .before .before .before .args in
+    let g = was-ready e in
+    rw (pass e) (ap Value (c .bound-sum .ensures ∙ total-uncapped (a .m) (leastSize (a .m) (a .b)) (a .store .now) (g .lines) (g .cut) (g .few)))
+
+returns-2 : tie.Need-returns-2
+unfolding boundAnswer
+returns-2 c =
+    let e = c .before .before .before in
+    let refuse : checkBound (e .before .before .args .store .now) (e .before .before .args .m) (e .before .before .args .b) ≡ Refuse (c .before .r .given .0 .0) = sym (e .check-bound .ensures) ∙ c .before .r .given .1 in
+    rw refuse refl
+
+pub bound-spec : {M : Type 1} → statement M
+bound-spec =
+    tie.close
+    (tie.spec
+    check-bound-requires
+    enum-told
+    slice-aggregate-bound-sum
+    slice-aggregate-bound-sum-2
+    bound-sum-requires
+    enum-known-r
+    returns
+    returns-2)

@@ -1,0 +1,79 @@
+-- By whether the nearest line's |e| is within ε.
+use borrow.Author.Needs.{needs}
+use borrow.Author.Tests.{le-leb, lt-leb}
+use mathlib.Core.Path.{_≡_, sym, ap, _∙_}
+use Prim.Native.Nat.{ℕ, suc, _+_, _≤_, _<_}
+use native.Mathlib.Numerals.{add-one}
+use native.Mathlib.Omega.{arith}
+use Rattle.points.specs.Points.{pointAt}
+use Rattle.model.specs.Cost.{least, firstLeast, sizeAt, label}
+use Rattle.model.proofs.Least.{first-least-below}
+use Rattle.model.proofs.Sizes.{sizes-at}
+use Rattle.model.proofs.residual.label_record.Statement.{statement}
+use Rattle.model.proofs.residual.label_record.Tie as tie
+
+cast-nearest-line : tie.Need-cast-nearest-line
+cast-nearest-line c = search needs
+
+cast-nearest-line-2 : tie.Need-cast-nearest-line-2
+cast-nearest-line-2 c = search needs
+
+nearest-line-requires : tie.Need-nearest-line-requires
+nearest-line-requires c κs = search needs
+
+cast-if1 : tie.Need-cast-if1
+cast-if1 c = search needs
+
+-- what the nearest line is, in the definition's words
+module _ (c : tie.After-nearest-line) where
+  abbrev start : tie.Start
+  start = c .before .before .before .before
+
+  abbrev sizes : ℕ → ℕ
+  sizes = sizeAt (start .args .m) (start .args .v .now) (pointAt (start .args .s .now) (start .args .i))
+
+  line-is : c .nearest-line .result .line ≡ firstLeast sizes (start .args .m .n)
+  line-is =
+      let a = start .args in
+      c .nearest-line .ensures .0 ∙ ap (λ (f : ℕ → ℕ). firstLeast f (a .m .n)) (sizes-at (a .m) (a .s .now) (a .i) (a .power) (start .pre .3) (a .v .now))
+
+  size-is : c .nearest-line .result .size ≡ least sizes (start .args .m .n)
+  size-is =
+      let a = start .args in
+      c .nearest-line .ensures .1 ∙ ap (λ (f : ℕ → ℕ). least f (a .m .n)) (sizes-at (a .m) (a .s .now) (a .i) (a .power) (start .pre .3) (a .v .now))
+
+  line-small : c .nearest-line .result .line < 4
+  line-small = omega (arith, line-is, first-least-below sizes (start .args .m .n) (start .pre .0 .lines), start .pre .0 .most)
+
+add-result : tie.Need-add-result
+add-result c = record { fits = omega (arith, line-small (c .before .before .before .before)) }
+
+cast-result : tie.Need-cast-result
+cast-result c = record { fits = omega (arith, line-small (c .before .before .before .before)) }
+
+returns : tie.Need-returns
+unfolding label
+returns c =
+    let e = c .before .before .before .before in
+    let h : least (sizes e) (start e .args .m .n) ≤ start e .args .m .eps = omega (arith, size-is e, c .before .if1 .taken) in
+    simp (le-leb _ _ h) (add-one (e .nearest-line .result .line) ∙ ap suc (line-is e))
+
+returns-2 : tie.Need-returns-2
+unfolding label
+returns-2 c =
+    let e = c .before .before .before in
+    let h : start e .args .m .eps < least (sizes e) (start e .args .m .n) = omega (arith, size-is e, c .if1 .left) in
+    simp (lt-leb _ _ h)
+
+pub label-record-spec : {M : Type 1} → statement M
+label-record-spec =
+    tie.close
+    (tie.spec
+    cast-nearest-line
+    cast-nearest-line-2
+    nearest-line-requires
+    cast-if1
+    add-result
+    cast-result
+    returns
+    returns-2)

@@ -1,0 +1,123 @@
+-- The invariant: `size` is the least of the first j lines' sizes, and `line` the first of them that has it. The measure is what is left of n.
+use borrow.Author.Needs.{needs}
+use borrow.Author.Tests.{lt-ltb, le-ltb}
+use mathlib.Core.Path.{_≡_, refl, sym, ap, _∙_}
+use mathlib.Core.List.{List}
+use mathlib.Core.Logic.{⊎-elim}
+use Prim.Native.Nat.{ℕ, _+_, _*_, _-_, _≤_, _<_, min}
+use native.Mathlib.Nat.{zero-mul}
+use native.Mathlib.Omega.{arith}
+use lib.IntN.{ℤ}
+use lib.ListN.{length}
+use Rattle.model.specs.Cost.{least, firstLeast}
+use Rattle.model.specs.Ready.{sizeOf}
+use Rattle.model.proofs.Least.{least-more, first-least-more, line-room}
+use Rattle.model.proofs.residual.nearest_line.Statement.{statement}
+use Rattle.model.proofs.residual.nearest_line.Tie as tie
+
+-- |e| of each line
+abbrev sizes : List ℕ → ℕ → List ℤ → ℕ → ℕ → ℕ → ℕ
+sizes s i v d power j = sizeOf s i v (j * d) d power
+
+record Found (f : ℕ → ℕ) (n j line size : ℕ) : Type 0 where
+  some : 1 ≤ j
+  within : j ≤ n
+  is-first : line ≡ firstLeast f j
+  is-least : size ≡ least f j
+
+module _ {f : ℕ → ℕ} {n j line size : ℕ} (g : Found f n j line size) (h : j < n) (other : ℕ) (e : other ≡ f j) where
+  closer : other < size → Found f n (j + 1) j other
+  closer k =
+      let t : f j < least f j = omega (arith, g .is-least, e) in
+      record {
+        some = omega arith;
+        within = omega arith;
+        is-first = sym (first-least-more f j (g .some) ∙ simp (lt-ltb _ _ t));
+        is-least = omega (arith, least-more f j (g .some));
+      }
+
+  no-closer : size ≤ other → Found f n (j + 1) line size
+  no-closer k =
+      let t : least f j ≤ f j = omega (arith, g .is-least, e) in
+      record {
+        some = omega arith;
+        within = omega arith;
+        is-first = g .is-first ∙ sym (first-least-more f j (g .some) ∙ simp (le-ltb _ _ t));
+        is-least = omega (arith, least-more f j (g .some), g .is-least);
+      }
+
+abbrev Inv-loop : tie.InvT-loop
+Inv-loop s i v n d power line₀ size₀ j₀ line size j = Found (sizes s i v d power) n j line size
+
+abbrev μ-loop : tie.MeasureT-loop
+μ-loop s i v n d power line₀ size₀ j₀ line size j = n - j
+
+size-record-requires : tie.Need-size-record-requires Inv-loop μ-loop
+size-record-requires c κs =
+    let a = c .before .args in
+    let r = line-room 0 (a .n) (a .d) (length (a .v .now)) (c .before .pre .2) (c .before .pre .1) in
+    (c .before .pre .0, omega (arith, zero-mul (a .d)), c .before .pre .3)
+
+loop-holds : tie.Need-loop-holds Inv-loop μ-loop
+unfolding least firstLeast
+loop-holds c =
+    let a = c .before .before .args in
+    record {
+      some = omega arith;
+      within = c .before .before .pre .2;
+      is-first = refl;
+      is-least = c .size-record .ensures ∙ ap (λ (b : ℕ). sizeOf (a .s .now) (a .i) (a .v .now) b (a .d) (a .power)) (sym (zero-mul (a .d)));
+    }
+
+room : (c : tie.In-loop Inv-loop μ-loop) →
+    let a = c .before .before .before .before .args in
+    c .before .loop .j * a .d + a .d ≤ length (a .v .now)
+room c =
+    let s = c .before .before .before .before in
+    line-room (c .before .loop .j) (s .args .n) (s .args .d) (length (s .args .v .now)) (c .loop-test .taken) (s .pre .1)
+
+mul-size-record : tie.Need-mul-size-record Inv-loop μ-loop
+mul-size-record c = record { fits = omega (arith, room c, c .before .before .before .before .good) }
+
+size-record-requires-2 : tie.Need-size-record-requires-2 Inv-loop μ-loop
+size-record-requires-2 c κs =
+    let s = c .before .before .before .before in
+    (s .pre .0, room c, s .pre .3)
+
+add-j : tie.Need-add-j Inv-loop μ-loop
+add-j c = search needs
+
+loop-less : tie.Need-loop-less Inv-loop μ-loop
+loop-less c = search needs
+
+loop-again : tie.Need-loop-again Inv-loop μ-loop
+loop-again c =
+    let p = c .before .before .before in
+    let other = c .before .size-record2 in
+    let taken = c .before .before .loop-test .taken in
+    ⊎-elim
+    (λ w. rw (w .1, w .2) (closer (p .loop .inv) taken (other .result) (other .ensures) (w .0 .taken)))
+    (λ w. rw (w .1, w .2) (no-closer (p .loop .inv) taken (other .result) (other .ensures) (w .0 .left)))
+    (c .if1 .came)
+
+returns : tie.Need-returns Inv-loop μ-loop
+returns c =
+    let p = c .before in
+    let e : p .loop .j ≡ p .before .before .before .args .n = omega (arith, p .loop .inv .within) in
+    let f = sizes (p .before .before .before .args .s .now) (p .before .before .before .args .i) (p .before .before .before .args .v .now) (p .before .before .before .args .d) (p .before .before .before .args .power) in
+    (p .loop .inv .is-first ∙ ap (firstLeast f) e, p .loop .inv .is-least ∙ ap (least f) e)
+
+pub nearest-line-spec : {M : Type 1} → statement M
+nearest-line-spec =
+    tie.close
+    (tie.spec
+    Inv-loop
+    μ-loop
+    size-record-requires
+    loop-holds
+    mul-size-record
+    size-record-requires-2
+    add-j
+    loop-less
+    loop-again
+    returns)

@@ -1,0 +1,58 @@
+-- The calls on a store and a model: which checks each makes, and what it answers. "Codes for jobs that can't run".
+use mathlib.Core.List.{List, [], _∷_, _++_, map}
+use Prim.Native.Nat.{ℕ, min}
+use lib.Dec.{leb}
+use lib.IntN.{ℤ}
+use lib.ListN.{length, drop}
+use Rattle.codes.specs.declared.Check.{Check}
+use Rattle.codes.specs.declared.Outcome.{Outcome}
+use Rattle.codes.specs.declared.Refusal.the-variants.{Short}
+use Rattle.codes.specs.Codes.{passIf, inOrder, unlessRefused, ifPassed}
+use Rattle.scale.specs.Scale.{checkScale}
+use Rattle.boxes.specs.declared.Box.{Box}
+use Rattle.boxes.specs.Shape.{checkShape, checkVector}
+use Rattle.boxes.specs.Boxes.{checkBox}
+use Rattle.jobs.specs.declared.Model.{Model}
+use Rattle.points.specs.Points.{pointsOf, checkStore, checkStray}
+use Rattle.loss.specs.Loss.{checkLoss}
+use Rattle.model.specs.Cost.{cost, bound, label}
+
+-- Checks 1 to 4, which every call here makes first.
+unfoldable pub checkModel : List ℕ → Model → Check
+checkModel store m =
+    inOrder (checkStore (length store) ∷ checkShape (m .n) (m .d) ∷ checkScale (m .scale) ∷ checkLoss (m .p) (m .eps) ∷ [])
+
+-- "a cost 1 to 4, 6 and 7"
+unfoldable pub checkCost : List ℕ → Model → List ℤ → Check
+checkCost store m v = inOrder (checkModel store m ∷ checkVector (m .n) (m .d) v ∷ checkStray (m .d) (pointsOf store) ∷ [])
+
+unfoldable pub costAnswer : List ℕ → Model → List ℤ → Outcome
+costAnswer store m v = unlessRefused (checkCost store m v) (cost m (pointsOf store) v)
+
+-- "a bound 1 to 5 and 7"
+unfoldable pub checkBound : List ℕ → Model → Box → Check
+checkBound store m B = inOrder (checkModel store m ∷ checkBox (m .n) (m .d) B ∷ checkStray (m .d) (pointsOf store) ∷ [])
+
+unfoldable pub boundAnswer : List ℕ → Model → Box → Outcome
+boundAnswer store m B = unlessRefused (checkBound store m B) (bound m (pointsOf store) B)
+
+-- "labelling 1 to 4, 6, 7 and 10"; 10: "output too small"
+unfoldable pub checkLabels : List ℕ → Model → List ℤ → List ℕ → Check
+checkLabels store m v out = inOrder (checkCost store m v ∷ passIf (leb (length (pointsOf store)) (length out)) Short ∷ [])
+
+-- The answer is the number of bytes written.
+unfoldable pub labelsAnswer : List ℕ → Model → List ℤ → List ℕ → Outcome
+labelsAnswer store m v out = unlessRefused (checkLabels store m v out) (length (pointsOf store))
+
+-- "One byte per point is written, the buffer's rest is kept."
+unfoldable pub labelled : List ℕ → Model → List ℤ → List ℕ → List ℕ
+labelled store m v out =
+    ifPassed (checkLabels store m v out) (map (label m v) (pointsOf store) ++ drop (length (pointsOf store)) out) out
+
+-- What a search asks of a cost or a bound, again and again, under a model and a store that it has checked: its value, or `cap` if
+-- that is less. Where checks 1 to 4 refuse, 0.
+unfoldable pub costUpTo : List ℕ → Model → List ℤ → ℕ → ℕ
+costUpTo store m v cap = ifPassed (checkModel store m) (min (cost m (pointsOf store) v) cap) 0
+
+unfoldable pub boundUpTo : List ℕ → Model → Box → ℕ → ℕ
+boundUpTo store m B cap = ifPassed (checkModel store m) (min (bound m (pointsOf store) B) cap) 0

@@ -1,0 +1,112 @@
+// The cost of a vector, the bound of a box and the labels of the points, over a store of point records.
+mod range;
+mod residual;
+
+use boxes::Box;
+use codes::Check;
+use codes::Outcome;
+use codes::Refusal;
+use codes::in_order;
+use jobs::Model;
+ghost use mathlib.Core.Path.{_≡_};
+ghost use Rattle.model.specs.Calls.{checkModel, checkCost, costAnswer, checkBound, boundAnswer, labelsAnswer, labelled, costUpTo, boundUpTo};
+
+const NO_CAP: u64 = 18446744073709551615;
+
+// Checks 1 to 4.
+pub fn check_model(store: &[u8], m: Model) -> Check
+    ensures { λ r. ⌜ r ≡ checkModel (now (store .entry)) m ⌝ }
+{
+    let first = in_order(
+        points::check_store(store.len()),
+        boxes::check_shape(m.n, m.d),
+    );
+    let second = in_order(scale::check_scale(m.scale), loss::check_loss(m.p, m.eps));
+    in_order(first, second)
+}
+
+// The checks of a cost. Only a store that passes the others is looked through for stray fields.
+pub fn check_cost(store: &[u8], m: Model, v: [i16; 8]) -> Check
+    ensures { λ r. ⌜ r ≡ checkCost (now (store .entry)) m v ⌝ }
+{
+    match in_order(check_model(store, m), boxes::check_vector(m.n, m.d, v)) {
+        Check::Pass => points::check_stray(store, m.d),
+        Check::Refuse(r) => Check::Refuse(r),
+    }
+}
+
+// The cost of a vector.
+pub fn cost(store: &[u8], m: Model, v: [i16; 8]) -> Outcome
+    ensures { λ r. ⌜ r ≡ costAnswer (now (store .entry)) m v ⌝ }
+{
+    match check_cost(store, m, v) {
+        Check::Pass => Outcome::Value(residual::cost_sum(store, m, &v, NO_CAP)),
+        Check::Refuse(r) => Outcome::Refused(r),
+    }
+}
+
+// The checks of a bound.
+pub fn check_bound(store: &[u8], m: Model, b: Box) -> Check
+    ensures { λ r. ⌜ r ≡ checkBound (now (store .entry)) m b ⌝ }
+{
+    match in_order(check_model(store, m), boxes::check_box(m.n, m.d, b)) {
+        Check::Pass => points::check_stray(store, m.d),
+        Check::Refuse(r) => Check::Refuse(r),
+    }
+}
+
+// The bound of a box.
+pub fn bound(store: &[u8], m: Model, b: Box) -> Outcome
+    ensures { λ r. ⌜ r ≡ boundAnswer (now (store .entry)) m b ⌝ }
+{
+    match check_bound(store, m, b) {
+        Check::Pass => {
+            let low = b.low;
+            let high = b.high;
+            Outcome::Value(range::bound_sum(store, m, &low, &high, NO_CAP))
+        }
+        Check::Refuse(r) => Outcome::Refused(r),
+    }
+}
+
+// One label a point into the front of a lent buffer.
+pub fn labels(store: &[u8], m: Model, v: [i16; 8], out: &mut [u8]) -> Outcome
+    ensures answer { λ r. ⌜ r ≡ labelsAnswer (now (store .entry)) m v (now (out .entry)) ⌝ }
+    ensures buffer { λ _. ⌜ now (out .exit) ≡ labelled (now (store .entry)) m v (now (out .entry)) ⌝ }
+{
+    match check_cost(store, m, v) {
+        Check::Pass => {
+            let count = store.len() / 12;
+            if out.len() < count {
+                return Outcome::Refused(Refusal::Short);
+            }
+            residual::write_labels(store, m, &v, out);
+            Outcome::Value(count as u64)
+        }
+        Check::Refuse(r) => Outcome::Refused(r),
+    }
+}
+
+// The cost of a vector, or `cap` if that is less: for a search, which asks only whether a vector is cheaper.
+pub fn cost_up_to(store: &[u8], m: Model, v: [i16; 8], cap: u64) -> u64
+    ensures { λ r. ⌜ r ≡ costUpTo (now (store .entry)) m v cap ⌝ }
+{
+    match check_model(store, m) {
+        Check::Pass => residual::cost_sum(store, m, &v, cap),
+        Check::Refuse(_) => 0,
+    }
+}
+
+// The bound of a box, or `cap` if that is less.
+pub fn bound_up_to(store: &[u8], m: Model, b: Box, cap: u64) -> u64
+    ensures { λ r. ⌜ r ≡ boundUpTo (now (store .entry)) m b cap ⌝ }
+{
+    match check_model(store, m) {
+        Check::Pass => {
+            let low = b.low;
+            let high = b.high;
+            range::bound_sum(store, m, &low, &high, cap)
+        }
+        Check::Refuse(_) => 0,
+    }
+}
