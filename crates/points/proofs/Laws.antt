@@ -7,7 +7,7 @@ use native.Mathlib.Nat.{add-zero, add-suc}
 use native.Mathlib.Numerals.{add-one}
 use native.Mathlib.Omega.{arith}
 use lib.Dec.{ltb}
-use lib.IntN.{ℤ, pos, negsuc, natAbs}
+use lib.IntN.{pos, negsuc, natAbs}
 use lib.ListN.{length, getD, drop, length-append}
 use mir.Val.{sel}
 use Rattle.integers.specs.Integers.{allZero}
