@@ -7,6 +7,7 @@ use native.Mathlib.Omega.{arith, min-cases}
 use borrow.Author.Tests.{ltb-true, ltb-false}
 use lib.Dec.{ltb}
 use Rattle.loss.specs.Loss.{lossOf}
+use Rattle.loss.specs.Laws.{LossLaws}
 
 by-test : (t : Bool) (x y : ℕ) (P : ℕ → Type 0) → (t ≡ true → P x) → (t ≡ false → P y) → P (cond t x y)
 by-test true x y P f g = f refl
@@ -37,3 +38,6 @@ loss-le zero ε a h = by-test (ltb ε a) 1 0 (λ (m : ℕ). m ≤ 28147494315622
 loss-le (suc zero) ε a h = omega arith
 loss-le (suc (suc zero)) ε a h = omega (arith, mul-le-mul h h)
 loss-le (suc (suc (suc p))) ε a h = omega arith
+
+pub loss-laws : (p ε : ℕ) → LossLaws p ε
+loss-laws p ε = record { rises = loss-mono p ε; most = λ a. loss-le p ε a }

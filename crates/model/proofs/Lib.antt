@@ -3,3 +3,4 @@ pub mod Sums
 pub mod Sizes
 pub mod Filling
 pub mod Passed
+pub mod Bounds

@@ -1,0 +1,16 @@
+-- The starred fits hold, each by computing its definition. Assumes nothing.
+use mathlib.Core.Path.{refl}
+use Rattle.integers.specs.Integers.{maxZ, minZ, floorHalf, allZero}
+use Rattle.integers.specs.Lists.{none, also}
+use Rattle.codes.specs.Codes.{inOrder}
+use Rattle.boxes.specs.Shape.{checkShape}
+use Rattle.boxes.specs.Boxes.{atMost, sideSize, sides, product, checkBox}
+use Rattle.boxes.specs.Split.{firstLargest, leftHalf, rightHalf, splitChecks, splitAnswer}
+use Rattle.loss.specs.Loss.{lossOf}
+use Rattle.model.specs.Cost.{dot, residual, sizeAt, dotMax, dotMin, eMin, eMax, nearestTo0, leastSize, least, firstLeast, label}
+use Rattle.bench_fits.specs.Starred.{StarredHold}
+
+pub starred-hold : StarredHold
+unfolding maxZ minZ floorHalf allZero inOrder checkShape atMost sideSize sides product checkBox firstLargest leftHalf rightHalf splitChecks splitAnswer lossOf dot residual sizeAt dotMax dotMin eMin eMax nearestTo0 leastSize least firstLeast label
+starred-hold =
+    also refl (also refl (also refl (also refl (also refl (also refl (also refl (also refl (also refl (also refl (also refl (also refl (also refl none))))))))))))

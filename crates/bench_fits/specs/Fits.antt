@@ -1,0 +1,45 @@
+-- What a bench fit can say of the definitions.
+use mathlib.Core.List.{List, [], _∷_, _++_}
+use mathlib.Core.Path.{_≡_}
+use Prim.Native.Nat.{ℕ, _-_}
+use lib.IntN.{ℤ, pos, natAbs}
+use lib.ListN.{length, replicate}
+use Rattle.codes.specs.declared.Check.the-variants.{Pass}
+use Rattle.boxes.specs.declared.Box.{Box}
+use Rattle.boxes.specs.Split.{splitAnswer}
+use Rattle.jobs.specs.declared.Model.{Model}
+use Rattle.loss.specs.Loss.{lossOf}
+use Rattle.points.specs.declared.Point.{Point}
+use Rattle.model.specs.Cost.{residual, leastSize, label}
+
+pub data Fit : Type 0 where
+  -- the residual of the first line
+  residual-is : Model → List ℤ → Point → ℤ → Fit
+  -- the loss, by p, ε and e
+  loss-is : ℕ → ℕ → ℤ → ℕ → Fit
+  label-is : Model → List ℤ → Point → ℕ → Fit
+  -- the least size of the first line's residual over a box
+  least-size-is : Model → Box → Point → ℕ → Fit
+  -- a box of the shape n × d, and its halves
+  splits-into : ℕ → ℕ → Box → Box → Box → Fit
+
+abbrev pub Holds : Fit → Type 0
+Holds (residual-is m v q e) = residual m v q 0 ≡ e
+Holds (loss-is p ε e value) = lossOf p ε (natAbs e) ≡ value
+Holds (label-is m v q value) = label m v q ≡ value
+Holds (least-size-is m B q value) = leastSize m B q 0 ≡ value
+Holds (splits-into n d B first second) = splitAnswer n d B ≡ record { check = Pass; left = first; right = second }
+
+-- a vector with these coordinates and 0 after them
+abbrev pub vector : List ℤ → List ℤ
+vector ws = ws ++ replicate (8 - length ws) (pos 0)
+
+abbrev pub box : List ℤ → List ℤ → Box
+box low high = record { low = vector low; high = vector high }
+
+abbrev pub point : ℤ → ℤ → Point
+point x y = record { x1 = x; x2 = pos 0; x3 = pos 0; x4 = pos 0; y = y; frame = 0 }
+
+-- n lines and d = 1, with S, p and ε
+abbrev pub lines : ℕ → ℕ → ℕ → ℕ → Model
+lines n S p ε = record { n = n; d = 1; scale = S; p = p; eps = ε }

@@ -1,0 +1,1 @@
+// The starred bench fits: one list in specs/, shown true of the definitions in proofs/. No code.

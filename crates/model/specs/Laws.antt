@@ -1,0 +1,31 @@
+-- What is shown of costs and bounds. The proofs stand in proofs/Bounds.antt.
+use mathlib.Core.List.{List, _∷_}
+use mathlib.Core.Path.{_≡_}
+use Prim.Native.Nat.{ℕ, _≤_}
+use lib.IntN.{ℤ, natAbs}
+use Rattle.boxes.specs.declared.Box.{Box}
+use Rattle.boxes.specs.Boxes.{InBox, volume}
+use Rattle.jobs.specs.declared.Model.{Model}
+use Rattle.loss.specs.Loss.{lossOf}
+use Rattle.points.specs.declared.Point.{Point}
+use Rattle.points.specs.Points.{xs}
+use Rattle.model.specs.Cost.{at, least, residual, cost, bound}
+
+-- Of any model and points.
+pub record BoundLaws (m : Model) (qs : List Point) : Type 0 where
+  -- Lemma 2 of source document 000 under the saturated losses: no vector of a box costs less than the box's bound
+  pub below : (B : Box) (v : List ℤ) → InBox v B → bound m qs B ≤ cost m qs v
+  -- "A box of one vector has that vector's cost as its bound."
+  pub one : (B : Box) → volume B ≡ 1 → bound m qs B ≡ cost m qs (B .low)
+
+-- The least loss among the lines is the loss of the least |e|.
+pub record LeastLoss (p ε : ℕ) : Type 0 where
+  pub of-least : (size : ℕ → ℕ) (n : ℕ) → 1 ≤ n → least (λ j. lossOf p ε (size j)) n ≡ lossOf p ε (least size n)
+
+-- every coordinate has the size of a signed 16-bit number
+abbrev pub Small : List ℤ → Type 0
+Small zs = (k : ℕ) → natAbs (at zs k) ≤ 32768
+
+-- "a whole number, at most 5,368,709,120 in size"
+pub record SmallResidual (m : Model) (v : List ℤ) (q : Point) (j : ℕ) : Type 0 where
+  pub small : m .scale ≤ 15 → m .d ≤ 4 → Small v → Small (q .y ∷ xs q) → natAbs (residual m v q j) ≤ 5368709120
