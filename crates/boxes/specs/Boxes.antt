@@ -23,6 +23,7 @@ pub data Between : List ℤ → List ℤ → List ℤ → Type 0 where
   empty : Between [] [] []
   side : {x l h : ℤ} {xs ls hs : List ℤ} → l ≤ℤ x → x ≤ℤ h → Between xs ls hs → Between (x ∷ xs) (l ∷ ls) (h ∷ hs)
 
+-- v is a grid vector of b
 pub record InBox (v : List ℤ) (b : Box) : Type 0 where
   pub between : Between v (b .low) (b .high)
 
@@ -41,6 +42,7 @@ sides (l ∷ ls) (h ∷ hs) = sideSize l h ∷ sides ls hs
 abbrev pub sideAt : Box → ℕ → ℕ
 sideAt b k = getD (sides (b .low) (b .high)) k 0
 
+-- the product of all numbers of a list
 unfoldable pub product : List ℕ → ℕ
 product [] = 1
 product (s ∷ ss) = s * product ss
@@ -59,13 +61,14 @@ unfoldable pub each : List ℤ → List (List ℤ) → List (List ℤ)
 each [] vs = []
 each (x ∷ xs) vs = map (λ v. x ∷ v) vs ++ each xs vs
 
+-- the vectors from low to high, those with the lowest first coordinate first
 unfoldable pub gridBetween : List ℤ → List ℤ → List (List ℤ)
 gridBetween [] [] = [] ∷ []
 gridBetween [] (h ∷ hs) = []
 gridBetween (l ∷ ls) [] = []
 gridBetween (l ∷ ls) (h ∷ hs) = each (from l (sideSize l h)) (gridBetween ls hs)
 
--- all grid vectors of a box
+-- "all vectors between them", one after the other
 abbrev pub grid : Box → List (List ℤ)
 grid b = gridBetween (b .low) (b .high)
 

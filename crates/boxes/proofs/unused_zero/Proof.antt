@@ -1,18 +1,15 @@
 -- The invariant: the coordinates from n × d on are all 0 if those from k on are. The measure is what is left of the 8.
 use borrow.Author.Needs.{needs}
 use mathlib.Core.Path.{_≡_, refl, sym, _∙_}
-use mathlib.Core.Bool.{_&&_}
 use mathlib.Core.List.{List}
-use Prim.Native.Nat.{suc, _*_, _-_}
+use Prim.Native.Nat.{ℕ, _*_, _-_, _<_}
 use native.Mathlib.Nat.{mul-le-mul, le-of-lt}
-use native.Mathlib.Numerals.{add-one}
 use native.Mathlib.Omega.{arith}
-use lib.Dec.{eqb}
-use lib.IntN.{ℤ, pos, natAbs}
+use lib.IntN.{ℤ, pos}
 use lib.ListN.{length, getD, drop}
 use Rattle.integers.specs.Integers.{allZero}
-use Rattle.integers.proofs.Signed.{bits-zero, bits-not-zero}
-use Rattle.boxes.proofs.Coordinates.{zero-step, zero-end}
+use Rattle.integers.proofs.Signed.{bits-zero, zero-bits}
+use Rattle.integers.proofs.Zeros.{zero-past, zero-next, zero-none}
 use Rattle.boxes.proofs.unused_zero.Statement.{statement}
 use Rattle.boxes.proofs.unused_zero.Tie as tie
 
@@ -42,16 +39,17 @@ module _ (c : tie.After-if12 Inv-loop μ-loop) where
   abbrev v : List ℤ
   v = turn .before .args .t3
 
-  abbrev x : ℤ
-  x = getD v (turn .loop .k) (pos 0)
+  abbrev k : ℕ
+  k = turn .loop .k
 
-  step : allZero (drop (turn .before .args .n * turn .before .args .d) v) ≡ (eqb (natAbs x) 0 && allZero (drop (suc (turn .loop .k)) v))
-  step =
-      let long : length v ≡ 8 = search needs in
-      turn .loop .inv ∙ zero-step v (turn .loop .k) (omega arith)
+  inside : k < length v
+  inside = let long : length v ≡ 8 = search needs in omega arith
 
 returns : tie.Need-returns Inv-loop μ-loop
-returns c = let r = c .before in sym (step r ∙ rw (bits-not-zero (x r) (c .if1 .taken)))
+returns c =
+    let r = c .before in
+    let x = getD (v r) (k r) (pos 0) in
+    sym ((turn r) .loop .inv ∙ zero-none (v r) (k r) (inside r) (λ e. c .if1 .taken (zero-bits x e)))
 
 add-k : tie.Need-add-k Inv-loop μ-loop
 add-k c = omega arith
@@ -62,14 +60,15 @@ loop-less c = omega arith
 loop-again : tie.Need-loop-again Inv-loop μ-loop
 loop-again c =
     let r = c .before in
-    rw add-one (step r ∙ rw (bits-zero (x r) (record { sfits = r .if12 .given }) (c .if1 .left)))
+    let x = getD (v r) (k r) (pos 0) in
+    (turn r) .loop .inv ∙ zero-next (v r) (k r) (inside r) (bits-zero x (record { sfits = r .if12 .given }) (c .if1 .left))
 
 returns-2 : tie.Need-returns-2 Inv-loop μ-loop
 returns-2 c =
     let start = c .before .before in
     let v = start .args .t3 in
     let long : length v ≡ 8 = search needs in
-    sym (c .before .loop .inv ∙ zero-end v (c .before .loop .k) (omega arith))
+    sym (c .before .loop .inv ∙ zero-past v (c .before .loop .k) (omega arith))
 
 pub unused-zero-spec : {M : Type 1} → statement M
 unused-zero-spec =
