@@ -1,13 +1,13 @@
 -- The order of integers: sums, differences, products, the larger and the smaller of two. By the parts of `Parts`, with `omega`.
 -- Assumes nothing.
 use mathlib.Core.Path.{_≡_, refl, sym, ap, _∙_, subst}
-use mathlib.Core.Bool.{Bool, true, false, cond}
 use Prim.Native.Nat.{ℕ, zero, suc, _+_, _*_, _≤_, _<_}
 use native.Mathlib.Nat.{mul-le-mul-right, add-mul}
 use native.Mathlib.Omega.{arith}
 use lib.IntN.{ℤ, pos, negsuc, natAbs, _+ℤ_, _-ℤ_, _*ℤ_}
 use lib.Signed.{leZ, ltZ, _≤ℤ_, ≤ℤ-refl}
 use Rattle.integers.specs.Integers.{maxZ, minZ}
+use Rattle.integers.proofs.Tests.{by-test}
 use Rattle.integers.proofs.Parts.{up, dn, apart, abs-parts, sum-parts, sub-parts, from-parts, le-parts, parts-le, mul-pos-up, mul-pos-dn, mul-neg-up, mul-neg-dn, leZ-true, leZ-false, ltZ-true, ltZ-false, pos-up, pos-dn}
 
 pub ≤ℤ-trans : {a b c : ℤ} → a ≤ℤ b → b ≤ℤ c → a ≤ℤ c
@@ -36,11 +36,6 @@ pub mul-mono-neg : {a b : ℤ} (n : ℕ) → a ≤ℤ b → (b *ℤ negsuc n) �
 mul-mono-neg {a} {b} n h =
     parts-le (b *ℤ negsuc n) (a *ℤ negsuc n)
     (omega (arith, mul-neg-up a n, mul-neg-dn a n, mul-neg-up b n, mul-neg-dn b n, scale (up a) (dn b) (up b) (dn a) (suc n) (le-parts h)))
-
--- by the test of a `cond`
-by-test : (t : Bool) (x y : ℤ) (P : ℤ → Type 0) → (t ≡ true → P x) → (t ≡ false → P y) → P (cond t x y)
-by-test true x y P f g = f refl
-by-test false x y P f g = g refl
 
 pub max-left : (a b : ℤ) → a ≤ℤ maxZ a b
 unfolding maxZ

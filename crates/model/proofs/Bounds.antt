@@ -1,6 +1,6 @@
 -- The bound of a box is at most the cost of each of its vectors, and equal for a box of one vector; residuals are small. Assumes nothing.
 use mathlib.Core.Path.{_≡_, refl, sym, ap, _∙_}
-use mathlib.Core.Bool.{Bool, true, false, cond}
+use mathlib.Core.Bool.{cond}
 use mathlib.Core.List.{List, [], _∷_}
 use Prim.Native.Nat.{ℕ, zero, suc, _+_, _*_, _^_, _≤_, _<_}
 use native.Mathlib.Nat.{mul-le-mul}
@@ -8,6 +8,7 @@ use native.Mathlib.Omega.{arith}
 use lib.IntN.{ℤ, pos, natAbs, _+ℤ_, _-ℤ_, _*ℤ_}
 use lib.Pow.{pow-mono}
 use lib.Signed.{ltZ, _≤ℤ_, ≤ℤ-refl}
+use Rattle.integers.proofs.Tests.{by-test}
 use Rattle.integers.proofs.Parts.{apart, abs-parts, abs-add, abs-sub, abs-mul, le-parts, ltZ-true, ltZ-false, pos-up, pos-dn}
 use Rattle.integers.proofs.Order.{max-same, min-same, product-le-max, min-le-product, add-mono, sub-mono}
 use Rattle.boxes.specs.declared.Box.{Box}
@@ -22,10 +23,6 @@ use Rattle.model.specs.Cost.{at, dot, dotMax, dotMin, residual, sizeAt, 
 use Rattle.model.specs.Laws.{BoundLaws, LeastLoss, Small, SmallResidual}
 use Rattle.model.specs.Ready.{boxOf}
 use Rattle.model.proofs.Least.{least-mono, least-same, loss-of-least}
-
-by-test : (t : Bool) (x y : ℕ) (P : ℕ → Type 0) → (t ≡ true → P x) → (t ≡ false → P y) → P (cond t x y)
-by-test true x y P f g = f refl
-by-test false x y P f g = g refl
 
 -- the least size between two ends is at most the size of each number between them
 nearest-le : (a b e : ℤ) → a ≤ℤ e → e ≤ℤ b → nearestTo0 a b ≤ natAbs e

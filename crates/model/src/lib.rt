@@ -8,7 +8,10 @@ use codes::Outcome;
 use codes::Refusal;
 use codes::in_order;
 use jobs::Model;
+ghost use mathlib.Core.List.{[], _∷_};
 ghost use mathlib.Core.Path.{_≡_};
+ghost use Rattle.codes.specs.Codes.{inOrder};
+ghost use Rattle.points.specs.Points.{pointsOf, checkStray};
 ghost use Rattle.model.specs.Calls.{checkModel, checkCost, costAnswer, checkBound, boundAnswer, labelsAnswer, labelled, costUpTo, boundUpTo};
 
 const NO_CAP: u64 = 18446744073709551615;
@@ -25,14 +28,25 @@ pub fn check_model(store: &[u8], m: Model) -> Check
     in_order(first, second)
 }
 
-// The checks of a cost. Only a store that passes the others is looked through for stray fields.
+// Check 7 behind others: only a store that passes those is looked through for stray fields.
+fn then_stray(first: Check, store: &[u8], d: u8) -> Check
+    ensures { λ r. ⌜ r ≡ inOrder (first ∷ checkStray d (pointsOf (now (store .entry))) ∷ []) ⌝ }
+{
+    match first {
+        Check::Pass => points::check_stray(store, d),
+        Check::Refuse(r) => Check::Refuse(r),
+    }
+}
+
+// The checks of a cost.
 pub fn check_cost(store: &[u8], m: Model, v: [i16; 8]) -> Check
     ensures { λ r. ⌜ r ≡ checkCost (now (store .entry)) m v ⌝ }
 {
-    match in_order(check_model(store, m), boxes::check_vector(m.n, m.d, v)) {
-        Check::Pass => points::check_stray(store, m.d),
-        Check::Refuse(r) => Check::Refuse(r),
-    }
+    then_stray(
+        in_order(check_model(store, m), boxes::check_vector(m.n, m.d, v)),
+        store,
+        m.d,
+    )
 }
 
 // The cost of a vector.
@@ -49,10 +63,11 @@ pub fn cost(store: &[u8], m: Model, v: [i16; 8]) -> Outcome
 pub fn check_bound(store: &[u8], m: Model, b: Box) -> Check
     ensures { λ r. ⌜ r ≡ checkBound (now (store .entry)) m b ⌝ }
 {
-    match in_order(check_model(store, m), boxes::check_box(m.n, m.d, b)) {
-        Check::Pass => points::check_stray(store, m.d),
-        Check::Refuse(r) => Check::Refuse(r),
-    }
+    then_stray(
+        in_order(check_model(store, m), boxes::check_box(m.n, m.d, b)),
+        store,
+        m.d,
+    )
 }
 
 // The bound of a box.
