@@ -105,9 +105,9 @@ module _ (cost : List ℤ → ℕ) (bound : Box → ℕ) where
     -- "Step: (a) if C − L ≤ t, answer solved. (b) If the count equals the budget, answer spent. (c) .."
     unfoldable pub step : State → Next
     step s =
-        let splitting = ifRoom (split s) in
-        let unsolved = cond (eqb (s .count) budget) (stop spent) splitting in
-        cond (leb (cost (s .best) - lowest s) t) (stop solved) unsolved
+        cond (leb (cost (s .best) - lowest s) t) (stop solved)
+        (cond (eqb (s .count) budget) (stop spent)
+        (ifRoom (split s)))
 
     -- what follows a step at s, where `on` goes on from the state after a split
     unfoldable pub follow : (State → Answer) → State → Next → Answer
