@@ -57,6 +57,10 @@ boxAt list k = getD list k zeroBox
 abbrev pub without : List Box → ℕ → List Box
 without list k = take k list ++ drop (suc k) list
 
+-- "becomes best only if cheaper"
+unfoldable pub cheaper : (List ℤ → ℕ) → List ℤ → List ℤ → List ℤ
+cheaper cost best v = cond (ltb (cost v) (cost best)) v best
+
 module _ (cost : List ℤ → ℕ) (bound : Box → ℕ) where
   -- "Beginning: best is the start vector. The list holds the given box if its bound is below C, else nothing. Count is 0."
   unfoldable pub begin : List ℤ → Box → State
@@ -68,10 +72,6 @@ module _ (cost : List ℤ → ℕ) (bound : Box → ℕ) where
   abbrev pub lowest : State → ℕ
   lowest s = lowerBound bound (cost (s .best)) (s .list)
 
-  -- "becomes best only if cheaper"
-  unfoldable pub cheaper : List ℤ → List ℤ → List ℤ
-  cheaper best v = cond (ltb (cost v) (cost best)) v best
-
   -- (c) "Take out the first box with the smallest bound. Cut its longest side": left and right are its halves. "Cost the left child's
   -- low vector, then the right child's; either becomes best only if cheaper. From the remaining list, then left, then right, keep in
   -- order the boxes with bounds below the new C." The count goes up by "one split".
@@ -80,7 +80,7 @@ module _ (cost : List ℤ → ℕ) (bound : Box → ℕ) where
       let k = firstSmallest bound (s .list) in
       let left = leftHalf (boxAt (s .list) k) in
       let right = rightHalf (boxAt (s .list) k) in
-      let best = cheaper (cheaper (s .best) (left .low)) (right .low) in
+      let best = cheaper cost (cheaper cost (s .best) (left .low)) (right .low) in
       let kept = keepBelow bound (cost best) (without (s .list) k ++ (left ∷ right ∷ [])) in
       record { best = best; list = kept; count = suc (s .count); peak = max (s .peak) (length kept) }
 
