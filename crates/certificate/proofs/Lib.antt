@@ -2,7 +2,9 @@ pub mod Lists
 pub mod Keeping
 pub mod Smallest
 pub mod Cover
+pub mod Opened
 pub mod Steps
 pub mod Reached
 pub mod Certified
+pub mod Running
 pub mod Fits
