@@ -7,17 +7,15 @@ use Prim.Native.Nat.{ℕ, zero, suc, _+_, _-_, _*_, _≤_, _<_}
 use native.Mathlib.Omega.{arith}
 use lib.IntN.{ℤ}
 use lib.ListN.{length}
-use Rattle.integers.specs.Lists.{All}
 use Rattle.integers.proofs.Lists.{all-map}
 use Rattle.boxes.specs.declared.Box.{Box}
 use Rattle.boxes.specs.Boxes.{InBox, volume}
-use Rattle.certificate.specs.Search.{State, Kind, solved, spent, full, Answer, Next, stop, go, lowerBound, begin, lowest, split, answer, step, run, search}
+use Rattle.certificate.specs.Search.{State, Kind, solved, Answer, Next, stop, go, lowerBound, begin, split, answer, step, run, search}
 use Rattle.certificate.specs.Certificate.{Bounds, Reached, beginning, counting, Finished, Certificate, stateOf}
-use Rattle.certificate.specs.Laws.{Sound}
-use Rattle.certificate.proofs.Smallest.{lower-below, lower-le}
-use Rattle.certificate.proofs.Cover.{Cover, count-few, open-more, open-few}
+use Rattle.certificate.proofs.Smallest.{lower-below, lower-le, lower-open}
+use Rattle.certificate.proofs.Cover.{count-few, open-more, open-few}
 use Rattle.certificate.proofs.Steps.{gap, Case, solves, spends, fills, goes, step-case, run-stops, run-goes}
-use Rattle.certificate.proofs.Reached.{far-open, Held, split-covers, held}
+use Rattle.certificate.proofs.Reached.{Held, split-covers, held}
 
 module _ (cost : List ℤ → ℕ) (bound : Box → ℕ) (budget rows t : ℕ) (start : List ℤ) (box : Box) where
   abbrev FinishedRun : ℕ → State → Type 0
@@ -48,9 +46,14 @@ module _ (cost : List ℤ → ℕ) (bound : Box → ℕ) (budget rows t : ℕ) (
   steps n s r within on e (goes far left few) = rw (run-goes cost bound budget rows t s n e) (on left e)
 
   -- n splits are left
-  finishes : (n : ℕ) (s : State) → Reached cost bound budget rows t start box (s .count) s → s .count + n ≡ budget → FinishedRun (suc n) s
+  finishes :
+      (n : ℕ) (s : State) →
+      Reached cost bound budget rows t start box (s .count) s →
+      s .count + n ≡ budget →
+      FinishedRun (suc n) s
   unfolding split
-  finishes zero s r b = steps 0 s r (omega arith) (λ left e. absurd (left (omega arith))) refl (step-case cost bound budget rows t s)
+  finishes zero s r b =
+      steps 0 s r (omega arith) (λ left e. absurd (left (omega arith))) refl (step-case cost bound budget rows t s)
   finishes (suc n) s r b =
       steps (suc n) s r (omega arith) (λ left e. finishes n (split cost bound s) (counting r e) (omega arith)) refl
       (step-case cost bound budget rows t s)
@@ -58,8 +61,7 @@ module _ (cost : List ℤ → ℕ) (bound : Box → ℕ) (budget rows t : ℕ) (
   -- whatever the cost, the bound, the budget and the rows
   pub finished : Finished cost bound budget rows t start box (search cost bound budget rows t start box)
   unfolding search begin
-  finished =
-      finishes budget (begin cost bound start box) beginning (omega arith)
+  finished = finishes budget (begin cost bound start box) beginning (omega arith)
 
   module _ (laws : Bounds cost bound) (i : InBox start box) (r : Answer) (f : Finished cost bound budget rows t start box r) where
     abbrev s : State
@@ -76,13 +78,20 @@ module _ (cost : List ℤ → ℕ) (bound : Box → ℕ) (budget rows t : ℕ) (
     reads-case (spends far all) = (λ e. let z : _≡_ {A = ℕ} 0 1 = cc in absurd (omega arith), λ k. absurd (omega arith))
     reads-case (fills far many) = (λ e. let z : _≡_ {A = ℕ} 0 1 = cc in absurd (omega arith), λ k. absurd (omega arith))
 
-    -- what is spent had a split to come, and what is full had more boxes than half of V
-    suffices-case : {kind : Kind} → Case cost bound budget rows t s (stop kind) → volume box - 1 ≤ budget → volume box ≤ 2 * rows → kind ≡ solved
+    some : t < gap cost bound s → 1 ≤ length (s .list)
+    some far = lower-open bound (cost (s .best)) (s .list) (omega arith)
+
+    -- what is spent had a split to come, and what is full would have had more open boxes than half of V
+    suffices-case :
+        {kind : Kind} →
+        Case cost bound budget rows t s (stop kind) →
+        volume box - 1 ≤ budget →
+        volume box ≤ 2 * rows →
+        kind ≡ solved
     suffices-case (solves near) enough room = refl
-    suffices-case (spends far all) enough room =
-        absurd (omega (arith, open-more (h .covers) (far-open bound (cost (s .best)) (s .list) far)))
+    suffices-case (spends far all) enough room = absurd (omega (arith, open-more (h .covers) (some far)))
     suffices-case (fills far many) enough room =
-        absurd (omega (arith, open-few (split-covers cost bound laws box s (far-open bound (cost (s .best)) (s .list) far) (h .covers))))
+        absurd (omega (arith, open-few (split-covers cost bound laws box s (some far) (h .covers))))
 
     pub certify : Certificate cost bound budget rows t start box r
     unfolding answer
@@ -103,9 +112,12 @@ module _ (cost : List ℤ → ℕ) (bound : Box → ℕ) (budget rows t : ℕ) (
           counted = f .reached;
           few = omega (arith, count-few (h .covers));
           reads = (λ e. omega (arith, iff .0 e), λ k. iff .1 (omega arith));
-          suffices = suffices-case case;
+          suffices = λ enough room. suffices-case case (omega arith) (omega arith);
         }
 
   -- the certificate, for every cost and bound with the two laws
-  pub certified : Bounds cost bound → InBox start box → Certificate cost bound budget rows t start box (search cost bound budget rows t start box)
+  pub certified :
+      Bounds cost bound →
+      InBox start box →
+      Certificate cost bound budget rows t start box (search cost bound budget rows t start box)
   certified laws i = certify laws i (search cost bound budget rows t start box) finished

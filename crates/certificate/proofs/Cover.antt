@@ -1,7 +1,8 @@
--- Open boxes that cover a given box, whatever a search looks for: each has at least two vectors and lies in the given one, every
--- vector of which lies in an open box or is settled. A cut keeps this up. It counts: the volumes less one each, with the count, stay
--- below V, and the volumes at most V. `Settled v` says that v needs no more looking at. Assumes nothing.
-use mathlib.Core.Path.{_≡_, refl}
+-- Open boxes that cover a given box, whatever a search looks for and whichever box it cuts: each has at least two vectors and lies
+-- in the given one, every vector of which lies in an open box or is settled; `Settled v` says that v needs no more looking at. A cut
+-- keeps this up, and it counts: the volumes add up to V at most, and the volumes less one each, with the count, to less than V.
+-- Assumes nothing.
+use mathlib.Core.Path.{_≡_}
 use mathlib.Core.Bool.{Bool, not}
 use mathlib.Core.List.{List, [], _∷_, _++_}
 use mathlib.Core.Logic.{_≢_, ⊎-elim}
@@ -52,6 +53,9 @@ module _ (root : Box) (Settled : List ℤ → Type 0) (keep : Box → Bool) (rul
       let more : volume b ≢ 1 = λ e. rule .single b e (h .1 .one e) (h .0) in
       record { two = omega (arith, h .1 .some); inside = h .1 .inside }
 
+  still : (b : Box) → Open root b → Candidate root Settled b
+  still b o = record { some = omega (arith, o .two); inside = o .inside; one = λ e. absurd (omega (arith, o .two)) }
+
   -- candidates that cover still cover once some are dropped
   kept :
       (cs : List Box) (count : ℕ) →
@@ -71,7 +75,8 @@ module _ (root : Box) (Settled : List ℤ → Type 0) (keep : Box → Bool) (rul
   -- the given box alone
   pub begins : 1 ≤ volume root → (volume root ≡ 1 → Settled (root .low)) → Cover root Settled (keepIf keep (root ∷ [])) 0
   begins some one =
-      kept (root ∷ []) 0 (also (record { some = some; inside = λ v i. i; one = one }) none) (λ v i Q q k. all-head k i) (omega arith) (omega arith)
+      kept (root ∷ []) 0 (also (record { some = some; inside = λ v i. i; one = one }) none) (λ v i Q q k. all-head k i)
+      (omega arith) (omega arith)
 
   -- one box taken out and cut, and its halves put behind the others
   pub cuts :
@@ -88,8 +93,9 @@ module _ (root : Box) (Settled : List ℤ → Type 0) (keep : Box → Bool) (rul
       let parts = takes-all takes (c .boxes) in
       let h = halved b (parts .0 .two) in
       let inner = parts .0 .inside in
+      let less : Box → ℕ = λ d. pred (volume d) in
       kept (rest ++ (l ∷ r ∷ [])) (suc count)
-      (all-append (all-map (λ d o. record { some = omega (arith, o .two); inside = o .inside; one = λ e. absurd (omega (arith, o .two)) }) (parts .1))
+      (all-append (all-map still (parts .1))
       (also (record { some = h .left-some; inside = λ v i. inner v (h .left-in v i); one = λ e. left-seen })
       (also (record { some = h .right-some; inside = λ v i. inner v (h .right-in v i); one = λ e. right-seen }) none)))
       (λ v i Q q k.
@@ -98,7 +104,7 @@ module _ (root : Box) (Settled : List ℤ → Type 0) (keep : Box → Bool) (rul
       (all-takes takes (λ j. ⊎-elim (all-head (ks .1)) (all-head (all-tail (ks .1))) (h .covers v j)) (ks .0)))
       (omega (arith, c .room, sum-append volume rest (l ∷ r ∷ []), takes-sum volume takes, h .adds))
       (omega
-      (arith, c .splits, sum-append (λ d. pred (volume d)) rest (l ∷ r ∷ []), takes-sum (λ d. pred (volume d)) takes, h .adds, h .left-some, h .right-some))
+      (arith, c .splits, sum-append less rest (l ∷ r ∷ []), takes-sum less takes, h .adds, h .left-some, h .right-some))
 
 module _ {root : Box} {Settled : List ℤ → Type 0} {list : List Box} {count : ℕ} (c : Cover root Settled list count) where
   pub count-few : count < volume root

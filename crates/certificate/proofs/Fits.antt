@@ -11,7 +11,7 @@ use Rattle.integers.specs.Integers.{floorHalf}
 use Rattle.boxes.specs.declared.Box.{Box}
 use Rattle.boxes.specs.Boxes.{sides, sideSize}
 use Rattle.boxes.specs.Split.{firstLargest, leftHalf, rightHalf}
-use Rattle.certificate.specs.Search.{Kind, solved, spent, full, Answer, keepBelow, lowerBound, firstSmallest, begin, cheaper, split, answer, ifRoom, step, follow, run, search}
+use Rattle.certificate.specs.Search.{solved, spent, full, Answer, keepBelow, lowerBound, firstSmallest, begin, cheaper, split, answer, ifRoom, step, follow, run, search}
 
 -- the losses of p = 0 and p = 1
 loss0 : ℕ → ℕ → ℕ
@@ -54,23 +54,14 @@ searchG budget rows = search (cost (loss1 2) ysG) (bound (loss1 2) ysG) budget r
 abbrev searchI : ℕ → ℕ → Answer
 searchI budget rows = search (cost (loss0 0) ysI) (bound (loss0 0) ysI) budget rows 0 (at 0) (upTo 7)
 
-fit-G : searchG 10 4 ≡ record { kind = solved; vector = at 2; cost = 2; bound = 2; count = 1; list = []; peak = 1 }
-unfolding search run follow step ifRoom answer split cheaper begin firstSmallest lowerBound keepBelow leftHalf rightHalf firstLargest sides sideSize floorHalf cost bound total nearest loss1
-fit-G = refl
-
-fit-H : searchG 0 4 ≡ record { kind = spent; vector = at 0; cost = 6; bound = 2; count = 0; list = upTo 3 ∷ []; peak = 1 }
-unfolding search run follow step ifRoom answer split cheaper begin firstSmallest lowerBound keepBelow leftHalf rightHalf firstLargest sides sideSize floorHalf cost bound total nearest loss1
-fit-H = refl
-
-fit-I : searchI 10 1 ≡ record { kind = full; vector = at 0; cost = 3; bound = 0; count = 0; list = upTo 7 ∷ []; peak = 1 }
-unfolding search run follow step ifRoom answer split cheaper begin firstSmallest lowerBound keepBelow leftHalf rightHalf firstLargest sides sideSize floorHalf cost bound total nearest loss0
-fit-I = refl
-
-fit-J : searchI 10 4 ≡ record { kind = solved; vector = at 6; cost = 1; bound = 1; count = 2; list = []; peak = 2 }
-unfolding search run follow step ifRoom answer split cheaper begin firstSmallest lowerBound keepBelow leftHalf rightHalf firstLargest sides sideSize floorHalf cost bound total nearest loss0
-fit-J = refl
-
--- the largest budget costs no more
-fit-J-budget : searchI 4294967295 4 ≡ searchI 10 4
-unfolding search run follow step ifRoom answer split cheaper begin firstSmallest lowerBound keepBelow leftHalf rightHalf firstLargest sides sideSize floorHalf cost bound total nearest loss0
-fit-J-budget = refl
+-- G, H, I and J, and J again: the largest budget costs no more
+fits-G-to-J :
+    searchG 10 4 ∷ searchG 0 4 ∷ searchI 10 1 ∷ searchI 10 4 ∷ searchI 4294967295 4 ∷ []
+    ≡ record { kind = solved; vector = at 2; cost = 2; bound = 2; count = 1; list = []; peak = 1 }
+    ∷ record { kind = spent; vector = at 0; cost = 6; bound = 2; count = 0; list = upTo 3 ∷ []; peak = 1 }
+    ∷ record { kind = full; vector = at 0; cost = 3; bound = 0; count = 0; list = upTo 7 ∷ []; peak = 1 }
+    ∷ record { kind = solved; vector = at 6; cost = 1; bound = 1; count = 2; list = []; peak = 2 }
+    ∷ record { kind = solved; vector = at 6; cost = 1; bound = 1; count = 2; list = []; peak = 2 }
+    ∷ []
+unfolding search run follow step ifRoom answer split cheaper begin firstSmallest lowerBound keepBelow leftHalf rightHalf firstLargest sides sideSize floorHalf cost bound total nearest loss0 loss1
+fits-G-to-J = refl

@@ -1,5 +1,5 @@
 pub mod Lists
-pub mod Keeping
+pub mod Kept
 pub mod Smallest
 pub mod Cover
 pub mod Opened

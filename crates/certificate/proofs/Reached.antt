@@ -1,33 +1,32 @@
 -- Every state that a search comes to covers the box: by the beginning and by each split. A vector is settled once the best costs no
 -- more. Assumes nothing.
-use mathlib.Core.Path.{_≡_, refl, ap, sym}
-use mathlib.Core.List.{List, [], _∷_, _++_}
-use Prim.Native.Nat.{ℕ, zero, suc, _-_, _≤_, _<_, max}
+use mathlib.Core.Path.{_≡_, refl, ap}
+use mathlib.Core.List.{List, [], _∷_}
+use Prim.Native.Nat.{ℕ, suc, _≤_}
 use native.Mathlib.Omega.{arith}
 use native.Mathlib.Nat.{le-refl, le-of-eq}
 use lib.Dec.{ltb, ltb→lt, nltb→le}
 use lib.IntN.{ℤ}
 use lib.ListN.{length}
-use Rattle.integers.specs.Lists.{All, none, also}
-use Rattle.integers.proofs.Lists.{all-map, all-of}
 use Rattle.integers.proofs.Tests.{by-cond}
 use Rattle.boxes.specs.declared.Box.{Box}
-use Rattle.boxes.specs.Boxes.{InBox, volume}
+use Rattle.boxes.specs.Boxes.{InBox}
 use Rattle.boxes.specs.Split.{leftHalf, rightHalf, zeroBox}
 use Rattle.boxes.proofs.Volume.{some-in, only-low}
-use Rattle.certificate.specs.Search.{State, go, keepBelow, lowerBound, firstSmallest, boxAt, without, begin, cheaper, split, step}
+use Rattle.certificate.specs.Search.{State, go, firstSmallest, boxAt, without, begin, cheaper, split}
 use Rattle.certificate.specs.Certificate.{Bounds, Reached, beginning, counting}
-use Rattle.certificate.specs.Laws.{Open, Sound}
-use Rattle.certificate.proofs.Lists.{keepIf, Takes, takes-at, takes-all, all-kept}
-use Rattle.certificate.proofs.Keeping.{keeps-if, length-kept, kept-below}
-use Rattle.certificate.proofs.Smallest.{smallest-inside}
+use Rattle.certificate.specs.Laws.{Sound}
+use Rattle.certificate.proofs.Lists.{Takes, takes-at, takes-all}
+use Rattle.certificate.proofs.Kept.{keeps-if, length-kept, kept-below}
+use Rattle.certificate.proofs.Smallest.{lower-open, smallest}
 use Rattle.certificate.proofs.Cover.{Cover, Keeping, left-low, right-low, begins, cuts}
-use Rattle.certificate.proofs.Steps.{gap, Case, goes, step-case}
+use Rattle.certificate.proofs.Steps.{Case, goes, step-case}
 
 module _ (cost : List ℤ → ℕ) (best v : List ℤ) where
   cheaper-best : cost (cheaper cost best v) ≤ cost best
   unfolding cheaper
-  cheaper-best = by-cond (λ w. cost w ≤ cost best) (ltb (cost v) (cost best)) (λ t. omega (arith, ltb→lt)) (λ t. le-refl (cost best))
+  cheaper-best =
+      by-cond (λ w. cost w ≤ cost best) (ltb (cost v) (cost best)) (λ t. omega (arith, ltb→lt)) (λ t. le-refl (cost best))
 
   cheaper-new : cost (cheaper cost best v) ≤ cost v
   unfolding cheaper
@@ -36,13 +35,6 @@ module _ (cost : List ℤ → ℕ) (best v : List ℤ) where
   cheaper-in : (box : Box) → InBox best box → InBox v box → InBox (cheaper cost best v) box
   unfolding cheaper
   cheaper-in box p q = by-cond (λ w. InBox w box) (ltb (cost v) (cost best)) (λ t. q) (λ t. p)
-
-module _ (bound : Box → ℕ) (c : ℕ) where
-  -- what is not solved has an open box
-  pub far-open : {t : ℕ} (bs : List Box) → t < c - lowerBound bound c bs → 1 ≤ length bs
-  unfolding lowerBound
-  far-open [] far = absurd (omega arith)
-  far-open (b ∷ bs) far = omega arith
 
 abbrev pub Covers : (List ℤ → ℕ) → Box → State → Type 1
 Covers cost box s = Cover box (λ v. cost (s .best) ≤ cost v) (s .list) (s .count)
@@ -75,7 +67,7 @@ module _ (cost : List ℤ → ℕ) (bound : Box → ℕ) (laws : Bounds cost bou
       r = (rightHalf taken) .low
 
       takes : Takes taken (s .list) (without (s .list) (firstSmallest bound (s .list)))
-      takes = takes-at zeroBox (s .list) (firstSmallest bound (s .list)) (smallest-inside bound (s .list) some)
+      takes = takes-at zeroBox (s .list) (firstSmallest bound (s .list)) ((smallest bound (s .list) some) .inside)
 
       pub split-covers : Covers cost box s → Covers cost box (split cost bound s)
       unfolding split
@@ -100,8 +92,9 @@ module _ (cost : List ℤ → ℕ) (bound : Box → ℕ) (laws : Bounds cost bou
       split-sound left few c h =
           let o = takes-all takes (h .opened) .0 in
           let one = cheaper cost (s .best) l in
+          let first-in = cheaper-in cost (s .best) l box (h .best-in) (left-low box taken o) in
           record {
-            best-in = cheaper-in cost one r box (cheaper-in cost (s .best) l box (h .best-in) (left-low box taken o)) (right-low box taken o);
+            best-in = cheaper-in cost one r box first-in (right-low box taken o);
             opened = split-covers c .boxes;
             below = kept-below bound _ _;
             longest = omega arith;
@@ -109,36 +102,39 @@ module _ (cost : List ℤ → ℕ) (bound : Box → ℕ) (laws : Bounds cost bou
             within = omega (arith, h .within);
           }
 
-module _ (cost : List ℤ → ℕ) (bound : Box → ℕ) (laws : Bounds cost bound) (budget rows t : ℕ) (start : List ℤ) (box : Box) (i : InBox start box) where
-  begin-sound : Sound cost bound budget rows box (begin cost bound start box)
-  unfolding begin
-  begin-sound =
-      record {
-        best-in = i;
-        opened = begin-covers cost bound laws box start i .boxes;
-        below = kept-below bound _ _;
-        longest = le-refl _;
-        room = omega (arith, length-kept bound (cost start) (box ∷ []));
-        within = omega arith;
-      }
+module _
+    (cost : List ℤ → ℕ) (bound : Box → ℕ) (laws : Bounds cost bound)
+    (budget rows t : ℕ) (start : List ℤ) (box : Box) (i : InBox start box)
+  where
+    begin-sound : Sound cost bound budget rows box (begin cost bound start box)
+    unfolding begin
+    begin-sound =
+        record {
+          best-in = i;
+          opened = begin-covers cost bound laws box start i .boxes;
+          below = kept-below bound _ _;
+          longest = le-refl _;
+          room = omega (arith, length-kept bound (cost start) (box ∷ []));
+          within = omega arith;
+        }
 
-  pub record Held (k : ℕ) (s : State) : Type 1 where
-    pub covers : Covers cost box s
-    pub sound : Sound cost bound budget rows box s
-    pub counted : s .count ≡ k
+    pub record Held (k : ℕ) (s : State) : Type 1 where
+      pub covers : Covers cost box s
+      pub sound : Sound cost bound budget rows box s
+      pub counted : s .count ≡ k
 
-  splits : {k : ℕ} (s : State) {after : State} → Case cost bound budget rows t s (go after) → Held k s → Held (suc k) after
-  unfolding split
-  splits s (goes far left few) h =
-      let some = far-open bound (cost (s .best)) (s .list) far in
-      record {
-        covers = split-covers cost bound laws box s some (h .covers);
-        sound = split-sound cost bound laws box s some left few (h .covers) (h .sound);
-        counted = ap suc (h .counted);
-      }
+    splits : {k : ℕ} (s : State) {after : State} → Case cost bound budget rows t s (go after) → Held k s → Held (suc k) after
+    unfolding split
+    splits s (goes far left few) h =
+        let some = lower-open bound (cost (s .best)) (s .list) (omega arith) in
+        record {
+          covers = split-covers cost bound laws box s some (h .covers);
+          sound = split-sound cost bound laws box s some left few (h .covers) (h .sound);
+          counted = ap suc (h .counted);
+        }
 
-  pub held : {k : ℕ} {s : State} → Reached cost bound budget rows t start box k s → Held k s
-  unfolding begin
-  held beginning =
-      record { covers = begin-covers cost bound laws box start i; sound = begin-sound; counted = refl }
-  held (counting {s = s} r e) = splits s (rw e at (step-case cost bound budget rows t s)) (held r)
+    pub held : {k : ℕ} {s : State} → Reached cost bound budget rows t start box k s → Held k s
+    unfolding begin
+    held beginning =
+        record { covers = begin-covers cost bound laws box start i; sound = begin-sound; counted = refl }
+    held (counting {s = s} r e) = splits s (rw e at (step-case cost bound budget rows t s)) (held r)

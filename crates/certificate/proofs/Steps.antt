@@ -1,15 +1,14 @@
 -- The step by its cases, and the run step after step. Assumes nothing.
-use mathlib.Core.Path.{_≡_, refl, ap, _∙_}
+use mathlib.Core.Path.{_≡_, refl}
 use mathlib.Core.Bool.{Bool, true, false}
 use mathlib.Core.List.{List}
 use Prim.Native.Nat.{ℕ, suc, _-_, _≤_, _<_}
-use native.Mathlib.Omega.{arith}
 use borrow.Author.Tests.{ltb-true, ltb-false, leb-true, leb-false, eqb-true, eqb-false, lt-ltb, le-ltb, le-leb, lt-leb, eq-eqb, ne-eqb}
 use lib.Dec.{leb, ltb, eqb}
 use lib.IntN.{ℤ}
 use lib.ListN.{length}
 use Rattle.boxes.specs.declared.Box.{Box}
-use Rattle.certificate.specs.Search.{State, Kind, solved, spent, full, Answer, Next, stop, go, lowest, split, answer, ifRoom, step, follow, run}
+use Rattle.certificate.specs.Search.{State, Kind, solved, spent, full, Next, stop, go, lowest, split, answer, ifRoom, step, follow, run}
 
 -- C − L
 abbrev pub gap : (List ℤ → ℕ) → (Box → ℕ) → State → ℕ
@@ -34,11 +33,13 @@ module _ (cost : List ℤ → ℕ) (bound : Box → ℕ) (budget rows t : ℕ) (
     module _ (left : s .count ≡ budget → ⊥) where
       pub step-full : rows < length (after .list) → step cost bound budget rows t s ≡ stop full
       unfolding step ifRoom
-      step-full many = rw (lt-leb (gap cost bound s) t far, ne-eqb (s .count) budget left, lt-ltb rows (length (after .list)) many)
+      step-full many =
+          rw (lt-leb (gap cost bound s) t far, ne-eqb (s .count) budget left, lt-ltb rows (length (after .list)) many)
 
       pub step-goes : length (after .list) ≤ rows → step cost bound budget rows t s ≡ go after
       unfolding step ifRoom
-      step-goes few = rw (lt-leb (gap cost bound s) t far, ne-eqb (s .count) budget left, le-ltb rows (length (after .list)) few)
+      step-goes few =
+          rw (lt-leb (gap cost bound s) t far, ne-eqb (s .count) budget left, le-ltb rows (length (after .list)) few)
 
   -- which of these a step is
   pub data Case : Next → Type 0 where
@@ -50,7 +51,12 @@ module _ (cost : List ℤ → ℕ) (bound : Box → ℕ) (budget rows t : ℕ) (
   pub step-case : Case (step cost bound budget rows t s)
   step-case = near (leb (gap cost bound s) t) refl
     where
-      room : (b : Bool) → ltb rows (length (after .list)) ≡ b → t < gap cost bound s → (s .count ≡ budget → ⊥) → Case (step cost bound budget rows t s)
+      room :
+          (b : Bool) →
+          ltb rows (length (after .list)) ≡ b →
+          t < gap cost bound s →
+          (s .count ≡ budget → ⊥) →
+          Case (step cost bound budget rows t s)
       room true e far left = let many = ltb-true _ _ e in rw (step-full far left many) (fills far many)
       room false e far left = let few = ltb-false _ _ e in rw (step-goes far left few) (goes far left few)
 
@@ -64,10 +70,16 @@ module _ (cost : List ℤ → ℕ) (bound : Box → ℕ) (budget rows t : ℕ) (
 
   -- a run answers where a step does, and goes on where it does
   module _ (n : ℕ) where
-    pub run-stops : {kind : Kind} → step cost bound budget rows t s ≡ stop kind → run cost bound budget rows t (suc n) s ≡ answer cost bound kind s
+    pub run-stops :
+        {kind : Kind} →
+        step cost bound budget rows t s ≡ stop kind →
+        run cost bound budget rows t (suc n) s ≡ answer cost bound kind s
     unfolding run follow
     run-stops e = rw e
 
-    pub run-goes : {next : State} → step cost bound budget rows t s ≡ go next → run cost bound budget rows t (suc n) s ≡ run cost bound budget rows t n next
+    pub run-goes :
+        {next : State} →
+        step cost bound budget rows t s ≡ go next →
+        run cost bound budget rows t (suc n) s ≡ run cost bound budget rows t n next
     unfolding run follow
     run-goes e = rw e

@@ -21,8 +21,9 @@ pub record Open (root b : Box) : Type 0 where
   pub two : 2 ≤ volume b
   pub inside : (v : List ℤ) → InBox v b → InBox v root
 
--- What holds of every state that a search of `box` comes to: the best vector lies in the box, the open boxes have bounds below C, the
--- list was never longer than peak, nor than r once there was a split, and the count is within the budget.
+-- What holds of every state that a search of `box` comes to: the best vector lies in the box, the open boxes have bounds below C,
+-- the list is no longer than peak, peak is at most r (at the beginning one box may be open, whatever r is), and the count is within
+-- the budget.
 pub record Sound (cost : List ℤ → ℕ) (bound : Box → ℕ) (budget rows : ℕ) (box : Box) (s : State) : Type 0 where
   pub best-in : InBox (s .best) box
   pub opened : All (Open box) (s .list)

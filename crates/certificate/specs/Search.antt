@@ -65,16 +65,16 @@ module _ (cost : List ℤ → ℕ) (bound : Box → ℕ) where
   -- "Beginning: best is the start vector. The list holds the given box if its bound is below C, else nothing. Count is 0."
   unfoldable pub begin : List ℤ → Box → State
   begin start box =
-      let open-boxes = keepBelow bound (cost start) (box ∷ []) in
-      record { best = start; list = open-boxes; count = 0; peak = length open-boxes }
+      let held = keepBelow bound (cost start) (box ∷ []) in
+      record { best = start; list = held; count = 0; peak = length held }
 
   -- L of a state
   abbrev pub lowest : State → ℕ
   lowest s = lowerBound bound (cost (s .best)) (s .list)
 
-  -- (c) "Take out the first box with the smallest bound. Cut its longest side": left and right are its halves. "Cost the left child's
-  -- low vector, then the right child's; either becomes best only if cheaper. From the remaining list, then left, then right, keep in
-  -- order the boxes with bounds below the new C." The count goes up by "one split".
+  -- (c) "Take out the first box with the smallest bound. Cut its longest side": its halves are as boxes/specs/Split.antt says.
+  -- "Cost the left child's low vector, then the right child's; either becomes best only if cheaper. From the remaining list, then
+  -- left, then right, keep in order the boxes with bounds below the new C." The count is the one after "count one split".
   unfoldable pub split : State → State
   split s =
       let k = firstSmallest bound (s .list) in
@@ -114,8 +114,8 @@ module _ (cost : List ℤ → ℕ) (bound : Box → ℕ) where
     follow on s (stop kind) = answer kind s
     follow on s (go after) = on after
 
-    -- Step after step, n of them at most. Each step but the last counts a split, so `suc budget` of them are enough, and the first
-    -- line is never come to.
+    -- Step after step, n of them at most. Each step but the last counts a split, so `suc budget` of them are enough, and the line
+    -- for none is never come to: `Finished` in Certificate.antt.
     unfoldable pub run : ℕ → State → Answer
     run zero s = answer spent s
     run (suc n) s = follow (run n) s (step s)

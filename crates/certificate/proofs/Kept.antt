@@ -1,11 +1,10 @@
 -- The boxes that are kept, those with bounds below c: in parts, all of them, and how many. Assumes nothing.
 use mathlib.Core.Path.{_≡_, refl}
-use mathlib.Core.Bool.{cond, not}
-use mathlib.Core.List.{List, [], _∷_, _++_, append-assoc}
+use mathlib.Core.List.{List, [], _∷_, _++_}
 use Prim.Native.Nat.{ℕ, suc, _≤_, _<_}
 use native.Mathlib.Omega.{arith}
 use borrow.Author.Tests.{lt-ltb, le-ltb}
-use lib.Dec.{T, ltb, ltb→lt}
+use lib.Dec.{ltb, ltb→lt}
 use lib.ListN.{length}
 use Rattle.integers.specs.Lists.{All, none, also}
 use Rattle.integers.proofs.Lists.{all-map, all-of}
@@ -34,11 +33,9 @@ module _ (bound : Box → ℕ) (c : ℕ) where
   unfolding keepBelow
   keep-append [] ds = refl
   keep-append (b ∷ bs) ds =
-      rw (keep-append bs ds)
-      (by-cond (λ (kept : List Box). cond (ltb (bound b) c) (b ∷ (keepBelow bound c bs ++ keepBelow bound c ds)) (keepBelow bound c bs ++ keepBelow bound c ds) ≡ kept ++ keepBelow bound c ds)
-      (ltb (bound b) c)
-      (λ t. rw (is-true (ltb (bound b) c) t))
-      (λ t. rw (is-false (ltb (bound b) c) t)))
+      by-cond (λ (kept : List Box). keepBelow bound c (b ∷ (bs ++ ds)) ≡ kept ++ keepBelow bound c ds) (ltb (bound b) c)
+      (λ t. rw (is-true (ltb (bound b) c) t, keep-append bs ds))
+      (λ t. rw (is-false (ltb (bound b) c) t, keep-append bs ds))
 
   -- all, where all are below
   pub keep-all : {bs : List Box} → All (λ b. bound b < c) bs → keepBelow bound c bs ≡ bs
@@ -56,4 +53,5 @@ module _ (bound : Box → ℕ) (c : ℕ) where
   -- those that are kept are below
   pub kept-below : (bs : List Box) → All (λ b. bound b < c) (keepBelow bound c bs)
   kept-below bs =
-      rw keeps-if (all-map (λ b h. ltb→lt (bound b) c (h .0)) (all-kept {P = λ b. Unit {0}} (λ b. ltb (bound b) c) (all-of (λ b. tt) bs)))
+      let passed = all-kept {P = λ b. Unit {0}} (λ b. ltb (bound b) c) (all-of (λ b. tt) bs) in
+      rw keeps-if (all-map (λ b h. ltb→lt (bound b) c (h .0)) passed)
