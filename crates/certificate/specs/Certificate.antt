@@ -1,0 +1,49 @@
+-- The certificate: what is promised of every answer of a search, clause by clause, and the two laws of a cost and a bound that it
+-- rests on. V is `volume box`, an exact number of any size.
+use mathlib.Core.Path.{_≡_}
+use mathlib.Core.List.{List}
+use mathlib.Core.Logic.{_↔_}
+use Prim.Native.Nat.{ℕ, suc, _-_, _*_, _≤_}
+use lib.IntN.{ℤ}
+use Rattle.boxes.specs.declared.Box.{Box}
+use Rattle.boxes.specs.Boxes.{InBox, volume}
+use Rattle.certificate.specs.Search.{State, solved, Answer, go, stop, begin, answer, step}
+
+-- A box's bound is at most the cost of each vector in it. "A box of one vector has that vector's cost as its bound."
+pub record Bounds (cost : List ℤ → ℕ) (bound : Box → ℕ) : Type 0 where
+  pub sound : (b : Box) (v : List ℤ) → InBox v b → bound b ≤ cost v
+  pub tight : (b : Box) → volume b ≡ 1 → bound b ≡ cost (b .low)
+
+-- the state that an answer tells
+abbrev pub stateOf : Answer → State
+stateOf r = record { best = r .vector; list = r .list; count = r .count; peak = r .peak }
+
+module _ (cost : List ℤ → ℕ) (bound : Box → ℕ) (budget rows t : ℕ) (start : List ℤ) (box : Box) where
+  -- `Reached k s`: from the beginning, k steps that each count one split lead to s.
+  pub data Reached : ℕ → State → Type 0 where
+    beginning : Reached 0 (begin cost bound start box)
+    counting : {k : ℕ} {s after : State} → Reached k s → step cost bound budget rows t s ≡ go after → Reached (suc k) after
+
+  -- The search finishes: the answer is what a step says at the state told, which as many steps as the count have led to.
+  pub record Finished (r : Answer) : Type 0 where
+    pub reached : Reached (r .count) (stateOf r)
+    pub stopped : step cost bound budget rows t (stateOf r) ≡ stop (r .kind)
+    pub told : r ≡ answer cost bound (r .kind) (stateOf r)
+    pub within : r .count ≤ budget
+
+  -- V is at least 1 and V − 1 exact, since the start vector lies in the box; C − L is exact by `ordered`.
+  pub record Certificate (r : Answer) : Type 0 where
+    -- "the vector lies in the box and costs exactly C"
+    pub inside : InBox (r .vector) box
+    pub exact : r .cost ≡ cost (r .vector)
+    -- "L ≤ C"
+    pub ordered : r .bound ≤ r .cost
+    -- "every grid vector of the box costs at least L"
+    pub least : (v : List ℤ) → InBox v box → r .bound ≤ cost v
+    -- "the count is the number of splits counted and at most V − 1"
+    pub counted : Reached (r .count) (stateOf r)
+    pub few : r .count ≤ volume box - 1
+    -- "the answer reads solved exactly when C − L ≤ t"
+    pub reads : (r .kind ≡ solved) ↔ (r .cost - r .bound ≤ t)
+    -- "and does so whenever the budget is at least V − 1 and r at least V / 2"
+    pub suffices : volume box - 1 ≤ budget → volume box ≤ 2 * rows → r .kind ≡ solved

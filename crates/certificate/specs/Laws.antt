@@ -1,0 +1,33 @@
+-- What is shown of the definitions of the search. The proofs stand in proofs/.
+use mathlib.Core.Path.{_≡_}
+use mathlib.Core.List.{List}
+use Prim.Native.Nat.{ℕ, _≤_, _<_, max}
+use lib.IntN.{ℤ}
+use lib.ListN.{length}
+use Rattle.integers.specs.Lists.{All}
+use Rattle.boxes.specs.declared.Box.{Box}
+use Rattle.boxes.specs.Boxes.{InBox, volume}
+use Rattle.certificate.specs.Search.{State, lowerBound, firstSmallest, boxAt}
+
+-- "the first box with the smallest bound" of a list that has one: its bound is L, none is smaller, and those before it are larger.
+pub record Smallest (bound : Box → ℕ) (list : List Box) : Type 0 where
+  pub inside : firstSmallest bound list < length list
+  pub lowest : (c : ℕ) → bound (boxAt list (firstSmallest bound list)) ≡ lowerBound bound c list
+  pub none-smaller : (k : ℕ) → k < length list → bound (boxAt list (firstSmallest bound list)) ≤ bound (boxAt list k)
+  pub first : (k : ℕ) → k < firstSmallest bound list → bound (boxAt list (firstSmallest bound list)) < bound (boxAt list k)
+
+-- A box that is open in a search of the box `root`: it has two vectors at least, all of them vectors of root.
+pub record Open (root b : Box) : Type 0 where
+  pub two : 2 ≤ volume b
+  pub inside : (v : List ℤ) → InBox v b → InBox v root
+
+-- What holds of every state that a search of `box` comes to: the best vector lies in the box, the open boxes have bounds below C,
+-- the list is no longer than peak, peak is at most r (at the beginning one box may be open, whatever r is), and the count is within
+-- the budget.
+pub record Sound (cost : List ℤ → ℕ) (bound : Box → ℕ) (budget rows : ℕ) (box : Box) (s : State) : Type 0 where
+  pub best-in : InBox (s .best) box
+  pub opened : All (Open box) (s .list)
+  pub below : All (λ b. bound b < cost (s .best)) (s .list)
+  pub longest : length (s .list) ≤ s .peak
+  pub room : s .peak ≤ max 1 rows
+  pub within : s .count ≤ budget
