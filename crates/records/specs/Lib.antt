@@ -1,0 +1,4 @@
+pub mod Fields
+pub mod Buffers
+pub mod Jobs
+pub mod Laws
