@@ -1,8 +1,8 @@
 -- Laws of big-endian numbers, for every number of bytes: one more byte at either end, and the round trips. Assumes nothing.
-use mathlib.Core.Path.{_≡_, refl, sym, ap, _∙_}
 use mathlib.Core.List.{List, [], _∷_, _++_}
-use Prim.Native.Nat.{ℕ, zero, suc, _+_, _*_, _/_, _%_, _^_, _≤_, _<_}
-use native.Mathlib.Nat.{mod-one, mod-eq-of-lt, mul-assoc, mul-comm, pow-suc, pow-succ', one-le-pow, add-suc, suc-add, zero-add, mul-add-div-right, mul-add-mod-self-right}
+use mathlib.Core.Path.{_≡_, refl, sym, ap, _∙_}
+use Prim.Native.Nat.{ℕ, zero, suc, _+_, _*_, _/_, _%_, _^_, _<_}
+use native.Mathlib.Nat.{mod-one, mod-eq-of-lt, mul-assoc, pow-suc, pow-succ', one-le-pow, add-suc, suc-add, zero-add, mul-add-div-right, mul-add-mod-self-right}
 use native.Mathlib.Omega.{arith}
 use lib.Arith.{digits-lt, digits-div, mod-mul}
 use lib.Dec.{T, ltb, ltb→lt}

@@ -1,23 +1,22 @@
 -- The round trip of a job record: each field by the law of its kind.
-use mathlib.Core.Path.{_≡_, refl, sym, ap, _∙_}
-use mathlib.Core.List.{List, [], _∷_, _++_, append-assoc}
-use Prim.Native.Nat.{ℕ, _+_, _≤_, _<_, _^_}
+use mathlib.Core.List.{List, [], _++_, append-assoc}
+use mathlib.Core.Path.{_≡_, ap, _∙_}
+use Prim.Native.Nat.{ℕ, _≤_}
 use native.Mathlib.Omega.{arith}
 use borrow.Author.Tests.{le-leb}
-use lib.Dec.{T, leb}
-use lib.IntN.{ℤ}
+use lib.Dec.{T}
 use lib.ListN.{length, take, drop, length-append}
 use lib.Pow.{areBytes}
-use lib.Seq.{take-at, drop-at, drop-drop, take-add}
+use lib.Seq.{take-at, take-add}
 use Rattle.codes.specs.declared.Check.the-variants.{Pass}
 use Rattle.jobs.specs.declared.Job.{Job}
-use Rattle.records.specs.declared.JobRead.{JobRead}
-use Rattle.records.specs.Fields.{bigEndian, fromBigEndian, vectorBytes, vectorOf}
+use Rattle.records.specs.Fields.{bigEndian, vectorBytes, vectorOf}
 use Rattle.records.specs.Jobs.{jobBytes, jobOf, readJob}
-use Rattle.records.specs.Laws.{IsVector, IsJob, JobRoundTrip}
-use Rattle.records.proofs.BigEndian.{length-bigEndian, written-reads-whole}
-use Rattle.records.proofs.Vectors.{vector-long, written-reads as vector-reads, number-back, vector-back}
+use Rattle.records.specs.Laws.{IsJob, JobRoundTrip}
+use Rattle.records.specs.declared.JobRead.{JobRead}
+use Rattle.records.proofs.BigEndian.{written-reads-whole}
 use Rattle.records.proofs.Parts.{part-at, four-at}
+use Rattle.records.proofs.Vectors.{vector-long, written-reads as vector-reads, number-back, vector-back}
 
 -- of three vectors one after the other, each
 module _ (l h s rest : List ℕ) (ll : length l ≡ 16) (lh : length h ≡ 16) (ls : length s ≡ 16) where

@@ -1,6 +1,6 @@
 -- A list whose parts are stored one after the other. Assumes nothing.
-use mathlib.Core.Path.{_≡_, refl, sym, ap, _∙_}
 use mathlib.Core.List.{List, [], _∷_, _++_, append-assoc}
+use mathlib.Core.Path.{_≡_, refl, sym, ap, _∙_}
 use Prim.Native.Nat.{ℕ, zero, suc, _+_, _-_, _≤_, _<_}
 use native.Mathlib.Nat.{zero-add}
 use native.Mathlib.Omega.{arith}
@@ -8,18 +8,21 @@ use lib.Dec.{T, ltb}
 use lib.IntN.{ℤ}
 use lib.ListN.{length, take, drop, getD, set, length-append, length-drop}
 use lib.Pow.{areBytes}
-use mir.Facts.{and-yes, yes-and}
 use lib.Seq.{getD-drop, take-suc, append-snoc, set-at, paste-suc, take-at, drop-at, drop-drop, length-take-le}
+use mir.Facts.{and-yes, yes-and}
 
 -- an element stored before what stands behind it already
 pub set-before : (p q : List ℕ) (j b : ℕ) → j < length p → set (take (suc j) p ++ q) j b ≡ take j p ++ b ∷ q
 set-before p q j b h = rw (take-suc p j 0 h, append-snoc) (set-at (take j p) (getD p j 0) q b j (length-take-le j p (omega arith)))
 
--- a part from a to a + k, lent as a slice from a to its end, has k elements
-pub part-long : (t : List ℕ) (a k : ℕ) → a + k ≤ length t → length (take ((a + k) - a) (drop a t)) ≡ k
-part-long t a k h =
+-- a part of k elements; and as it is lent, from a to its end
+pub part-size : (t : List ℕ) (a k : ℕ) → a + k ≤ length t → length (take k (drop a t)) ≡ k
+part-size t a k h = length-take-le k (drop a t) (omega (arith, length-drop a t))
+
+pub lent-size : (t : List ℕ) (a k : ℕ) → a + k ≤ length t → length (take ((a + k) - a) (drop a t)) ≡ k
+lent-size t a k h =
     let e : (a + k) - a ≡ k = omega arith in
-    rw e (length-take-le k (drop a t) (omega (arith, length-drop a t)))
+    rw e (part-size t a k h)
 
 -- the next part, stored behind the parts that are there
 pub part-more : (p q t : List ℕ) (n k : ℕ) → length p ≡ n → take n (p ++ drop n t) ++ (q ++ drop k (drop n (p ++ drop n t))) ≡ (p ++ q) ++ drop (n + k) t

@@ -3,10 +3,10 @@ use mathlib.Core.List.{List, _++_}
 use Prim.Native.Nat.{ℕ}
 use lib.Dec.{leb}
 use lib.ListN.{length, drop}
-use Rattle.codes.specs.declared.Check.{Check}
-use Rattle.codes.specs.declared.Check.the-variants.{Pass, Refuse}
-use Rattle.codes.specs.declared.Refusal.the-variants.{Short}
 use Rattle.codes.specs.Codes.{passIf}
+use Rattle.codes.specs.declared.Check.the-variants.{Pass, Refuse}
+use Rattle.codes.specs.declared.Check.{Check}
+use Rattle.codes.specs.declared.Refusal.the-variants.{Short}
 
 -- Check 10: "output too small" for a record of so many bytes.
 unfoldable pub checkRoom : ℕ → List ℕ → Check

@@ -3,14 +3,16 @@ use mathlib.Core.List.{List, [], _∷_, _++_}
 use Prim.Native.Nat.{ℕ}
 use lib.Dec.{leb}
 use lib.IntN.{pos}
-use lib.ListN.{length, drop, replicate}
-use Rattle.codes.specs.declared.Check.{Check}
-use Rattle.codes.specs.declared.Check.the-variants.{Pass, Refuse}
-use Rattle.codes.specs.declared.Refusal.the-variants.{Length, Short}
+use lib.ListN.{length, replicate}
 use Rattle.codes.specs.Codes.{passIf}
+use Rattle.codes.specs.declared.Check.the-variants.{Pass, Refuse}
+use Rattle.codes.specs.declared.Check.{Check}
+use Rattle.codes.specs.declared.Refusal.the-variants.{Length}
+use Rattle.codes.specs.declared.Refusal.{Refusal}
+use Rattle.boxes.specs.Split.{zeroBox}
 use Rattle.jobs.specs.declared.Job.{Job}
-use Rattle.records.specs.declared.JobRead.{JobRead}
 use Rattle.records.specs.Fields.{bigEndian, vectorBytes, byteAt, numberAt, vectorAt}
+use Rattle.records.specs.declared.JobRead.{JobRead}
 
 -- "A job record has 72 bytes: n, d, S, p (a byte each), ε (32 bits), t (64), budget (32), rows r (32), low, high, start vector."
 unfoldable pub jobBytes : Job → List ℕ
@@ -41,20 +43,23 @@ jobOf bytes = record {
   start = vectorAt bytes 56;
 }
 
--- a job of nothing but 0, which goes with a refusal
+-- a refusal has nothing but zeros beside it
 abbrev pub zeroJob : Job
 zeroJob = record {
   model = record { n = 0; d = 0; scale = 0; p = 0; eps = 0 };
   t = 0;
   budget = 0;
   rows = 0;
-  domain = record { low = replicate 8 (pos 0); high = replicate 8 (pos 0) };
+  domain = zeroBox;
   start = replicate 8 (pos 0);
 }
 
+abbrev pub noJob : Refusal → JobRead
+noJob r = record { check = Refuse r; job = zeroJob }
+
 abbrev pub jobUnlessRefused : Check → Job → JobRead
 jobUnlessRefused Pass job = record { check = Pass; job = job }
-jobUnlessRefused (Refuse r) job = record { check = Refuse r; job = zeroJob }
+jobUnlessRefused (Refuse r) job = noJob r
 
 -- Check 1: "input of fit under 72 bytes".
 unfoldable pub readJob : List ℕ → JobRead

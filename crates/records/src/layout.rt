@@ -1,4 +1,5 @@
-// Where the fields of a record stand.
+// The fields of the two records, each at its place.
+use crate::AnswerRecord;
 use crate::fields::get_number;
 use crate::fields::get_number32;
 use crate::fields::get_vector;
@@ -13,29 +14,8 @@ ghost use Prim.Native.Nat.{_≤_};
 ghost use lib.ListN.{length};
 ghost use Rattle.codes.specs.declared.Check.the-variants.{Pass};
 ghost use Rattle.records.specs.Buffers.{written};
-ghost use Rattle.records.specs.Jobs.{jobBytes, jobOf, zeroJob};
-
-pub fn zero_job() -> Job
-    ensures { λ r. ⌜ r ≡ zeroJob ⌝ }
-{
-    Job {
-        model: Model {
-            n: 0,
-            d: 0,
-            scale: 0,
-            p: 0,
-            eps: 0,
-        },
-        t: 0,
-        budget: 0,
-        rows: 0,
-        domain: Box {
-            low: [0i16; 8],
-            high: [0i16; 8],
-        },
-        start: [0i16; 8],
-    }
-}
+ghost use Rattle.records.specs.Answers.{answerBytes, answerOf};
+ghost use Rattle.records.specs.Jobs.{jobBytes, jobOf};
 
 pub fn get_job(bytes: &[u8]) -> Job
     requires { ⌜ 72 ≤ length (now bytes) ⌝ }
@@ -47,16 +27,16 @@ pub fn get_job(bytes: &[u8]) -> Job
             d: bytes[1],
             scale: bytes[2],
             p: bytes[3],
-            eps: get_number32(&bytes[4..8]),
+            eps: get_number32(bytes, 4),
         },
-        t: get_number(&bytes[8..16]),
-        budget: get_number32(&bytes[16..20]),
-        rows: get_number32(&bytes[20..24]),
+        t: get_number(bytes, 8, 8),
+        budget: get_number32(bytes, 16),
+        rows: get_number32(bytes, 20),
         domain: Box {
-            low: get_vector(&bytes[24..40]),
-            high: get_vector(&bytes[40..56]),
+            low: get_vector(bytes, 24),
+            high: get_vector(bytes, 40),
         },
-        start: get_vector(&bytes[56..72]),
+        start: get_vector(bytes, 56),
     }
 }
 
@@ -78,4 +58,33 @@ pub fn put_job(job: Job, bytes: &mut [u8])
     put_vector(bytes, 24, low);
     put_vector(bytes, 40, high);
     put_vector(bytes, 56, start);
+}
+
+pub fn get_answer(bytes: &[u8]) -> AnswerRecord
+    requires { ⌜ 40 ≤ length (now bytes) ⌝ }
+    ensures { λ r. ⌜ r ≡ answerOf (now (bytes .entry)) ⌝ }
+{
+    AnswerRecord {
+        vector: get_vector(bytes, 0),
+        cost: get_number(bytes, 16, 8),
+        bound: get_number(bytes, 24, 8),
+        count: get_number32(bytes, 32),
+        kind: bytes[36],
+        n: bytes[37],
+        d: bytes[38],
+        scale: bytes[39],
+    }
+}
+
+// The record in the first 40 bytes.
+pub fn put_answer(a: AnswerRecord, bytes: &mut [u8])
+    requires { ⌜ 40 ≤ length (now bytes) ⌝ }
+    ensures { λ _. ⌜ now (bytes .exit) ≡ written Pass (answerBytes a) (now (bytes .entry)) ⌝ }
+{
+    let vector = a.vector;
+    put_vector(bytes, 0, vector);
+    put_number(bytes, 16, 8, a.cost);
+    put_number(bytes, 24, 8, a.bound);
+    put_number(bytes, 32, 4, a.count as u64);
+    put_four(bytes, 36, a.kind, a.n, a.d, a.scale);
 }

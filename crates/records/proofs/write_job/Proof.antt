@@ -1,27 +1,21 @@
+-- The test of the room is the definition's.
 use mathlib.Core.Path.{refl}
+use borrow.Author.Needs.{needs}
 use borrow.Author.Tests.{le-leb, lt-leb}
 use Rattle.records.specs.Buffers.{checkRoom}
-use borrow.Author.Needs.{needs}
 use Rattle.records.proofs.write_job.Statement.{statement}
 use Rattle.records.proofs.write_job.Tie as tie
-use Rattle.records.proofs.write_job.Reads as reads
-use Rattle.records.proofs.write_job.Lts as lts
-use Rattle.records.proofs.layout.put_job.Reads as put-job-reads
 
--- src/lib.rt:40:9
 returns : tie.Need-returns
 unfolding checkRoom
 returns c = (simp (lt-leb _ _ (c .if1 .taken)), refl)
 
--- src/lib.rt:42:5
 put-job-requires : tie.Need-put-job-requires
 put-job-requires c κs = search needs
 
--- src/lib.rt:35:1
 same-length : tie.Need-same-length
 same-length c = search needs
 
--- src/lib.rt:35:1
 returns-2 : tie.Need-returns-2
 unfolding checkRoom
 returns-2 c = (simp (le-leb _ _ (c .before .before .before .before .if1 .left)), c .before .before .put-job .ensures)

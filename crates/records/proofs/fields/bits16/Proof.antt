@@ -1,19 +1,17 @@
 -- The bits of −(m + 1) are 65,535 − m.
-use mathlib.Core.Path.{_≡_, refl, sym, _∙_, ap, subst}
-use mathlib.Core.Bool.{true, false}
-use Prim.Native.Nat.{ℕ, suc, _-_, _+_, _≤_, _<_, _^_}
+use mathlib.Core.Bool.{true}
+use mathlib.Core.Path.{_≡_, refl, sym, _∙_, ap}
+use Prim.Native.Nat.{ℕ, suc, _-_, _+_, _<_, _^_}
 use native.Mathlib.Omega.{arith}
-use lib.IntN.{ℤ, pos, negsuc, natAbs, _-ℤ_}
 use lib.Dec.{T}
+use lib.IntN.{ℤ, pos, negsuc, natAbs, _-ℤ_}
 use lib.Signed.{ltZ, nonNeg}
+use mir.Facts.{toZ-ofZ, fits-natAbs}
 use mir.Syntax.{w16}
 use mir.Val.{SFits, toZ, ofZ}
-use mir.Facts.{toZ-ofZ, fits-natAbs}
 use Rattle.integers.proofs.Parts.{from-parts, sub-parts, pos-up, pos-dn, negsuc-up, negsuc-dn, ltZ-true, not-negative}
 use Rattle.records.proofs.fields.bits16.Statement.{statement}
 use Rattle.records.proofs.fields.bits16.Tie as tie
-use Rattle.records.proofs.fields.bits16.Reads as reads
-use Rattle.records.proofs.fields.bits16.Lts as lts
 
 -- −1 − (−(m + 1)) is m
 minus-one : (m : ℕ) → negsuc 0 -ℤ negsuc m ≡ pos m

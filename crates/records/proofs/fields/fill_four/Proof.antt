@@ -1,36 +1,29 @@
-use mathlib.Core.Path.{_≡_, ap, _∙_}
-use mathlib.Core.List.{List, [], _∷_, _++_, append-nil}
-use Prim.Native.Nat.{ℕ, _+_}
+-- Four stores replace the whole part.
+use mathlib.Core.List.{List, [], _∷_, _++_}
+use mathlib.Core.Path.{ap, _∙_}
+use Prim.Native.Nat.{ℕ}
 use native.Mathlib.Omega.{arith}
-use lib.ListN.{drop, drop-of-length-le}
-use lib.Seq.{sets-eq}
 use borrow.Author.Needs.{needs}
+use lib.ListN.{drop-of-length-le}
+use lib.Seq.{sets-eq}
 use Rattle.records.proofs.fields.fill_four.Statement.{statement}
 use Rattle.records.proofs.fields.fill_four.Tie as tie
-use Rattle.records.proofs.fields.fill_four.Reads as reads
-use Rattle.records.proofs.fields.fill_four.Lts as lts
 
--- src/fields.rt:89:5
 slice-write-part : tie.Need-slice-write-part
 slice-write-part c = search needs
 
--- src/fields.rt:90:5
 slice-write-part-2 : tie.Need-slice-write-part-2
 slice-write-part-2 c = search needs
 
--- src/fields.rt:91:5
 slice-write-part-3 : tie.Need-slice-write-part-3
 slice-write-part-3 c = search needs
 
--- src/fields.rt:92:5
 slice-write-part-4 : tie.Need-slice-write-part-4
 slice-write-part-4 c = search needs
 
--- src/fields.rt:85:1
 same-length : tie.Need-same-length
 same-length c = search needs
 
--- src/fields.rt:85:1
 returns : tie.Need-returns
 returns c =
     let four = c .args .a ∷ c .args .b ∷ c .args .c ∷ c .args .d ∷ [] in

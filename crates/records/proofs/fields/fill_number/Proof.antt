@@ -1,19 +1,16 @@
-use mathlib.Core.Path.{_≡_, refl, sym, ap, _∙_}
-use mathlib.Core.List.{List, [], _∷_, _++_, append-nil}
-use Prim.Native.Nat.{ℕ, suc, _+_, _-_, _*_, _/_, _%_, _^_, _≤_, _<_}
-use native.Mathlib.Omega.{arith}
-use native.Mathlib.Numerals.{add-one}
-use borrow.Author.Needs.{needs}
-use lib.ListN.{length, take, drop, getD, set, length-append, length-set}
+-- The invariant: the bytes from i on are the lowest of x, and what is left of x is x without them. The measure is i.
+use mathlib.Core.List.{List, _++_, append-nil}
+use mathlib.Core.Path.{_≡_, sym, ap, _∙_}
+use Prim.Native.Nat.{ℕ, suc, _-_, _/_, _%_, _^_, _≤_, _<_}
 use native.Mathlib.Nat.{sub-zero, div-one, div-div-eq-div-mul, pow-suc}
+use native.Mathlib.Omega.{arith}
+use lib.ListN.{length, take, set, length-append}
+use lib.Seq.{take-length, length-take-le}
+use Rattle.records.specs.Fields.{bigEndian}
+use Rattle.records.proofs.BigEndian.{length-bigEndian}
 use Rattle.records.proofs.Parts.{set-before}
-use lib.Seq.{take-length, take-suc, take-all, append-snoc, set-at, length-take-le}
-use Rattle.records.specs.Fields.{bigEndian, fromBigEndian}
-use Rattle.records.proofs.BigEndian.{from-snoc, length-bigEndian}
 use Rattle.records.proofs.fields.fill_number.Statement.{statement}
 use Rattle.records.proofs.fields.fill_number.Tie as tie
-use Rattle.records.proofs.fields.fill_number.Reads as reads
-use Rattle.records.proofs.fields.fill_number.Lts as lts
 
 kept-long : (part : List ℕ) (i x : ℕ) → i ≤ length part → length (take i part ++ bigEndian (length part - i) x) ≡ length part
 kept-long part i x h =
@@ -29,32 +26,26 @@ Inv-loop part₀ x rest₀ i₀ part rest i = (i ≤ length part₀) × (part �
 abbrev μ-loop : tie.MeasureT-loop
 μ-loop part₀ x rest₀ i₀ part rest i = i
 
--- src/fields.rt:34:5
 loop-holds : tie.Need-loop-holds Inv-loop μ-loop
 unfolding bigEndian
 loop-holds c = let part = c .args .part .now in
     let none : length part - length part ≡ 0 = omega arith in
     (omega arith, rw (none, take-length part) (sym (append-nil part)), rw none (sym (div-one (c .args .x))))
 
--- src/fields.rt:35:9
 sub-i : tie.Need-sub-i Inv-loop μ-loop
 sub-i c = omega arith
 
--- src/fields.rt:36:19
 cast-part : tie.Need-cast-part Inv-loop μ-loop
 cast-part c = omega arith
 
--- src/fields.rt:36:9
 slice-write-part : tie.Need-slice-write-part Inv-loop μ-loop
 slice-write-part c = let p = c .before in
     let a = p .before .args in
     omega (arith, kept-long (a .part .now) (p .loop .i) (a .x) (p .loop .inv .0), ap length (p .loop .inv .1))
 
--- src/fields.rt:34:5
 loop-less : tie.Need-loop-less Inv-loop μ-loop
 loop-less c = omega arith
 
--- src/fields.rt:34:5
 loop-again : tie.Need-loop-again Inv-loop μ-loop
 loop-again c = let p = c .before in
     let a = p .before .args in
@@ -68,13 +59,11 @@ loop-again c = let p = c .before in
       rw (more, p .loop .inv .2, div-div-eq-div-mul, pow-suc),
     )
 
--- src/fields.rt:29:1
 same-length : tie.Need-same-length Inv-loop μ-loop
 same-length c = let p = c .before in
     let a = p .before .args in
     omega (arith, kept-long (a .part .now) (p .loop .i) (a .x) (p .loop .inv .0), ap length (p .loop .inv .1))
 
--- src/fields.rt:29:1
 returns : tie.Need-returns Inv-loop μ-loop
 returns c = let none : c .before .loop .i ≡ 0 = omega arith in
     c .before .loop .inv .1 ∙ rw (none, sub-zero)

@@ -1,71 +1,66 @@
-use mathlib.Core.Path.{_≡_, refl, ap, _∙_}
-use mathlib.Core.List.{List, [], _∷_, _++_}
-use Prim.Native.Nat.{ℕ}
+-- Each part is stored behind the ones before it, so that the record is their concatenation.
+use mathlib.Core.List.{[], _∷_}
+use mathlib.Core.Path.{_≡_, refl}
+use Prim.Native.Nat.{_≤_}
 use native.Mathlib.Omega.{arith}
-use lib.IntN.{ℤ}
-use lib.ListN.{length, drop}
+use borrow.Author.Needs.{needs}
+use lib.ListN.{length}
 use Rattle.records.specs.Fields.{bigEndian, vectorBytes}
 use Rattle.records.specs.Jobs.{jobBytes}
 use Rattle.records.proofs.BigEndian.{length-bigEndian}
 use Rattle.records.proofs.Parts.{nothing-stored, and-then, all-stored}
-use borrow.Author.Needs.{needs}
 use Rattle.records.proofs.layout.put_job.Statement.{statement}
 use Rattle.records.proofs.layout.put_job.Tie as tie
-use Rattle.records.proofs.layout.put_job.Reads as reads
-use Rattle.records.proofs.layout.put_job.Lts as lts
-use Rattle.records.proofs.fields.put_four.Reads as put-four-reads
-use Rattle.records.proofs.fields.put_number.Reads as put-number-reads
-use Rattle.records.proofs.fields.put_vector.Reads as put-vector-reads
 
--- src/layout.rt:73:5
+abbrev entry : tie.After-put-number2 → tie.Start
+entry c = c .before .before .before .before .before .before .before .before .before .before .before .before .before .before .before .before .before
+
+-- the bytes keep their length, said now and then so that no need looks too far back
+kept-to-t : (c : tie.After-put-number2) → (length (c .put-number2 .last .0) ≡ length (entry c .args .bytes .now)) × (72 ≤ length (c .put-number2 .last .0))
+kept-to-t c = omega arith
+
+kept-to-rows : (c : tie.After-put-number4) → (length (c .put-number4 .last .0) ≡ length (entry (c .before .before .before .before .before .before .before .before .before .before) .args .bytes .now)) × (72 ≤ length (c .put-number4 .last .0))
+kept-to-rows c = omega (arith, kept-to-t (c .before .before .before .before .before .before .before .before .before .before))
+
+kept-to-high : (c : tie.After-put-vector2) → (length (c .put-vector2 .last .0) ≡ length (entry (c .before .before .before .before .before .before .before .before .before .before .before .before .before .before .before .before .before .before) .args .bytes .now)) × (72 ≤ length (c .put-vector2 .last .0))
+kept-to-high c = omega (arith, kept-to-rows (c .before .before .before .before .before .before .before .before))
+
 put-four-requires : tie.Need-put-four-requires
 put-four-requires c κs = search needs
 
--- src/layout.rt:74:29
 cast-put-number : tie.Need-cast-put-number
 cast-put-number c = search needs
 
--- src/layout.rt:74:5
 put-number-requires : tie.Need-put-number-requires
 put-number-requires c κs = search needs
 
--- src/layout.rt:75:5
 put-number-requires-2 : tie.Need-put-number-requires-2
 put-number-requires-2 c κs = search needs
 
--- src/layout.rt:76:30
 cast-put-number-2 : tie.Need-cast-put-number-2
 cast-put-number-2 c = search needs
 
--- src/layout.rt:76:5
 put-number-requires-3 : tie.Need-put-number-requires-3
 put-number-requires-3 c κs = search needs
 
--- src/layout.rt:77:30
 cast-put-number-3 : tie.Need-cast-put-number-3
 cast-put-number-3 c = search needs
 
--- src/layout.rt:77:5
 put-number-requires-4 : tie.Need-put-number-requires-4
-put-number-requires-4 c κs = omega (arith, c .before .before .before .before .before .before .before .before .before, c .before .before .before .before .before .before .before .before .before .before .before .before .before .before .before .before .before .before)
+put-number-requires-4 c κs = omega (arith, kept-to-t (c .before .before .before .before .before .before .before .before .before))
 
--- src/layout.rt:78:5
 put-vector-requires : tie.Need-put-vector-requires
-put-vector-requires c κs = omega (arith, c .before .before .before .before .before .before .before .before, c .before .before .before .before .before .before .before .before .before .before .before .before .before .before .before .before .before, c .before .before .before .before .before .before .before .before .before .before .before .before .before .before .before .before .before .before .before .before .before .before .before .before .before .before)
+put-vector-requires c κs = omega (arith, kept-to-rows (c .before .before .before))
 
--- src/layout.rt:79:5
 put-vector-requires-2 : tie.Need-put-vector-requires-2
-put-vector-requires-2 c κs = omega (arith, c .before .before .before .before .before .before .before, c .before .before .before .before .before .before .before .before .before .before .before .before .before .before .before .before .before, c .before .before .before .before .before .before .before .before .before .before .before .before .before .before .before .before .before .before .before .before .before .before .before .before .before .before)
+put-vector-requires-2 c κs = omega (arith, kept-to-rows (c .before .before .before .before .before .before .before))
 
--- src/layout.rt:80:5
 put-vector-requires-3 : tie.Need-put-vector-requires-3
-put-vector-requires-3 c κs = omega (arith, c .before .before .before .before .before .before .before, c .before .before .before .before .before .before .before .before .before .before .before .before .before .before .before .before, c .before .before .before .before .before .before .before .before .before .before .before .before .before .before .before .before .before .before .before .before .before .before .before .before .before, c .before .before .before .before .before .before .before .before .before .before .before .before .before .before .before .before .before .before .before .before .before .before .before .before .before .before .before .before .before .before .before .before .before .before)
+put-vector-requires-3 c κs = omega (arith, kept-to-high (c .before .before .before))
 
--- src/layout.rt:64:1
 same-length : tie.Need-same-length
-same-length c = omega (arith, c .before .before .before .before .before .before .before .before .before .before, c .before .before .before .before .before .before .before .before .before .before .before .before .before .before .before .before .before .before .before, c .before .before .before .before .before .before .before .before .before .before .before .before .before .before .before .before .before .before .before .before .before .before .before .before .before .before .before .before, c .before .before .before .before .before .before .before .before .before .before .before .before .before .before .before .before .before .before .before .before .before .before .before .before .before .before .before .before .before .before .before .before .before .before .before .before .before)
+same-length c = omega (arith, kept-to-high (c .before .before .before .before .before .before))
 
--- src/layout.rt:64:1
 returns : tie.Need-returns
 unfolding jobBytes
 returns c =
@@ -77,7 +72,7 @@ returns c =
     let n2 = n3 .before .before .before .before .before in
     let n1 = n2 .before .before .before .before in
     let f = n1 .before .before .before .before .before in
-    let a = f .before .before .before .before .before .before .before .before .args in
+    let a = entry n2 .args in
     let m = a .job .model in
     let four = m .n ∷ m .d ∷ m .scale ∷ m .p ∷ [] in
     let none = nothing-stored (a .bytes .now) in
