@@ -5,7 +5,7 @@ use Prim.Native.Nat.{ℕ}
 use lib.Dec.{leb, eqb}
 use lib.IntN.{pos}
 use lib.ListN.{length, replicate}
-use Rattle.codes.specs.Codes.{passIf, inOrder, within}
+use Rattle.codes.specs.Codes.{passIf, ifPassed, inOrder, within}
 use Rattle.codes.specs.declared.Check.the-variants.{Pass, Refuse}
 use Rattle.codes.specs.declared.Check.{Check}
 use Rattle.codes.specs.declared.Refusal.the-variants.{Answer}
@@ -41,8 +41,7 @@ answerOf bytes = record {
 
 -- whether a check passes
 abbrev pub passing : Check → Bool
-passing Pass = true
-passing (Refuse r) = false
+passing check = ifPassed check true false
 
 -- Check 9: "record to write or read has a kind, n, d, n × d or S out of range, an unused coordinate not 0, L > C, or C over
 -- 1,152,921,367,167,897,600".

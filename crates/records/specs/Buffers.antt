@@ -3,8 +3,7 @@ use mathlib.Core.List.{List, _++_}
 use Prim.Native.Nat.{ℕ}
 use lib.Dec.{leb}
 use lib.ListN.{length, drop}
-use Rattle.codes.specs.Codes.{passIf}
-use Rattle.codes.specs.declared.Check.the-variants.{Pass, Refuse}
+use Rattle.codes.specs.Codes.{passIf, ifPassed}
 use Rattle.codes.specs.declared.Check.{Check}
 use Rattle.codes.specs.declared.Refusal.the-variants.{Short}
 
@@ -14,5 +13,4 @@ checkRoom size out = passIf (leb size (length out)) Short
 
 -- The buffer after a write: the record and then "the buffer's rest", which "is kept"; at a refusal nothing is written.
 abbrev pub written : Check → List ℕ → List ℕ → List ℕ
-written Pass bytes out = bytes ++ drop (length bytes) out
-written (Refuse r) bytes out = out
+written check bytes out = ifPassed check (bytes ++ drop (length bytes) out) out
