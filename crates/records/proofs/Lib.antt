@@ -1,0 +1,5 @@
+pub mod BigEndian
+pub mod Parts
+pub mod Vectors
+pub mod Jobs
+pub mod Answers

@@ -1,0 +1,5 @@
+pub mod Fields
+pub mod Buffers
+pub mod Jobs
+pub mod Answers
+pub mod Laws
