@@ -7,7 +7,7 @@ use native.Mathlib.Nat.{mul-one, mul-comm, mul-assoc, mul-left-comm, mul-pos, mu
 use native.Mathlib.Omega.{arith}
 use lib.IntN.{ℤ, pos, negsuc, natAbs}
 use lib.Signed.{nonNeg, natAbs-le}
-use lib.Dec.{T, eqb, eqb·suc-zero, lit≤, lit<}
+use lib.Dec.{T, eqb, eqb·suc-zero, lit<}
 use lib.Pow.{pow-add, pow-pos, pow-mono, shl-lt}
 use lib.Ieee.{Float, nan, inf, fin, Format, binary32, up, down, size, round, div, mul, ofInt, ofBits, toBits, unlike}
 use lib.Ieee.Fits.{round-fits, down-pos, up-pos}

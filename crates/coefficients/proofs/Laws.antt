@@ -1,10 +1,10 @@
 -- The laws of specs/Laws.antt, and the bench fit K. A line goes through pattern by pattern: each on the grid is some w's, and each w's is on the grid.
 -- Assumes nothing.
-use mathlib.Core.Path.{_≡_, refl, sym, ap, _∙_, subst}
-use mathlib.Core.Bool.{Bool, true, _&&_}
+use mathlib.Core.Path.{_≡_, refl, sym, ap, _∙_}
+use mathlib.Core.Bool.{true, _&&_}
 use mathlib.Core.List.{List, [], _∷_, map}
 use Prim.Native.Nat.{ℕ, zero, suc, _≤_}
-use lib.Dec.{T, lit<, lit≤}
+use lib.Dec.{T, lit<}
 use lib.IntN.{ℤ, pos, negsuc}
 use lib.ListN.{length, getD, drop, length-map}
 use lib.Ieee.{Float, binary32, ofBits, toBits, fits, size}
@@ -15,7 +15,7 @@ use Rattle.integers.specs.Integers.{allZero}
 use Rattle.codes.specs.declared.Check.{Check}
 use Rattle.codes.specs.declared.Check.the-variants.{Pass, Refuse}
 use Rattle.codes.specs.declared.Refusal.the-variants.{Start, OffGrid}
-use Rattle.codes.specs.Codes.{passIf, inOrder}
+use Rattle.codes.specs.Codes.{passIf}
 use Rattle.scale.specs.Scale.{checkScale}
 use Rattle.coefficients.specs.Coefficient.{exponentOf, fractionOf, fieldsOf, patternOf, coefficientOf}
 use Rattle.coefficients.specs.Grid.{coordinateOf, onGrid}
@@ -23,18 +23,18 @@ use Rattle.coefficients.specs.Lines.{checkUsed, checkUnused, writingChec
 use Rattle.coefficients.specs.Laws.{ExactCoefficient, ExactReading, Four16, FourSingle, RoundTrip}
 use Rattle.coefficients.specs.declared.Line.{Line}
 use Rattle.coefficients.proofs.Exact.{coefficient-exact, coefficient-bits}
-use Rattle.coefficients.proofs.Grid.{found, on-grid, coordinate-fits}
+use Rattle.coefficients.proofs.Grid.{found, missed, nan-missed, on-grid, coordinate-fits}
 use Rattle.coefficients.proofs.Checks.{passed, scale-within, three-pass, pass-three}
 use Rattle.coefficients.proofs.Lines.{both, four-mapped, rest-zero-read}
 
 -- ---- the bench fit K
-pub minus-three-halves : patternOf 1 (negsuc 2) ≡ 0xBFC0_0000
+pub pattern-of-minus-three-halves : patternOf 1 (negsuc 2) ≡ 0xBFC0_0000
 unfolding patternOf fieldsOf exponentOf fractionOf size
-minus-three-halves = refl
+pattern-of-minus-three-halves = refl
 
-pub smallest-positive : patternOf 15 (pos 1) ≡ 0x3800_0000
+pub pattern-of-smallest : patternOf 15 (pos 1) ≡ 0x3800_0000
 unfolding patternOf fieldsOf exponentOf fractionOf size
-smallest-positive = refl
+pattern-of-smallest = refl
 
 -- ---- one number
 module _ (S : ℕ) (h : S ≤ 15) where
@@ -46,6 +46,7 @@ module _ (S : ℕ) (h : S ≤ 15) where
       record {
         accepted = λ w f. let r = found S h (patternOf S w) w f refl in (sym (r .0), sym (r .1));
         no-other = λ p g. (coordinate-fits S p, on-grid S p g);
+        no-nan = λ p t. sym (missed S p (nan-missed S h p t) .0);
       }
 
   -- ---- a list of them

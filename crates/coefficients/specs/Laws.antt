@@ -1,13 +1,13 @@
 -- What the definitions come to. Statements; the proofs are in proofs/Laws.antt.
 use mathlib.Core.Path.{_≡_}
-use mathlib.Core.Bool.{true, not}
+use mathlib.Core.Bool.{true, false, not}
 use mathlib.Core.List.{List}
-use Prim.Native.Nat.{ℕ, _^_, _≤_}
+use Prim.Native.Nat.{ℕ, _^_}
 use lib.Dec.{T}
 use lib.IntN.{ℤ, pos, natAbs}
 use lib.ListN.{length, getD}
 use lib.Signed.{nonNeg}
-use lib.Ieee.{binary32, toBits, fits}
+use lib.Ieee.{binary32, toBits, fits, nanBits}
 use lib.Ieee.Exact.{HasValue}
 use mir.Syntax.{w16}
 use mir.Val.{SFits}
@@ -26,6 +26,7 @@ pub record ExactCoefficient (S : ℕ) (w : ℤ) : Type 0 where
 pub record ExactReading (S : ℕ) : Type 0 where
   pub accepted : (w : ℤ) → SFits w16 w → (onGrid S (patternOf S w) ≡ true) × (coordinateOf S (patternOf S w) ≡ w)
   pub no-other : (p : ℕ) → onGrid S p ≡ true → SFits w16 (coordinateOf S p) × (patternOf S (coordinateOf S p) ≡ p)
+  pub no-nan : (p : ℕ) → T (nanBits binary32 p) → onGrid S p ≡ false
 
 -- Four signed 16-bit numbers; four single-precision numbers.
 pub record Four16 (w : List ℤ) : Type 0 where

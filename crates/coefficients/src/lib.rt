@@ -2,10 +2,10 @@
 use codes::Check;
 use codes::Refusal;
 ghost use mathlib.Core.Path.{_≡_};
-ghost use Prim.Native.Nat.{_≤_};
-ghost use lib.Ieee.{binary32, toBits};
 ghost use mathlib.Core.List.{[], _∷_, map};
+ghost use Prim.Native.Nat.{_≤_};
 ghost use lib.ListN.{drop};
+ghost use lib.Ieee.{binary32, toBits};
 ghost use Rattle.integers.specs.Integers.{allZero};
 ghost use Rattle.codes.specs.Codes.{inOrder};
 ghost use Rattle.scale.specs.Scale.{checkScale};
@@ -33,7 +33,7 @@ pub struct Coordinates {
     pub w: [i16; 4],
 }
 
-// What one pattern stands for: the number that has it, or 0.
+// What one pattern stands for: the number that has it, and 0 if none has.
 struct Reading {
     found: bool,
     w: i16,
@@ -47,12 +47,12 @@ fn coefficient(s: u8, w: i16) -> f32
     (w as f32) / (scale::power(s) as f32)
 }
 
-// The number that has the pattern p: only p's value times 2^s can be it, and its coefficient is compared bit by bit.
+// The number that has the pattern p. Only p's value times 2^s can be it; whether it is, its own coefficient's bits tell.
 fn coordinate(s: u8, p: u32) -> Reading
     requires { ⌜ s ≤ 15 ⌝ }
     ensures { λ r. ⌜ (r .found ≡ onGrid s p) × (r .w ≡ coordinateOf s p) ⌝ }
 {
-    // No NaN is a value.
+    // Past the infinities' patterns come the NaNs'.
     if p % 0x8000_0000 > 0x7f80_0000 {
         return Reading { found: false, w: 0 };
     }
@@ -68,14 +68,14 @@ fn coordinate(s: u8, p: u32) -> Reading
     Reading { found: false, w: 0 }
 }
 
-// The bits of f. What bits a NaN has cannot be known here; one pattern stands for all, as no w has any.
+// The bits of f. No two NaNs can be told apart as numbers: one pattern stands for all of them.
 fn pattern(f: f32) -> u32
     ensures { λ r. ⌜ r ≡ toBits binary32 f ⌝ }
 {
     if f == f { f32::to_bits(f) } else { 0x7fc0_0000 }
 }
 
-// Checks 2, on d alone, and 3.
+// Check 2, on d alone, then check 3.
 fn check_line(d: u8, s: u8) -> Check
     ensures { λ r. ⌜ r ≡ inOrder (checkUsed d ∷ checkScale s ∷ []) ⌝ }
 {
@@ -86,7 +86,7 @@ fn check_line(d: u8, s: u8) -> Check
     }
 }
 
-// The coordinates after the d-th are 0.
+// Whether all coordinates after the d-th are 0.
 fn rest_zero(d: u8, w: [i16; 4]) -> bool
     ensures { λ r. ⌜ r ≡ allZero (drop d w) ⌝ }
 {
@@ -114,26 +114,27 @@ fn not_written(r: Refusal) -> Written
     }
 }
 
-// Four coordinates with check 6.
+// Where checks 2 and 3 pass: check 6, then the coefficients.
 fn write_checked(d: u8, s: u8, w: [i16; 4]) -> Written
     requires { ⌜ s ≤ 15 ⌝ }
     ensures { λ r. ⌜ r ≡ writtenIf (checkUnused d w) (lineOf s w) ⌝ }
 {
-    if !rest_zero(d, w) {
-        return not_written(Refusal::Start);
-    }
-    Written {
-        check: Check::Pass,
-        line: Line {
-            c1: coefficient(s, w[0]),
-            c2: coefficient(s, w[1]),
-            c3: coefficient(s, w[2]),
-            c4: coefficient(s, w[3]),
-        },
+    if rest_zero(d, w) {
+        Written {
+            check: Check::Pass,
+            line: Line {
+                c1: coefficient(s, w[0]),
+                c2: coefficient(s, w[1]),
+                c3: coefficient(s, w[2]),
+                c4: coefficient(s, w[3]),
+            },
+        }
+    } else {
+        not_written(Refusal::Start)
     }
 }
 
-// A line of coefficients, with checks 2, 3 and 6.
+// Writes a line, by checks 2, 3 and 6.
 pub fn write_line(d: u8, s: u8, w: [i16; 4]) -> Written
     ensures { λ r. ⌜ r ≡ writtenOf d s w ⌝ }
 {
@@ -152,7 +153,7 @@ fn not_read(r: Refusal) -> Coordinates
     }
 }
 
-// Four patterns with check 12. One after the d-th is +0 if its coordinate is 0.
+// Where checks 2 and 3 pass: check 12, then the coordinates. On the grid only +0 is read as 0, so the coordinates tell what is unused.
 fn read_checked(d: u8, s: u8, bits: [u32; 4]) -> Coordinates
     requires { ⌜ s ≤ 15 ⌝ }
     ensures { λ r. ⌜ r ≡ coordinatesIf (checkGrid d s bits) (map (coordinateOf s) bits) ⌝ }
@@ -172,7 +173,7 @@ fn read_checked(d: u8, s: u8, bits: [u32; 4]) -> Coordinates
     }
 }
 
-// The coordinates of a line's four patterns, with checks 2, 3 and 12.
+// Reads a line from its four patterns, by checks 2, 3 and 12.
 pub fn read_patterns(d: u8, s: u8, bits: [u32; 4]) -> Coordinates
     ensures { λ r. ⌜ r ≡ coordinatesOf d s bits ⌝ }
 {
@@ -182,7 +183,7 @@ pub fn read_patterns(d: u8, s: u8, bits: [u32; 4]) -> Coordinates
     read_checked(d, s, bits)
 }
 
-// The same of a line's numbers.
+// Reads a line from its four numbers.
 pub fn read_line(d: u8, s: u8, line: Line) -> Coordinates
     ensures { λ r. ⌜ r ≡ coordinatesOf d s (patternsOf line) ⌝ }
 {

@@ -1,30 +1,24 @@
 -- If some w has the pattern p, then p's value times 2 ^ s is w: it lies in the range, is cut to w, and w's coefficient has p's bits. Where one of these fails, no w has it.
 use borrow.Author.Needs.{needs}
 use mathlib.Core.Path.{_≡_, sym, ap, _∙_, subst}
-use mathlib.Core.Bool.{Bool, true, false, not, true≢false}
+use mathlib.Core.Bool.{Bool, false, not}
 use Prim.Native.Nat.{ℕ, _%_, _^_, _<_}
 use native.Mathlib.Nat.{lt-of-lt-of-le, mod-eq-of-lt}
 use native.Mathlib.Omega.{arith}
 use lib.Arith.{le→nltb}
 use lib.IntN.{ℤ, pos}
 use lib.Dec.{T, lit≤, lt→ltb}
-use lib.Ieee.{Float, binary32, mul, ofInt, ofBits, neg, le, toBits, toSigned, isNan, nanBits}
+use lib.Ieee.{Float, binary32, mul, ofInt, ofBits, neg, le, toBits, toSigned, nanBits}
 use lib.Ieee.Bits.{nanBits-above}
 use mir.Syntax.{w16, w64}
 use mir.Val.{SFits, toZ, ofZ}
 use mir.ValLaws.{toZ-ofZ}
 use Rattle.coefficients.specs.Coefficient.{patternOf, coefficientOf}
-use Rattle.coefficients.specs.Grid.{coordinateOf, onGrid}
 use Rattle.coefficients.proofs.Exact.{coefficient-bits}
 use Rattle.coefficients.proofs.Range.{Cuttable, lowest, highest, ranged, int-low, int-high, int-cut}
 use Rattle.coefficients.proofs.Grid.{found, missed, scaled-back, coefficient-no-nan, nan-missed}
 use Rattle.coefficients.proofs.coordinate.Statement.{statement}
 use Rattle.coefficients.proofs.coordinate.Tie as tie
-use Rattle.coefficients.proofs.coordinate.Reads as reads
-use Rattle.coefficients.proofs.coordinate.Lts as lts
-use Rattle.coefficients.proofs.coefficient.Reads as coefficient-reads
-use Rattle.scale.proofs.power.Reads as power-reads
-use Rattle.std.proofs.num.truncating_f32_to_i64.Reads as truncating-f32-to-i64-reads
 
 -- ---- v, as the code has it
 abbrev value : (c : tie.After-power) → Float

@@ -7,8 +7,6 @@ use lib.Ieee.{Float, nan, inf, fin, binary32, eq, ne, toBits, isNan}
 use lib.Ieee.Compare.{differs-from-itself}
 use Rattle.coefficients.proofs.pattern.Statement.{statement}
 use Rattle.coefficients.proofs.pattern.Tie as tie
-use Rattle.coefficients.proofs.pattern.Reads as reads
-use Rattle.coefficients.proofs.pattern.Lts as lts
 
 eq-no-nan : (f : Float) → eq f f ≡ true → T (not (isNan f))
 unfolding eq isNan

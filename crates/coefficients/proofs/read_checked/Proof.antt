@@ -14,7 +14,7 @@ use Rattle.codes.specs.declared.Check.{Check}
 use Rattle.codes.specs.declared.Check.the-variants.{Pass}
 use Rattle.codes.specs.declared.Refusal.the-variants.{OffGrid}
 use Rattle.codes.specs.Codes.{passIf}
-use Rattle.coefficients.specs.Grid.{coordinateOf, onGrid}
+use Rattle.coefficients.specs.Grid.{coordinateOf}
 use Rattle.coefficients.specs.Lines.{checkGrid, coordinatesIf}
 use Rattle.coefficients.proofs.Grid.{coordinate-fits}
 use Rattle.coefficients.proofs.Lines.{four-mapped, grid-check}
@@ -51,46 +51,55 @@ rest-zero-requires c κs = search needs
 not-read-requires : tie.Need-not-read-requires
 not-read-requires c κs = search needs
 
--- a coordinate, from the bits that were put into the array
-coordinate-read : (S p : ℕ) (z : ℤ) → z ≡ coordinateOf S p → toZ w16 (ofZ w16 z) ≡ coordinateOf S p
-coordinate-read S p z e = toZ-ofZ w16 z (subst (SFits w16) (sym e) (coordinate-fits S p)) ∙ e
+-- a coordinate as it is read back from the array
+abbrev stored : ℤ → ℤ
+stored z = toZ w16 (ofZ w16 z)
+
+coordinate-stored : (S p : ℕ) (z : ℤ) → z ≡ coordinateOf S p → stored z ≡ coordinateOf S p
+coordinate-stored S p z e = toZ-ofZ w16 z (subst (SFits w16) (sym e) (coordinate-fits S p)) ∙ e
 
 module _ (c : tie.After-rest-zero) where
-  abbrev fourth : tie.After-coordinate4
-  fourth = c .before .before .before .before .before .before .before .before .before
+  abbrev r4 : tie.After-coordinate4
+  r4 = c .before .before .before .before .before .before .before .before .before
 
-  abbrev start : tie.Start
-  start = fourth .before .before .before .before
+  abbrev r3 : tie.After-coordinate3
+  r3 = r4 .before
+
+  abbrev r2 : tie.After-coordinate2
+  r2 = r3 .before
+
+  abbrev r1 : tie.After-coordinate
+  r1 = r2 .before
+
+  abbrev d : ℕ
+  d = r1 .before .args .d
 
   abbrev S : ℕ
-  S = start .args .s
+  S = r1 .before .args .s
 
   abbrev ps : List ℕ
-  ps = start .args .t3
+  ps = r1 .before .args .t3
 
   long : length ps ≡ 4
   long = search needs
 
-  read : _≡_ {A = List ℤ} (toZ w16 (ofZ w16 (fourth .before .before .before .coordinate .result .w)) ∷ toZ w16 (ofZ w16 (fourth .before .before .coordinate2 .result .w)) ∷ toZ w16 (ofZ w16 (fourth .before .coordinate3 .result .w)) ∷ toZ w16 (ofZ w16 (fourth .coordinate4 .result .w)) ∷ []) (map (coordinateOf S) ps)
+  read : stored (r1 .coordinate .result .w) ∷ stored (r2 .coordinate2 .result .w) ∷ stored (r3 .coordinate3 .result .w) ∷ stored (r4 .coordinate4 .result .w) ∷ [] ≡ map (coordinateOf S) ps
   read =
-      let e1 = coordinate-read S (getD ps 0 0) _ (fourth .before .before .before .coordinate .ensures .1) in
-      let e2 = coordinate-read S (getD ps 1 0) _ (fourth .before .before .coordinate2 .ensures .1) in
-      let e3 = coordinate-read S (getD ps 2 0) _ (fourth .before .coordinate3 .ensures .1) in
-      let e4 = coordinate-read S (getD ps 3 0) _ (fourth .coordinate4 .ensures .1) in
+      let e1 = coordinate-stored S (getD ps 0 0) _ (r1 .coordinate .ensures .1) in
+      let e2 = coordinate-stored S (getD ps 1 0) _ (r2 .coordinate2 .ensures .1) in
+      let e3 = coordinate-stored S (getD ps 2 0) _ (r3 .coordinate3 .ensures .1) in
+      let e4 = coordinate-stored S (getD ps 3 0) _ (r4 .coordinate4 .ensures .1) in
       (λ i. e1 i ∷ e2 i ∷ e3 i ∷ e4 i ∷ []) ∙ four-mapped (coordinateOf S) 0 ps long
 
   -- check 12 is what the code tests
   checked : {t : Bool}
-      → fourth .before .before .before .coordinate .result .found && fourth .before .before .coordinate2 .result .found && fourth .before .coordinate3 .result .found && fourth .coordinate4 .result .found && c .rest-zero .result ≡ t
-      → coordinatesIf (passIf t OffGrid) (map (coordinateOf S) ps) ≡ coordinatesIf (checkGrid (start .args .d) S ps) (map (coordinateOf S) ps)
+      → r1 .coordinate .result .found && r2 .coordinate2 .result .found && r3 .coordinate3 .result .found && r4 .coordinate4 .result .found && c .rest-zero .result ≡ t
+      → coordinatesIf (passIf t OffGrid) (map (coordinateOf S) ps) ≡ coordinatesIf (checkGrid d S ps) (map (coordinateOf S) ps)
   checked e =
-      let f1 = fourth .before .before .before .coordinate .ensures .0 in
-      let f2 = fourth .before .before .coordinate2 .ensures .0 in
-      let f3 = fourth .before .coordinate3 .ensures .0 in
-      let f4 = fourth .coordinate4 .ensures .0 in
-      let z = c .rest-zero .ensures ∙ ap (λ (l : List ℤ). allZero (drop (start .args .d) l)) read in
-      ap (λ (t : Bool). coordinatesIf (passIf t OffGrid) (map (coordinateOf S) ps)) (sym e ∙ (λ i. f1 i && f2 i && f3 i && f4 i && z i))
-      ∙ ap (λ (k : Check). coordinatesIf k (map (coordinateOf S) ps)) (sym (grid-check S (start .pre) (start .args .d) ps long))
+      let z = c .rest-zero .ensures ∙ ap (λ (l : List ℤ). allZero (drop d l)) read in
+      ap (λ (t : Bool). coordinatesIf (passIf t OffGrid) (map (coordinateOf S) ps))
+      (sym e ∙ (λ i. r1 .coordinate .ensures .0 i && r2 .coordinate2 .ensures .0 i && r3 .coordinate3 .ensures .0 i && r4 .coordinate4 .ensures .0 i && z i))
+      ∙ ap (λ (k : Check). coordinatesIf k (map (coordinateOf S) ps)) (sym (grid-check S (r1 .before .pre) d ps long))
 
 returns : tie.Need-returns
 returns c = ap (coordinatesIf Pass) (read (c .before)) ∙ checked (c .before) (c .if1 .taken)
