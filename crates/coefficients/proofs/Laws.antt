@@ -68,7 +68,7 @@ module _ (S : ℕ) (h : S ≤ 15) where
   line-patterns : (w : List ℤ) → Four16 w → patternsOf (lineOf S w) ≡ map (patternOf S) w
   unfolding patternsOf lineOf
   line-patterns w f =
-      let b : (k : ℕ) → toBits binary32 (coefficientOf S (getD w k (pos 0))) ≡ patternOf S (getD w k (pos 0)) = λ k. coefficient-bits S h (getD w k (pos 0)) (f .short k) in
+      let b : (k : ℕ) → toBits binary32 (coefficientOf S (getD w k (pos 0))) ≡ patternOf S (getD w k (pos 0)) = λ k. coefficient-bits S h (getD w k (pos 0)) (f .fit k) in
       (λ i. b 0 i ∷ b 1 i ∷ b 2 i ∷ b 3 i ∷ []) ∙ four-mapped (patternOf S) (pos 0) w (f .long)
 
 coordinates-fit : (S : ℕ) (ps : List ℕ) (k : ℕ) → SFits w16 (getD (map (coordinateOf S) ps) k (pos 0))
@@ -110,7 +110,7 @@ module _ (d S : ℕ) where
       let k : writingChecks d S w ≡ Pass = sym (written-check (writingChecks d S w) (lineOf S w)) ∙ e in
       let p = three-pass (checkUsed d) (checkScale S) (checkUnused d w) k in
       let h = scale-within S (p .1) in
-      let a = all-accepted S h w (f .short) in
+      let a = all-accepted S h w (f .fit) in
       let z = rest-zero-read S h d (map (patternOf S) w) (a .0) ∙ ap (λ (l : List ℤ). allZero (drop d l)) (a .1) ∙ passed (allZero (drop d w)) Start (p .2) in
       let g : checkGrid d S (map (patternOf S) w) ≡ Pass = λ i. passIf (a .0 i && z i) OffGrid in
       let r : readingChecks d S (map (patternOf S) w) ≡ Pass = pass-three (p .0) (p .1) g in
@@ -145,7 +145,7 @@ module _ (d S : ℕ) where
 
     back-patterns : patternsOf (lineOf S (map (coordinateOf S) ps)) ≡ ps
     back-patterns =
-        line-patterns S within-15 (map (coordinateOf S) ps) (record { long = length-map ps (coordinateOf S) ∙ long; short = coordinates-fit S ps })
+        line-patterns S within-15 (map (coordinateOf S) ps) (record { long = length-map ps (coordinateOf S) ∙ long; fit = coordinates-fit S ps })
         ∙ all-written S within-15 ps (grid-passes .0)
 
   pub round-trip : RoundTrip d S

@@ -31,7 +31,7 @@ pub record ExactReading (S : ℕ) : Type 0 where
 -- Four signed 16-bit numbers; four single-precision numbers.
 pub record Four16 (w : List ℤ) : Type 0 where
   pub long : length w ≡ 4
-  pub short : (k : ℕ) → SFits w16 (getD w k (pos 0))
+  pub fit : (k : ℕ) → SFits w16 (getD w k (pos 0))
 
 pub record FourSingle (l : Line) : Type 0 where
   pub c1 : T (fits binary32 (l .c1))

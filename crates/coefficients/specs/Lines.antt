@@ -53,10 +53,12 @@ writtenIf (Refuse r) l = notWritten r
 unfoldable pub writtenOf : ℕ → ℕ → List ℤ → Written
 writtenOf d S w = writtenIf (writingChecks d S w) (lineOf S w)
 
+-- Each is some w's.
 unfoldable pub allOnGrid : ℕ → List ℕ → Bool
 allOnGrid S [] = true
 allOnGrid S (p ∷ ps) = onGrid S p && allOnGrid S ps
 
+-- Each is +0.
 unfoldable pub allPlusZero : List ℕ → Bool
 allPlusZero [] = true
 allPlusZero (p ∷ ps) = eqb p 0 && allPlusZero ps
@@ -81,6 +83,6 @@ coordinatesIf (Refuse r) w = notRead r
 unfoldable pub coordinatesOf : ℕ → ℕ → List ℕ → Coordinates
 coordinatesOf d S ps = coordinatesIf (readingChecks d S ps) (map (coordinateOf S) ps)
 
--- The four patterns of a line. The kit has one NaN, and gives it the pattern 0x7FC00000.
+-- The four patterns of a line. Among numbers there is one NaN, here with the pattern 0x7FC00000; no w has a NaN's pattern.
 unfoldable pub patternsOf : Line → List ℕ
 patternsOf l = toBits binary32 (l .c1) ∷ toBits binary32 (l .c2) ∷ toBits binary32 (l .c3) ∷ toBits binary32 (l .c4) ∷ []
