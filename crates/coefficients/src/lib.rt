@@ -68,13 +68,6 @@ fn coordinate(s: u8, p: u32) -> Reading
     Reading { found: false, w: 0 }
 }
 
-// The bits of f. No two NaNs can be told apart as numbers: one pattern stands for all of them.
-fn pattern(f: f32) -> u32
-    ensures { λ r. ⌜ r ≡ toBits binary32 f ⌝ }
-{
-    if f == f { f32::to_bits(f) } else { 0x7fc0_0000 }
-}
-
 // Check 2, on d alone, then check 3.
 fn check_line(d: u8, s: u8) -> Check
     ensures { λ r. ⌜ r ≡ inOrder (checkUsed d ∷ checkScale s ∷ []) ⌝ }
@@ -183,18 +176,28 @@ pub fn read_patterns(d: u8, s: u8, bits: [u32; 4]) -> Coordinates
     read_checked(d, s, bits)
 }
 
+// The bits of f. No two NaNs can be told apart as numbers: one pattern stands for all of them.
+fn pattern(f: f32) -> u32
+    ensures { λ r. ⌜ r ≡ toBits binary32 f ⌝ }
+{
+    if f == f { f32::to_bits(f) } else { 0x7fc0_0000 }
+}
+
+// The four patterns of a line.
+pub fn patterns(line: Line) -> [u32; 4]
+    ensures { λ r. ⌜ r ≡ patternsOf line ⌝ }
+{
+    [
+        pattern(line.c1),
+        pattern(line.c2),
+        pattern(line.c3),
+        pattern(line.c4),
+    ]
+}
+
 // Reads a line from its four numbers.
 pub fn read_line(d: u8, s: u8, line: Line) -> Coordinates
     ensures { λ r. ⌜ r ≡ coordinatesOf d s (patternsOf line) ⌝ }
 {
-    read_patterns(
-        d,
-        s,
-        [
-            pattern(line.c1),
-            pattern(line.c2),
-            pattern(line.c3),
-            pattern(line.c4),
-        ],
-    )
+    read_patterns(d, s, patterns(line))
 }
