@@ -2,20 +2,21 @@
 -- Assumes nothing.
 use mathlib.Core.Path.{_≡_, refl, sym, ap, _∙_, subst}
 use mathlib.Core.Logic.{inl, inr}
-use mathlib.Core.Bool.{Bool, true, false, not, cond, true≢false, false≢true}
+use mathlib.Core.Bool.{Bool, true, false, not, true≢false, false≢true}
 use Prim.Native.Nat.{ℕ, zero, suc, _^_, _≤_, _<_}
 use native.Mathlib.Nat.{le-refl, le-of-suc-le-suc, not-suc-le-zero, eq-or-lt-of-le, eq-of-mul-eq-mul-right}
 use native.Mathlib.Omega.{arith}
-use borrow.Author.Tests.{eq-eqb, ne-eqb, eqb-true, eqb-false}
+use borrow.Author.Tests.{eq-eqb, ne-eqb, eqb-true}
 use lib.IntN.{ℤ, pos, negsuc, natAbs}
 use lib.Signed.{mag}
-use lib.Dec.{T, eqb, T-not, lit<}
+use lib.Dec.{T, eqb, eqb→eq, T-not, lit<}
 use lib.Ieee.{Float, nan, inf, fin, binary32, down, mul, ofInt, ofBits, isNan, nanBits}
-use lib.Ieee.Fits.{down-pos}
+use lib.Ieee.Fits.{down-pos, eq→eqb}
 use lib.Ieee.Exact.{HasValue}
 use lib.Ieee.Bits.{nanBits-is}
 use mir.Syntax.{w16}
 use mir.Val.{SFits}
+use Rattle.integers.proofs.Tests.{by-cond}
 use Rattle.coefficients.specs.Coefficient.{patternOf, coefficientOf}
 use Rattle.coefficients.specs.Grid.{among, coordinateOf, onGrid}
 use Rattle.coefficients.proofs.Exact.{negative, coefficient-exact, multiplied}
@@ -41,17 +42,13 @@ pattern-unique S h v w f g e =
     same-parts v w (r .0) (r .1)
 
 -- ---- the search
-by-test : (P : ℤ → Type 0) (t : Bool) (x y : ℤ) → (t ≡ true → P x) → (t ≡ false → P y) → P (cond t x y)
-by-test P true x y f g = f refl
-by-test P false x y f g = g refl
-
 -- what holds of 0 and of every number in the range that has the pattern holds of the one found
 among-is : (k S p : ℕ) (P : ℤ → Type 0) → ((w : ℤ) → mag w < k → patternOf S w ≡ p → P w) → P (pos 0) → P (among k S p)
 unfolding among
 among-is zero S p P f z = z
 among-is (suc k) S p P f z =
-    by-test P (eqb (patternOf S (pos k)) p) _ _ (λ t. f (pos k) (le-refl (suc k)) (eqb-true _ _ t))
-    (λ _. by-test P (eqb (patternOf S (negsuc k)) p) _ _ (λ t. f (negsuc k) (le-refl (suc k)) (eqb-true _ _ t))
+    by-cond P (eqb (patternOf S (pos k)) p) (λ t. f (pos k) (le-refl (suc k)) (eqb→eq _ _ t))
+    (λ _. by-cond P (eqb (patternOf S (negsuc k)) p) (λ t. f (negsuc k) (le-refl (suc k)) (eqb→eq _ _ t))
     (λ _. among-is k S p P (λ w g. f w (omega arith)) z))
 
 -- if one in the range has the pattern, the one found has it
@@ -60,9 +57,11 @@ unfolding among
 among-has zero S p w h e = absurd (not-suc-le-zero h)
 among-has (suc k) S p w h e =
     let has : ℤ → Type 0 = λ v. patternOf S v ≡ p in
-    by-test has (eqb (patternOf S (pos k)) p) (pos k) _ (eqb-true _ _)
-    (λ t. by-test has (eqb (patternOf S (negsuc k)) p) (negsuc k) (among k S p) (eqb-true _ _)
-    (λ u. among-has k S p w (next w h (λ q. eqb-false _ _ t (ap (patternOf S) q ∙ e)) (λ q. eqb-false _ _ u (ap (patternOf S) q ∙ e))) e))
+    let plus = eqb (patternOf S (pos k)) p in
+    let minus = eqb (patternOf S (negsuc k)) p in
+    by-cond has plus {x = pos k} (eqb→eq _ _)
+    (λ t. by-cond has minus {x = negsuc k} {y = among k S p} (eqb→eq _ _)
+    (λ u. among-has k S p w (next w h (λ q. T-not plus t (eq→eqb (ap (patternOf S) q ∙ e))) (λ q. T-not minus u (eq→eqb (ap (patternOf S) q ∙ e)))) e))
   where
     next : (w : ℤ) → mag w < suc k → (pos k ≡ w → ⊥) → (negsuc k ≡ w → ⊥) → mag w < k
     next (pos n) h p q = elim (eq-or-lt-of-le (le-of-suc-le-suc h)) [ inl e ↦ absurd (p (ap pos (sym e))) | inr l ↦ l ]

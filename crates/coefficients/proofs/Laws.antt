@@ -12,10 +12,12 @@ use lib.Ieee.Bits.{ofBits-toBits, ofBits-fits}
 use mir.Syntax.{w16}
 use mir.Val.{SFits}
 use Rattle.integers.specs.Integers.{allZero}
+use Rattle.integers.proofs.Tests.{is-true}
 use Rattle.codes.specs.declared.Check.{Check}
 use Rattle.codes.specs.declared.Check.the-variants.{Pass, Refuse}
 use Rattle.codes.specs.declared.Refusal.the-variants.{Start, OffGrid}
 use Rattle.codes.specs.Codes.{passIf}
+use Rattle.codes.proofs.Checks.{passed}
 use Rattle.scale.specs.Scale.{checkScale}
 use Rattle.coefficients.specs.Coefficient.{exponentOf, fractionOf, fieldsOf, patternOf, coefficientOf}
 use Rattle.coefficients.specs.Grid.{coordinateOf, onGrid}
@@ -24,7 +26,7 @@ use Rattle.coefficients.specs.Laws.{ExactCoefficient, ExactReading, Four
 use Rattle.coefficients.specs.declared.Line.{Line}
 use Rattle.coefficients.proofs.Exact.{coefficient-exact, coefficient-bits}
 use Rattle.coefficients.proofs.Grid.{found, missed, nan-missed, on-grid, coordinate-fits}
-use Rattle.coefficients.proofs.Checks.{passed, scale-within, three-pass, pass-three}
+use Rattle.coefficients.proofs.Checks.{scale-within, three-pass, pass-three}
 use Rattle.coefficients.proofs.Lines.{both, four-mapped, rest-zero-read}
 
 -- ---- the bench fit K
@@ -111,7 +113,7 @@ module _ (d S : ℕ) where
       let p = three-pass (checkUsed d) (checkScale S) (checkUnused d w) k in
       let h = scale-within S (p .1) in
       let a = all-accepted S h w (f .fit) in
-      let z = rest-zero-read S h d (map (patternOf S) w) (a .0) ∙ ap (λ (l : List ℤ). allZero (drop d l)) (a .1) ∙ passed (allZero (drop d w)) Start (p .2) in
+      let z = rest-zero-read S h d (map (patternOf S) w) (a .0) ∙ ap (λ (l : List ℤ). allZero (drop d l)) (a .1) ∙ is-true (allZero (drop d w)) (passed (allZero (drop d w)) Start (p .2)) in
       let g : checkGrid d S (map (patternOf S) w) ≡ Pass = λ i. passIf (a .0 i && z i) OffGrid in
       let r : readingChecks d S (map (patternOf S) w) ≡ Pass = pass-three (p .0) (p .1) g in
       ap (λ (c : Check). coordinatesOf d S (patternsOf (writtenIf c (lineOf S w) .line))) k
@@ -133,7 +135,7 @@ module _ (d S : ℕ) where
 
     grid-passes : (allOnGrid S ps ≡ true) × (allPlusZero (drop d ps) ≡ true)
     unfolding checkGrid
-    grid-passes = both (allOnGrid S ps) (allPlusZero (drop d ps)) (passed (allOnGrid S ps && allPlusZero (drop d ps)) OffGrid (checks-pass .2))
+    grid-passes = let test = allOnGrid S ps && allPlusZero (drop d ps) in both (allOnGrid S ps) (allPlusZero (drop d ps)) (is-true test (passed test OffGrid (checks-pass .2)))
 
     back : writtenOf d S (coordinatesOf d S ps .w) ≡ record { check = Pass; line = lineOf S (map (coordinateOf S) ps) }
     unfolding writtenOf writingChecks checkUnused coordinatesOf

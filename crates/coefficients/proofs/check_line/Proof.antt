@@ -4,9 +4,9 @@ use mathlib.Core.Path.{sym, _∙_}
 use mathlib.Core.Logic.{⊎-elim}
 use borrow.Author.Tests.{le-leb, lt-leb}
 use Rattle.codes.specs.Codes.{inOrder}
+use Rattle.codes.proofs.Laws.{in-order-one}
 use Rattle.scale.specs.Scale.{checkScale}
 use Rattle.coefficients.specs.Lines.{checkUsed}
-use Rattle.coefficients.proofs.Checks.{alone}
 use Rattle.coefficients.proofs.check_line.Statement.{statement}
 use Rattle.coefficients.proofs.check_line.Tie as tie
 
@@ -15,7 +15,7 @@ check-scale-requires c κs = search needs
 
 returns : tie.Need-returns
 unfolding checkUsed inOrder
-returns c = c .check-scale .ensures ∙ simp (le-leb _ _ (c .before .before .if1 .taken), c .before .if2 .taken) (sym (alone (checkScale (c .before .before .before .args .s))))
+returns c = c .check-scale .ensures ∙ simp (le-leb _ _ (c .before .before .if1 .taken), c .before .if2 .taken) (sym (in-order-one (checkScale (c .before .before .before .args .s))))
 
 returns-2 : tie.Need-returns-2
 unfolding checkUsed inOrder

@@ -5,10 +5,11 @@ use mathlib.Core.List.{[], _∷_, map}
 use Rattle.codes.specs.declared.Check.{Check}
 use Rattle.codes.specs.declared.Check.the-variants.{Pass}
 use Rattle.codes.specs.Codes.{inOrder}
+use Rattle.codes.proofs.Laws.{after-pass, after-refusal}
 use Rattle.scale.specs.Scale.{checkScale}
 use Rattle.coefficients.specs.Grid.{coordinateOf}
 use Rattle.coefficients.specs.Lines.{checkUsed, checkGrid, readingChecks, coordinatesIf, coordinatesOf}
-use Rattle.coefficients.proofs.Checks.{refused-early, passed-early, scale-checked}
+use Rattle.coefficients.proofs.Checks.{scale-checked}
 use Rattle.coefficients.proofs.read_patterns.Statement.{statement}
 use Rattle.coefficients.proofs.read_patterns.Tie as tie
 
@@ -28,7 +29,7 @@ returns c =
     let r = c .before .before .r .given in
     let e = sym (c .before .before .before .before .check-line .ensures) ∙ r .1 in
     c .not-read .ensures
-    ∙ ap (λ (k : Check). coordinatesIf k (map (coordinateOf (a .s)) (a .bits))) (refused-early (checkUsed (a .d)) (checkScale (a .s)) (checkGrid (a .d) (a .s) (a .bits)) (r .0 .0) e)
+    ∙ ap (λ (k : Check). coordinatesIf k (map (coordinateOf (a .s)) (a .bits))) (sym (after-refusal (checkUsed (a .d) ∷ checkScale (a .s) ∷ []) (checkGrid (a .d) (a .s) (a .bits) ∷ []) (r .0 .0) e))
 
 enum-told : tie.Need-enum-told
 enum-told c = search needs
@@ -44,7 +45,7 @@ unfolding coordinatesOf readingChecks
 returns-2 c =
     let a = c .before .before .before .before .args in
     c .read-checked .ensures
-    ∙ ap (λ (k : Check). coordinatesIf k (map (coordinateOf (a .s)) (a .bits))) (passed-early (checkUsed (a .d)) (checkScale (a .s)) (checkGrid (a .d) (a .s) (a .bits)) (passed (c .before)))
+    ∙ ap (λ (k : Check). coordinatesIf k (map (coordinateOf (a .s)) (a .bits))) (sym (after-pass (checkUsed (a .d) ∷ checkScale (a .s) ∷ []) (checkGrid (a .d) (a .s) (a .bits)) (passed (c .before))))
 
 pub read-patterns-spec : {M : Type 1} → statement M
 read-patterns-spec =

@@ -1,16 +1,16 @@
 -- The invariant: the coordinates from the d-th on are all 0 if those from k on are. The measure is what is left of the four.
 use borrow.Author.Needs.{needs}
-use mathlib.Core.Path.{_≡_, refl, sym, ap, _∙_}
+use mathlib.Core.Path.{_≡_, refl, sym, _∙_}
+use mathlib.Core.Bool.{_&&_}
 use mathlib.Core.List.{List}
-use Prim.Native.Nat.{ℕ, _-_, _<_}
+use Prim.Native.Nat.{ℕ, _+_, _-_}
 use native.Mathlib.Omega.{arith}
-use lib.IntN.{ℤ, pos, negsuc, natAbs}
+use lib.Dec.{eqb}
+use lib.IntN.{ℤ, pos, natAbs}
 use lib.ListN.{length, getD, drop}
-use mir.Syntax.{w16}
-use mir.Val.{toZ, ofZ}
-use mir.ValLaws.{toZ-ofZ}
 use Rattle.integers.specs.Integers.{allZero}
-use Rattle.integers.proofs.Zeros.{zero-past, zero-next, zero-none}
+use Rattle.integers.proofs.Signed.{bits-zero, bits-not-zero}
+use Rattle.integers.proofs.Zeros.{zero-past, zero-step}
 use Rattle.coefficients.proofs.rest_zero.Statement.{statement}
 use Rattle.coefficients.proofs.rest_zero.Tie as tie
 
@@ -29,7 +29,7 @@ mul-if1 c = omega arith
 array-copy-out-if1 : tie.Need-array-copy-out-if1 Inv-loop μ-loop
 array-copy-out-if1 c = omega arith
 
--- a turn: the coordinates, k, and that k is one of them
+-- a turn: the coordinate at k decides, or those after it
 module _ (c : tie.In-loop Inv-loop μ-loop) where
   abbrev w : List ℤ
   w = c .before .before .args .t2
@@ -37,17 +37,14 @@ module _ (c : tie.In-loop Inv-loop μ-loop) where
   abbrev k : ℕ
   k = c .before .loop .k
 
-  k-within : k < length w
-  k-within = let four : length w ≡ 4 = search needs in omega arith
+  abbrev z : ℤ
+  z = getD w k (pos 0)
 
-zero-bits : (z : ℤ) → natAbs z ≡ 0 → ofZ w16 z ≡ 0
-zero-bits (pos n) e = e
-zero-bits (negsuc n) e = omega arith
+  step : allZero (drop (c .before .before .args .d) w) ≡ eqb (natAbs z) 0 && allZero (drop (k + 1) w)
+  step = let four : length w ≡ 4 = search needs in c .before .loop .inv ∙ zero-step w k (omega arith)
 
 returns : tie.Need-returns Inv-loop μ-loop
-returns c =
-    let turn = c .before .before in
-    sym (turn .before .loop .inv ∙ zero-none (w turn) (k turn) (k-within turn) (λ e. c .if1 .taken (zero-bits (getD (w turn) (k turn) (pos 0)) e)))
+returns c = let turn = c .before .before in sym (step turn ∙ rw (bits-not-zero (z turn) (c .if1 .taken)))
 
 add-k : tie.Need-add-k Inv-loop μ-loop
 add-k c = omega arith
@@ -58,8 +55,7 @@ loop-less c = omega arith
 loop-again : tie.Need-loop-again Inv-loop μ-loop
 loop-again c =
     let turn = c .before .before in
-    let z = getD (w turn) (k turn) (pos 0) in
-    turn .before .loop .inv ∙ zero-next (w turn) (k turn) (k-within turn) (ap natAbs (sym (toZ-ofZ w16 z (record { sfits = c .before .if12 .given })) ∙ ap (toZ w16) (c .if1 .left)))
+    step turn ∙ rw (bits-zero (z turn) (record { sfits = c .before .if12 .given }) (c .if1 .left))
 
 returns-2 : tie.Need-returns-2 Inv-loop μ-loop
 returns-2 c =
