@@ -1,0 +1,4 @@
+pub mod Coefficient
+pub mod Grid
+pub mod Lines
+pub mod Laws
