@@ -1,16 +1,14 @@
 -- The invariant: the coordinates from the d-th on are all 0 if those from k on are. The measure is what is left of the four.
 use borrow.Author.Needs.{needs}
 use mathlib.Core.Path.{_≡_, refl, sym, _∙_}
-use mathlib.Core.Bool.{_&&_}
 use mathlib.Core.List.{List}
-use Prim.Native.Nat.{ℕ, _+_, _-_}
+use Prim.Native.Nat.{ℕ, _-_, _<_}
 use native.Mathlib.Omega.{arith}
-use lib.Dec.{eqb}
-use lib.IntN.{ℤ, pos, natAbs}
+use lib.IntN.{ℤ, pos}
 use lib.ListN.{length, getD, drop}
 use Rattle.integers.specs.Integers.{allZero}
-use Rattle.integers.proofs.Signed.{bits-zero, bits-not-zero}
-use Rattle.integers.proofs.Zeros.{zero-past, zero-step}
+use Rattle.integers.proofs.Signed.{bits-zero, zero-bits}
+use Rattle.integers.proofs.Zeros.{zero-past, zero-next, zero-none}
 use Rattle.coefficients.proofs.rest_zero.Statement.{statement}
 use Rattle.coefficients.proofs.rest_zero.Tie as tie
 
@@ -40,11 +38,13 @@ module _ (c : tie.In-loop Inv-loop μ-loop) where
   abbrev z : ℤ
   z = getD w k (pos 0)
 
-  step : allZero (drop (c .before .before .args .d) w) ≡ eqb (natAbs z) 0 && allZero (drop (k + 1) w)
-  step = let four : length w ≡ 4 = search needs in c .before .loop .inv ∙ zero-step w k (omega arith)
+  inside : k < length w
+  inside = let four : length w ≡ 4 = search needs in omega arith
 
 returns : tie.Need-returns Inv-loop μ-loop
-returns c = let turn = c .before .before in sym (step turn ∙ rw (bits-not-zero (z turn) (c .if1 .taken)))
+returns c =
+    let turn = c .before .before in
+    sym (turn .before .loop .inv ∙ zero-none (w turn) (k turn) (inside turn) (λ e. c .if1 .taken (zero-bits (z turn) e)))
 
 add-k : tie.Need-add-k Inv-loop μ-loop
 add-k c = omega arith
@@ -55,7 +55,7 @@ loop-less c = omega arith
 loop-again : tie.Need-loop-again Inv-loop μ-loop
 loop-again c =
     let turn = c .before .before in
-    step turn ∙ rw (bits-zero (z turn) (record { sfits = c .before .if12 .given }) (c .if1 .left))
+    turn .before .loop .inv ∙ zero-next (w turn) (k turn) (inside turn) (bits-zero (z turn) (record { sfits = c .before .if12 .given }) (c .if1 .left))
 
 returns-2 : tie.Need-returns-2 Inv-loop μ-loop
 returns-2 c =
