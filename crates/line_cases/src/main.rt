@@ -77,22 +77,27 @@ fn reading() {
     read(1, 16, [1, 1, 1, 1]);
 }
 
+// A first pattern with nothing behind it.
+fn first(s: u8, p: u32) {
+    read(1, s, [p, 0, 0, 0]);
+}
+
 fn off_grid() {
     io::write_all(
         1,
         b"off grid: -0, 0.5, 32768, -32769, NaNs, infinities, a subnormal, 2^-16 at 15, unused\n",
     );
-    read(1, 0, [0x8000_0000, 0, 0, 0]);
-    read(1, 0, [0x3f00_0000, 0, 0, 0]);
-    read(1, 0, [0x4700_0000, 0, 0, 0]);
-    read(1, 0, [0xc700_0100, 0, 0, 0]);
-    read(1, 0, [0x7fc0_0000, 0, 0, 0]);
-    read(1, 0, [0x7f80_0001, 0, 0, 0]);
-    read(1, 0, [0xffff_ffff, 0, 0, 0]);
-    read(1, 0, [0x7f80_0000, 0, 0, 0]);
-    read(1, 0, [0xff80_0000, 0, 0, 0]);
-    read(1, 15, [0x0000_0001, 0, 0, 0]);
-    read(1, 15, [0x3780_0000, 0, 0, 0]);
+    first(0, 0x8000_0000);
+    first(0, 0x3f00_0000);
+    first(0, 0x4700_0000);
+    first(0, 0xc700_0100);
+    first(0, 0x7fc0_0000);
+    first(0, 0x7f80_0001);
+    first(0, 0xffff_ffff);
+    first(0, 0x7f80_0000);
+    first(0, 0xff80_0000);
+    first(15, 0x0000_0001);
+    first(15, 0x3780_0000);
     read(2, 0, [0, 0, 0x3f80_0000, 0]);
     read(3, 0, [0, 0, 0, 0x8000_0000]);
 }
