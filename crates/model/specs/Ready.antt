@@ -20,16 +20,10 @@ pub record Ready (bytes : ℕ) (m : Model) : Type 0 where
 abbrev pub boxOf : List ℤ → List ℤ → Box
 boxOf low high = record { low = low; high = high }
 
--- |e| of the line at place b and a point's x, with y scaled; its least size over a box
-abbrev pub sizeOf : List ℤ → ℕ → List ℤ → ℕ → ℤ → ℕ
-sizeOf v b x d y = natAbs (y -ℤ dot v b x d)
+-- |e| of record i and the line at place b, and its least size over a box
+abbrev pub sizeOf : List ℕ → ℕ → List ℤ → ℕ → ℕ → ℕ → ℕ
+sizeOf s i v b d power = natAbs (pointAt s i .y *ℤ pos power -ℤ dot v b (xs (pointAt s i)) d)
 
-abbrev pub nearOf : Box → ℕ → List ℤ → ℕ → ℤ → ℕ
-nearOf B b x d y = nearestTo0 (y -ℤ dotMax B b x d) (y -ℤ dotMin B b x d)
-
--- those of each line and record i
-abbrev pub sizesOf : List ℕ → ℕ → List ℤ → ℕ → ℕ → ℕ → ℕ
-sizesOf s i v d power j = sizeOf v (j * d) (xs (pointAt s i)) d (pointAt s i .y *ℤ pos power)
-
-abbrev pub nearsOf : List ℕ → ℕ → Box → ℕ → ℕ → ℕ → ℕ
-nearsOf s i B d power j = nearOf B (j * d) (xs (pointAt s i)) d (pointAt s i .y *ℤ pos power)
+abbrev pub nearOf : List ℕ → ℕ → Box → ℕ → ℕ → ℕ → ℕ
+nearOf s i B b d power =
+    nearestTo0 (pointAt s i .y *ℤ pos power -ℤ dotMax B b (xs (pointAt s i)) d) (pointAt s i .y *ℤ pos power -ℤ dotMin B b (xs (pointAt s i)) d)

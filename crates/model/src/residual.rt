@@ -7,7 +7,7 @@ ghost use lib.IntN.{pos, natAbs, _-ℤ_, _*ℤ_};
 ghost use lib.ListN.{length, drop};
 ghost use Rattle.points.specs.Points.{signedAt, pointAt, pointsOf, xs};
 ghost use Rattle.model.specs.Cost.{dot, sizeAt, least, firstLeast, cost, label};
-ghost use Rattle.model.specs.Ready.{Ready, sizeOf, sizesOf};
+ghost use Rattle.model.specs.Ready.{Ready, sizeOf};
 
 // The signed 16-bit number at byte o.
 pub fn field(s: &[u8], o: usize) -> i16
@@ -33,41 +33,27 @@ pub fn scaled(s: &[u8], i: usize, power: u16) -> i64
     (field(s, i * 12 + 8) as i64) * (power as i64)
 }
 
-// x1 to x4 of record i: read once for all lines.
-pub fn fields(s: &[u8], i: usize) -> [i16; 4]
-    requires { ⌜ i * 12 + 12 ≤ length (now s) ⌝ }
-    ensures { λ r. ⌜ r ≡ xs (pointAt (now (s .entry)) i) ⌝ }
-{
-    let o = i * 12;
-    [
-        field(s, o),
-        field(s, o + 2),
-        field(s, o + 4),
-        field(s, o + 6),
-    ]
-}
-
-// Σ w × x of the line whose coordinates begin at place b.
-pub fn dot_line(v: &[i16], b: usize, x: &[i16], d: usize) -> i64
-    requires { ⌜ (b + d ≤ length (now v)) × (d ≤ length (now x)) × (d ≤ 4) ⌝ }
-    ensures value { λ r. ⌜ r ≡ dot (now (v .entry)) b (now (x .entry)) d ⌝ }
+// Σ w × x of record i and the line whose coordinates begin at place b.
+pub fn dot_record(s: &[u8], i: usize, v: &[i16], b: usize, d: usize) -> i64
+    requires { ⌜ (i * 12 + 12 ≤ length (now s)) × (b + d ≤ length (now v)) × (d ≤ 4) ⌝ }
+    ensures value { λ r. ⌜ r ≡ dot (now (v .entry)) b (xs (pointAt (now (s .entry)) i)) d ⌝ }
     ensures small { λ r. ⌜ natAbs r ≤ 4294967296 ⌝ }
 {
     let mut sum: i64 = 0;
     let mut k: usize = 0;
     while k < d {
-        sum = sum + times(v[b + k], x[k]);
+        sum = sum + times(v[b + k], field(s, i * 12 + k * 2));
         k += 1;
     }
     sum
 }
 
-// |e| of that line, where y is scaled.
-pub fn size_line(v: &[i16], b: usize, x: &[i16], d: usize, y: i64) -> u64
-    requires { ⌜ (b + d ≤ length (now v)) × (d ≤ length (now x)) × (d ≤ 4) × (natAbs y ≤ 2147483648) ⌝ }
-    ensures { λ r. ⌜ r ≡ sizeOf (now (v .entry)) b (now (x .entry)) d y ⌝ }
+// |e| of record i and that line.
+pub fn size_record(s: &[u8], i: usize, v: &[i16], b: usize, d: usize, power: u16) -> u64
+    requires { ⌜ (i * 12 + 12 ≤ length (now s)) × (b + d ≤ length (now v)) × (d ≤ 4) ⌝ }
+    ensures { λ r. ⌜ r ≡ sizeOf (now (s .entry)) i (now (v .entry)) b d power ⌝ }
 {
-    loss::size(y - dot_line(v, b, x, d))
+    loss::size(scaled(s, i, power) - dot_record(s, i, v, b, d))
 }
 
 // The line nearest to a point, the first among equals, and its |e|.
@@ -76,16 +62,16 @@ pub struct Nearest {
     pub size: u64,
 }
 
-pub fn nearest_line(v: &[i16], n: usize, d: usize, x: &[i16], y: i64) -> Nearest
-    requires { ⌜ (n * d ≤ length (now v)) × (d ≤ length (now x)) × (1 ≤ n) × (d ≤ 4) × (natAbs y ≤ 2147483648) ⌝ }
-    ensures line { λ r. ⌜ r .line ≡ firstLeast (λ j. sizeOf (now (v .entry)) (j * d) (now (x .entry)) d y) n ⌝ }
-    ensures size { λ r. ⌜ r .size ≡ least (λ j. sizeOf (now (v .entry)) (j * d) (now (x .entry)) d y) n ⌝ }
+pub fn nearest_line(s: &[u8], i: usize, v: &[i16], n: usize, d: usize, power: u16) -> Nearest
+    requires { ⌜ (i * 12 + 12 ≤ length (now s)) × (n * d ≤ length (now v)) × (1 ≤ n) × (d ≤ 4) ⌝ }
+    ensures line { λ r. ⌜ r .line ≡ firstLeast (λ j. sizeOf (now (s .entry)) i (now (v .entry)) (j * d) d power) n ⌝ }
+    ensures size { λ r. ⌜ r .size ≡ least (λ j. sizeOf (now (s .entry)) i (now (v .entry)) (j * d) d power) n ⌝ }
 {
     let mut line: usize = 0;
-    let mut size = size_line(v, 0, x, d, y);
+    let mut size = size_record(s, i, v, 0, d, power);
     let mut j: usize = 1;
     while j < n {
-        let other = size_line(v, j * d, x, d, y);
+        let other = size_record(s, i, v, j * d, d, power);
         if other < size {
             size = other;
             line = j;
@@ -93,16 +79,6 @@ pub fn nearest_line(v: &[i16], n: usize, d: usize, x: &[i16], y: i64) -> Nearest
         j += 1;
     }
     Nearest { line, size }
-}
-
-// The nearest line of record i.
-pub fn nearest_record(s: &[u8], i: usize, v: &[i16], n: usize, d: usize, power: u16) -> Nearest
-    requires { ⌜ (i * 12 + 12 ≤ length (now s)) × (n * d ≤ length (now v)) × (1 ≤ n) × (d ≤ 4) ⌝ }
-    ensures line { λ r. ⌜ r .line ≡ firstLeast (sizesOf (now (s .entry)) i (now (v .entry)) d power) n ⌝ }
-    ensures size { λ r. ⌜ r .size ≡ least (sizesOf (now (s .entry)) i (now (v .entry)) d power) n ⌝ }
-{
-    let x = fields(s, i);
-    nearest_line(v, n, d, &x, scaled(s, i, power))
 }
 
 // The sum over the records of the loss of the nearest line's |e|, up to a cap: past it the rest of the store is not read.
@@ -120,7 +96,7 @@ pub fn cost_sum(s: &[u8], m: Model, v: &[i16], cap: u64) -> u64
         if cap <= sum {
             return cap;
         }
-        let near = nearest_record(s, i, v, n, d, power);
+        let near = nearest_line(s, i, v, n, d, power);
         sum = sum + loss::loss_of(m.p, m.eps, near.size);
         i += 1;
     }
@@ -132,7 +108,7 @@ pub fn label_record(s: &[u8], i: usize, m: Model, v: &[i16], power: u16) -> u8
     requires { ⌜ Ready (length (now s)) m × (8 ≤ length (now v)) × (i * 12 + 12 ≤ length (now s)) × (power ≡ 2 ^ m .scale) ⌝ }
     ensures { λ r. ⌜ r ≡ label m (now (v .entry)) (pointAt (now (s .entry)) i) ⌝ }
 {
-    let near = nearest_record(s, i, v, m.n as usize, m.d as usize, power);
+    let near = nearest_line(s, i, v, m.n as usize, m.d as usize, power);
     if near.size <= m.eps as u64 {
         (near.line + 1) as u8
     } else {

@@ -41,8 +41,8 @@ returns c =
     let a = p .before .before .before .before .before .args in
     cap-reached (a .m) (leastSize (a .m) (boxOf (a .low .now) (a .high .now))) (a .s .now) (p .loop .inv .0) (a .cap) (c .if1 .taken)
 
-least-of-record-requires : tie.Need-least-of-record-requires Inv-loop μ-loop
-least-of-record-requires c κs =
+least-over-lines-requires : tie.Need-least-over-lines-requires Inv-loop μ-loop
+least-over-lines-requires c κs =
     let p = c .before .before in
     let s = p .before .before .before .before .before in
     (omega arith, omega (arith, s .pre .0 .room, s .pre .1), omega (arith, s .pre .0 .room, s .pre .2), s .pre .0 .lines, s .pre .0 .used)
@@ -54,7 +54,7 @@ add-sum : tie.Need-add-sum Inv-loop μ-loop
 add-sum c =
     let p = c .before .before .before .before in
     let s = p .before .before .before .before .before in
-    record { fits = omega (arith, p .loop .inv .0 .small, p .loop .inv .0 .few, s .pre .0 .few, c .loss-of .ensures, loss-le (s .args .m .p) (s .args .m .eps) (c .before .least-of-record .result) (s .pre .0 .cut)) }
+    record { fits = omega (arith, p .loop .inv .0 .small, p .loop .inv .0 .few, s .pre .0 .few, c .loss-of .ensures, loss-le (s .args .m .p) (s .args .m .eps) (c .before .least-over-lines .result) (s .pre .0 .cut)) }
 
 add-i : tie.Need-add-i Inv-loop μ-loop
 add-i c = record { fits = omega arith }
@@ -68,7 +68,7 @@ loop-again c =
     let s = p .before .before .before .before .before in
     let a = s .args in
     let i = p .loop .i in
-    let near = c .before .least-of-record in
+    let near = c .before .least-over-lines in
     let e : near .result ≡ least (leastSize (a .m) (boxOf (a .low .now) (a .high .now)) (pointAt (a .s .now) i)) (a .m .n) =
     near .ensures ∙ ap (λ (f : ℕ → ℕ). least f (a .m .n)) (sizes-over (a .m) (a .s .now) i (p .before .power .result) (p .loop .inv .1) (boxOf (a .low .now) (a .high .now)))
     in (
@@ -97,7 +97,7 @@ bound-sum-spec =
     power-requires
     loop-holds
     returns
-    least-of-record-requires
+    least-over-lines-requires
     loss-of-requires
     add-sum
     add-i

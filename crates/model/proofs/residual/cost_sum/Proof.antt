@@ -40,8 +40,8 @@ returns c =
     let a = p .before .before .before .before .before .args in
     cap-reached (a .m) (sizeAt (a .m) (a .v .now)) (a .s .now) (p .loop .inv .0) (a .cap) (c .if1 .taken)
 
-nearest-record-requires : tie.Need-nearest-record-requires Inv-loop μ-loop
-nearest-record-requires c κs =
+nearest-line-requires : tie.Need-nearest-line-requires Inv-loop μ-loop
+nearest-line-requires c κs =
     let p = c .before .before in
     let s = p .before .before .before .before .before in
     (omega arith, omega (arith, s .pre .0 .room, s .pre .1), s .pre .0 .lines, s .pre .0 .used)
@@ -53,7 +53,7 @@ add-sum : tie.Need-add-sum Inv-loop μ-loop
 add-sum c =
     let p = c .before .before .before .before in
     let s = p .before .before .before .before .before in
-    record { fits = omega (arith, p .loop .inv .0 .small, p .loop .inv .0 .few, s .pre .0 .few, c .loss-of .ensures, loss-le (s .args .m .p) (s .args .m .eps) (c .before .nearest-record .result .size) (s .pre .0 .cut)) }
+    record { fits = omega (arith, p .loop .inv .0 .small, p .loop .inv .0 .few, s .pre .0 .few, c .loss-of .ensures, loss-le (s .args .m .p) (s .args .m .eps) (c .before .nearest-line .result .size) (s .pre .0 .cut)) }
 
 add-i : tie.Need-add-i Inv-loop μ-loop
 add-i c = record { fits = omega arith }
@@ -67,7 +67,7 @@ loop-again c =
     let s = p .before .before .before .before .before in
     let a = s .args in
     let i = p .loop .i in
-    let near = c .before .nearest-record in
+    let near = c .before .nearest-line in
     let e : near .result .size ≡ least (sizeAt (a .m) (a .v .now) (pointAt (a .s .now) i)) (a .m .n) =
     near .ensures .1 ∙ ap (λ (f : ℕ → ℕ). least f (a .m .n)) (sizes-at (a .m) (a .s .now) i (p .before .power .result) (p .loop .inv .1) (a .v .now))
     in (
@@ -96,7 +96,7 @@ cost-sum-spec =
     power-requires
     loop-holds
     returns
-    nearest-record-requires
+    nearest-line-requires
     loss-of-requires
     add-sum
     add-i

@@ -12,37 +12,37 @@ use Rattle.model.proofs.Sizes.{sizes-at}
 use Rattle.model.proofs.residual.label_record.Statement.{statement}
 use Rattle.model.proofs.residual.label_record.Tie as tie
 
-cast-nearest-record : tie.Need-cast-nearest-record
-cast-nearest-record c = search needs
+cast-nearest-line : tie.Need-cast-nearest-line
+cast-nearest-line c = search needs
 
-cast-nearest-record-2 : tie.Need-cast-nearest-record-2
-cast-nearest-record-2 c = search needs
+cast-nearest-line-2 : tie.Need-cast-nearest-line-2
+cast-nearest-line-2 c = search needs
 
-nearest-record-requires : tie.Need-nearest-record-requires
-nearest-record-requires c κs = search needs
+nearest-line-requires : tie.Need-nearest-line-requires
+nearest-line-requires c κs = search needs
 
 cast-if1 : tie.Need-cast-if1
 cast-if1 c = search needs
 
 -- what the nearest line is, in the definition's words
-module _ (c : tie.After-nearest-record) where
+module _ (c : tie.After-nearest-line) where
   abbrev start : tie.Start
   start = c .before .before .before .before
 
   abbrev sizes : ℕ → ℕ
   sizes = sizeAt (start .args .m) (start .args .v .now) (pointAt (start .args .s .now) (start .args .i))
 
-  line-is : c .nearest-record .result .line ≡ firstLeast sizes (start .args .m .n)
+  line-is : c .nearest-line .result .line ≡ firstLeast sizes (start .args .m .n)
   line-is =
       let a = start .args in
-      c .nearest-record .ensures .0 ∙ ap (λ (f : ℕ → ℕ). firstLeast f (a .m .n)) (sizes-at (a .m) (a .s .now) (a .i) (a .power) (start .pre .3) (a .v .now))
+      c .nearest-line .ensures .0 ∙ ap (λ (f : ℕ → ℕ). firstLeast f (a .m .n)) (sizes-at (a .m) (a .s .now) (a .i) (a .power) (start .pre .3) (a .v .now))
 
-  size-is : c .nearest-record .result .size ≡ least sizes (start .args .m .n)
+  size-is : c .nearest-line .result .size ≡ least sizes (start .args .m .n)
   size-is =
       let a = start .args in
-      c .nearest-record .ensures .1 ∙ ap (λ (f : ℕ → ℕ). least f (a .m .n)) (sizes-at (a .m) (a .s .now) (a .i) (a .power) (start .pre .3) (a .v .now))
+      c .nearest-line .ensures .1 ∙ ap (λ (f : ℕ → ℕ). least f (a .m .n)) (sizes-at (a .m) (a .s .now) (a .i) (a .power) (start .pre .3) (a .v .now))
 
-  line-small : c .nearest-record .result .line < 4
+  line-small : c .nearest-line .result .line < 4
   line-small = omega (arith, line-is, first-least-below sizes (start .args .m .n) (start .pre .0 .lines), start .pre .0 .most)
 
 add-result : tie.Need-add-result
@@ -56,7 +56,7 @@ unfolding label
 returns c =
     let e = c .before .before .before .before in
     let h : least (sizes e) (start e .args .m .n) ≤ start e .args .m .eps = omega (arith, size-is e, c .before .if1 .taken) in
-    simp (le-leb _ _ h) (add-one (e .nearest-record .result .line) ∙ ap suc (line-is e))
+    simp (le-leb _ _ h) (add-one (e .nearest-line .result .line) ∙ ap suc (line-is e))
 
 returns-2 : tie.Need-returns-2
 unfolding label
@@ -69,9 +69,9 @@ pub label-record-spec : {M : Type 1} → statement M
 label-record-spec =
     tie.close
     (tie.spec
-    cast-nearest-record
-    cast-nearest-record-2
-    nearest-record-requires
+    cast-nearest-line
+    cast-nearest-line-2
+    nearest-line-requires
     cast-if1
     add-result
     cast-result
