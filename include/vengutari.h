@@ -1,0 +1,61 @@
+/* The line fitter, for C and everything that speaks C. Link target/staticlib/libcapi.a, which `rt staticlib capi` writes.
+ *
+ * Each call returns a code:
+ *   0         accepted
+ *   1 to 12   refused, by the number of the paper's table of refusals
+ *   255       a buffer has the wrong length; looked at before everything else
+ *
+ * Results go into memory that the caller lends. A call that is not accepted leaves it as it is, with one exception: where the code is 7 (an x
+ * after the d-th is not 0), *value is the number of that record.
+ *
+ * A length counts elements, not bytes. No pointer is null, each points to as many elements as its length says, and what one argument
+ * lends for writing no other argument reaches. Nothing is allocated or kept, so calls on different memory may run at the same time.
+ *
+ * store    point records of 12 bytes, 1 to 4,096 of them
+ * n, d     lines (1 to 4) and x used (1 to 4), n * d at most 8
+ * scale    S, 0 to 15: a parameter w stands for w / 2^S
+ * p, eps   the loss (0, 1 or 2) and its threshold (0 to 16,777,215, at least 1 where p is 1 or 2)
+ * vector   8 numbers, line after line, d each; those after n * d are 0
+ * corners  a box, 16 numbers: its low vector, then its high vector
+ */
+#ifndef VENGUTARI_H
+#define VENGUTARI_H
+
+#include <stddef.h>
+#include <stdint.h>
+
+#ifdef __cplusplus
+extern "C" {
+#endif
+
+/* A buffer of the wrong length: no refusal of the paper. */
+#define VENGUTARI_WRONG_LENGTH 255u
+
+/* The loss of a residual e. Refusal 4. */
+uint32_t vengutari_loss(uint8_t p, uint32_t eps, int64_t e, uint64_t *value);
+
+/* The cost of a vector. Refusals 1 to 4, 6 and 7; 255 where vector_len is not 8. */
+uint32_t vengutari_cost(const uint8_t *store, size_t store_len, uint8_t n, uint8_t d, uint8_t scale, uint8_t p, uint32_t eps,
+                        const int16_t *vector, size_t vector_len, uint64_t *value);
+
+/* The bound of a box. Refusals 1 to 5 and 7; 255 where corners_len is not 16. */
+uint32_t vengutari_bound(const uint8_t *store, size_t store_len, uint8_t n, uint8_t d, uint8_t scale, uint8_t p, uint32_t eps,
+                         const int16_t *corners, size_t corners_len, uint64_t *value);
+
+/* Splits one box: halves takes the left one in its first 16 numbers and the right one in the next 16, and keeps its rest.
+ * Refusals 2 and 5; 255 where corners_len is not 16 or halves_len is below 32. */
+uint32_t vengutari_split(uint8_t n, uint8_t d, const int16_t *corners, size_t corners_len, int16_t *halves, size_t halves_len);
+
+/* One label for each point, 1 to n or 0, into the front of labels, whose rest is kept; *value is how many.
+ * Refusals 1 to 4, 6, 7 and 10; 255 where vector_len is not 8. */
+uint32_t vengutari_labels(const uint8_t *store, size_t store_len, uint8_t n, uint8_t d, uint8_t scale, uint8_t p, uint32_t eps,
+                          const int16_t *vector, size_t vector_len, uint8_t *labels, size_t labels_len, uint64_t *value);
+
+/* Copies a beacon into the store from byte mark on; *value is the new mark. The store may have any length. Refusals 1, 10 and 11. */
+uint32_t vengutari_take_in(uint8_t *store, size_t store_len, size_t mark, const uint8_t *beacon, size_t beacon_len, uint64_t *value);
+
+#ifdef __cplusplus
+}
+#endif
+
+#endif
