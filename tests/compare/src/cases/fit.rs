@@ -1,0 +1,41 @@
+//! The program fit: one line for any input.
+
+use super::{hex, with_case, Outcome};
+use crate::calls::Calls;
+use crate::inputs::{self, Input};
+use crate::lent::same;
+use crate::random::Random;
+
+fn input_of(case: &Input) -> Vec<u8> {
+    let mut input = oracle::write_job(&case.job).to_vec();
+    input.extend(&case.store);
+    input
+}
+
+fn compare(calls: &dyn Calls, input: &[u8]) -> Outcome {
+    let written = calls.fit(input);
+    let outcome = same("output", String::from_utf8_lossy(&written).as_ref(), oracle::fit(input).as_str());
+    with_case(outcome, || format!("  input of {} bytes: {}", input.len(), hex(input)))
+}
+
+/// Sound jobs on small boxes.
+pub fn sound(calls: &dyn Calls, random: &mut Random) -> Outcome {
+    let mut case = inputs::small(random, 5000);
+    case.job.budget = random.pick(&[0, 3, 50, 5000]);
+    case.job.rows = random.pick(&[1, 2, 8, 100, 2047, 2048]);
+    case.job.t = random.pick(&[0, 0, 1, 10]);
+    compare(calls, &input_of(&case))
+}
+
+/// Jobs with damage, rows out of range and inputs cut short.
+pub fn any(calls: &dyn Calls, random: &mut Random) -> Outcome {
+    let mut case = inputs::any(random);
+    case.store.truncate(random.pick(&[600, 600, 600, usize::MAX]));
+    case.job.budget = random.below(4) as u32;
+    case.job.rows = random.pick(&[1, 4, 2048, 0, 2049, 65_537, u32::MAX]);
+    let mut input = input_of(&case);
+    if random.once_in(8) {
+        input.truncate(random.pick(&[0, 1, 71, 72, 73, 83]));
+    }
+    compare(calls, &input)
+}
