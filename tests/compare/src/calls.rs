@@ -24,9 +24,11 @@ pub struct Found {
 pub trait Calls {
     fn loss(&self, p: u8, epsilon: u32, e: i64, value: &mut u64) -> u32;
     fn cost(&self, store: &[u8], model: &Model, vector: &[i16], value: &mut u64) -> u32;
-    fn bound(&self, store: &[u8], model: &Model, low: &[i16], high: &[i16], value: &mut u64) -> u32;
-    /// `halves` takes the left low, left high, right low and right high vectors.
-    fn split(&self, n: u8, d: u8, low: &[i16], high: &[i16], halves: &mut [i16; 32]) -> u32;
+    /// `corners` is a row: the low vector, then the high one.
+    fn bound(&self, store: &[u8], model: &Model, corners: &[i16], value: &mut u64) -> u32;
+    /// The left row and then the right one go into the front of `halves`.
+    fn split(&self, n: u8, d: u8, corners: &[i16], halves: &mut [i16]) -> u32;
+    /// The value is the number of labels written.
     fn labels(&self, store: &[u8], model: &Model, vector: &[i16], labels: &mut [u8], value: &mut u64) -> u32;
     fn take_in(&self, store: &mut [u8], mark: usize, beacon: &[u8], value: &mut u64) -> u32;
     fn search(&self, store: &[u8], job: &Job, table: &mut [i16], found: &mut Found) -> u32;

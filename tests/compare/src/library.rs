@@ -22,12 +22,11 @@ extern "C" {
     #[cfg(feature = "bound")]
     fn vengutari_bound(
         store: *const u8, store_len: usize, n: u8, d: u8, s: u8, p: u8, epsilon: u32,
-        low: *const i16, low_len: usize, high: *const i16, high_len: usize, value: *mut u64,
+        corners: *const i16, corners_len: usize, value: *mut u64,
     ) -> u32;
     #[cfg(feature = "split")]
     fn vengutari_split(
-        n: u8, d: u8, low: *const i16, low_len: usize, high: *const i16, high_len: usize,
-        halves: *mut i16, halves_len: usize,
+        n: u8, d: u8, corners: *const i16, corners_len: usize, halves: *mut i16, halves_len: usize,
     ) -> u32;
     #[cfg(feature = "labels")]
     fn vengutari_labels(
@@ -65,17 +64,16 @@ impl Calls for Library {
         ))
     }
 
-    fn bound(&self, store: &[u8], model: &Model, low: &[i16], high: &[i16], value: &mut u64) -> u32 {
+    fn bound(&self, store: &[u8], model: &Model, corners: &[i16], value: &mut u64) -> u32 {
         let Model { n, d, s, p, epsilon } = *model;
         exported!("bound", vengutari_bound(
-            store.as_ptr(), store.len(), n, d, s, p, epsilon,
-            low.as_ptr(), low.len(), high.as_ptr(), high.len(), value,
+            store.as_ptr(), store.len(), n, d, s, p, epsilon, corners.as_ptr(), corners.len(), value,
         ))
     }
 
-    fn split(&self, n: u8, d: u8, low: &[i16], high: &[i16], halves: &mut [i16; 32]) -> u32 {
+    fn split(&self, n: u8, d: u8, corners: &[i16], halves: &mut [i16]) -> u32 {
         exported!("split", vengutari_split(
-            n, d, low.as_ptr(), low.len(), high.as_ptr(), high.len(), halves.as_mut_ptr(), halves.len(),
+            n, d, corners.as_ptr(), corners.len(), halves.as_mut_ptr(), halves.len(),
         ))
     }
 

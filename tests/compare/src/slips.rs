@@ -122,10 +122,6 @@ fn settle(result: Result<u64, Refusal>, value: &mut u64) -> u32 {
     }
 }
 
-fn eight(vector: &[i16]) -> Option<Vector> {
-    vector.try_into().ok()
-}
-
 impl StandIn {
     fn slips(&self, slip: Slip) -> bool {
         self.slip == slip
@@ -136,7 +132,14 @@ impl StandIn {
         if self.slips(WrongLengthTaken) {
             return Some(std::array::from_fn(|k| vector.get(k).copied().unwrap_or(0)));
         }
-        eight(vector)
+        vector.try_into().ok()
+    }
+
+    /// A box from sixteen coordinates.
+    fn row(&self, corners: &[i16]) -> Option<Box8> {
+        let half = corners.len() / 2;
+        let domain = Box8 { low: self.eight(&corners[..half])?, high: self.eight(&corners[half..])? };
+        Some(domain)
     }
 
     fn cut(&self, domain: &Box8) -> (Box8, Box8) {
@@ -304,17 +307,18 @@ impl Calls for StandIn {
         code
     }
 
-    fn bound(&self, store: &[u8], model: &Model, low: &[i16], high: &[i16], value: &mut u64) -> u32 {
-        let (Some(low), Some(high)) = (self.eight(low), self.eight(high)) else {
+    fn bound(&self, store: &[u8], model: &Model, corners: &[i16], value: &mut u64) -> u32 {
+        let Some(domain) = self.row(corners) else {
             return WRONG_LENGTH;
         };
-        let domain = Box8 { low, high };
         let checked = oracle::bound(model, store, &domain);
         settle(checked.map(|_| self.bound_of(model, &points_of(store), &domain)), value)
     }
 
-    fn split(&self, n: u8, d: u8, low: &[i16], high: &[i16], halves: &mut [i16; 32]) -> u32 {
-        let domain = Box8 { low: eight(low).unwrap(), high: eight(high).unwrap() };
+    fn split(&self, n: u8, d: u8, corners: &[i16], halves: &mut [i16]) -> u32 {
+        let Some(domain) = self.row(corners).filter(|_| halves.len() >= 32) else {
+            return WRONG_LENGTH;
+        };
         let result = match self.slip {
             OneVectorIsSplit => check_shape(n, d).and_then(|()| check_box(&domain, (n * d) as usize)),
             _ => oracle::split(n, d, &domain).map(|_| ()),
@@ -322,7 +326,7 @@ impl Calls for StandIn {
         match result {
             Ok(()) => {
                 let (left, right) = self.cut(&domain);
-                halves.copy_from_slice(&[left.low, left.high, right.low, right.high].concat());
+                halves[..32].copy_from_slice(&[left.low, left.high, right.low, right.high].concat());
                 0
             }
             Err(refusal) => refusal.number() as u32,

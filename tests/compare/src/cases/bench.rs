@@ -17,6 +17,10 @@ fn vector(used: &[i16]) -> [i16; 8] {
     std::array::from_fn(|k| used.get(k).copied().unwrap_or(0))
 }
 
+fn row(low: &[i16], high: &[i16]) -> Vec<i16> {
+    [vector(low), vector(high)].concat()
+}
+
 fn one_line(s: u8, p: u8, epsilon: u32) -> Model {
     Model { n: 1, d: 1, s, p, epsilon }
 }
@@ -54,7 +58,7 @@ pub fn d(calls: &dyn Calls, _: &mut Random) -> Outcome {
     for (low, high, least) in [(-1, 3, 0), (1, 3, 3), (-3, -2, 3)] {
         let mut value = 9;
         let model = one_line(0, 1, 1000);
-        let code = calls.bound(&store(&[(-2, 1)]), &model, &vector(&[low]), &vector(&[high]), &mut value);
+        let code = calls.bound(&store(&[(-2, 1)]), &model, &row(&[low], &[high]), &mut value);
         same("fit D", (code, value), (0, least))?;
     }
     Ok(())
@@ -62,15 +66,15 @@ pub fn d(calls: &dyn Calls, _: &mut Random) -> Outcome {
 
 pub fn e(calls: &dyn Calls, _: &mut Random) -> Outcome {
     let mut halves = [9; 32];
-    let code = calls.split(1, 1, &vector(&[-3]), &vector(&[-2]), &mut halves);
-    let expected = [vector(&[-3]), vector(&[-3]), vector(&[-2]), vector(&[-2])].concat();
+    let code = calls.split(1, 1, &row(&[-3], &[-2]), &mut halves);
+    let expected = [row(&[-3], &[-3]), row(&[-2], &[-2])].concat();
     same("fit E", (code, &halves[..]), (0, &expected[..]))
 }
 
 pub fn f(calls: &dyn Calls, _: &mut Random) -> Outcome {
     let mut halves = [9; 32];
-    let code = calls.split(1, 2, &vector(&[0, 0]), &vector(&[4, 4]), &mut halves);
-    let expected = [vector(&[0, 0]), vector(&[2, 4]), vector(&[3, 0]), vector(&[4, 4])].concat();
+    let code = calls.split(1, 2, &row(&[0, 0], &[4, 4]), &mut halves);
+    let expected = [row(&[0, 0], &[2, 4]), row(&[3, 0], &[4, 4])].concat();
     same("fit F", (code, &halves[..]), (0, &expected[..]))
 }
 

@@ -5,7 +5,7 @@ use crate::calls::{Calls, WRONG_LENGTH};
 use crate::inputs::{any, Input};
 use crate::lent::{same, Lent};
 use crate::random::Random;
-use oracle::Refusal;
+use oracle::Box8;
 
 pub fn loss(calls: &dyn Calls, random: &mut Random) -> Outcome {
     let p = random.pick(&[0, 0, 1, 1, 2, 2, 2, 3, 255]);
@@ -25,17 +25,22 @@ pub fn loss(calls: &dyn Calls, random: &mut Random) -> Outcome {
     with_case(outcome, || format!("  p = {p}, epsilon = {epsilon}, e = {e}"))
 }
 
-/// A vector of a wrong length, once in a while: longer or shorter than eight.
-fn other_length(random: &mut Random, vector: &[i16]) -> Vec<i16> {
-    let mut other = vector.to_vec();
+/// Another number of elements than the call takes, once in a while.
+fn other_length(random: &mut Random, numbers: &[i16]) -> Vec<i16> {
+    let mut other = numbers.to_vec();
     if random.once_in(20) {
-        other.resize(random.pick(&[0, 1, 4, 7, 9, 16]), 0);
+        let length = numbers.len();
+        other.resize(random.pick(&[0, 1, length / 2, length - 1, length + 1, 2 * length]), 0);
     }
     other
 }
 
-fn with_vectors(input: &Input, vectors: &[&[i16]]) -> String {
-    format!("{input}\n  vectors as given: {vectors:?}")
+fn row_of(domain: &Box8) -> Vec<i16> {
+    [domain.low, domain.high].concat()
+}
+
+fn with_numbers(input: &Input, numbers: &[i16]) -> String {
+    format!("{input}\n  numbers as given: {numbers:?}")
 }
 
 pub fn cost(calls: &dyn Calls, random: &mut Random) -> Outcome {
@@ -48,22 +53,21 @@ pub fn cost(calls: &dyn Calls, random: &mut Random) -> Outcome {
         Ok(eight) => same_answer(code, value, was, oracle::cost(&input.job.model, &input.store, eight)),
         Err(_) => same("answer", code, WRONG_LENGTH).and(same("value", value, was)),
     };
-    with_case(outcome, || with_vectors(&input, &[&vector]))
+    with_case(outcome, || with_numbers(&input, &vector))
 }
 
 pub fn bound(calls: &dyn Calls, random: &mut Random) -> Outcome {
     let input = any(random);
-    let domain = &input.job.domain;
-    let (low, high) = (other_length(random, &domain.low), other_length(random, &domain.high));
+    let corners = other_length(random, &row_of(&input.job.domain));
     let was = random.next();
     let mut value = was;
-    let code = calls.bound(&input.store, &input.job.model, &low, &high, &mut value);
-    let outcome = if low.len() == 8 && high.len() == 8 {
-        same_answer(code, value, was, oracle::bound(&input.job.model, &input.store, domain))
+    let code = calls.bound(&input.store, &input.job.model, &corners, &mut value);
+    let outcome = if corners.len() == 16 {
+        same_answer(code, value, was, oracle::bound(&input.job.model, &input.store, &input.job.domain))
     } else {
         same("answer", code, WRONG_LENGTH).and(same("value", value, was))
     };
-    with_case(outcome, || with_vectors(&input, &[&low, &high]))
+    with_case(outcome, || with_numbers(&input, &corners))
 }
 
 pub fn split(calls: &dyn Calls, random: &mut Random) -> Outcome {
@@ -80,16 +84,23 @@ pub fn split(calls: &dyn Calls, random: &mut Random) -> Outcome {
         _ => {}
     }
     let (n, d) = (input.job.model.n, input.job.model.d);
-    let was: [i16; 32] = std::array::from_fn(|_| random.next() as i16);
-    let mut halves = was;
-    let code = calls.split(n, d, &domain.low, &domain.high, &mut halves);
-    let expected = oracle::split(n, d, domain);
-    let after = match &expected {
-        Ok((left, right)) => [left.low, left.high, right.low, right.high].concat(),
-        Err(_) => was.to_vec(),
+    let corners = other_length(random, &row_of(domain));
+    let length = random.pick(&[32, 32, 32, 32, 32, 32, 33, 48, 31, 16, 0]);
+    let mut halves = Lent::new(length, |count| random.numbers(count));
+    let code = calls.split(n, d, &corners, halves.part());
+    let mut after = halves.was().to_vec();
+    let answer = if corners.len() != 16 || length < 32 {
+        WRONG_LENGTH
+    } else {
+        let expected = oracle::split(n, d, domain);
+        if let Ok((left, right)) = &expected {
+            after[..16].copy_from_slice(&row_of(left));
+            after[16..32].copy_from_slice(&row_of(right));
+        }
+        number(&expected)
     };
-    let outcome = same("answer", code, number(&expected)).and(same("halves", &halves[..], &after[..]));
-    with_case(outcome, || format!("  n = {n}, d = {d}, {domain:?}"))
+    let outcome = same("answer", code, answer).and(halves.holds("halves", &after));
+    with_case(outcome, || format!("  n = {n}, d = {d}, {domain:?}\n  corners as given: {corners:?}, halves lent: {length}"))
 }
 
 pub fn labels(calls: &dyn Calls, random: &mut Random) -> Outcome {
@@ -118,15 +129,10 @@ pub fn labels(calls: &dyn Calls, random: &mut Random) -> Outcome {
     let outcome = match <&[i16; 8]>::try_from(&vector[..]) {
         Ok(eight) => {
             let expected = oracle::labels(&input.job.model, &input.store, eight, &mut after);
-            same_answer(code, value, was, labels_value(expected, was))
+            same_answer(code, value, was, expected.map(|count| count as u64))
         }
         Err(_) => same("answer", code, WRONG_LENGTH).and(same("value", value, was)),
     };
     let outcome = outcome.and(lent.holds("labels", &after));
-    with_case(outcome, || format!("{}\n  labels lent: {length}", with_vectors(&input, &[&vector])))
-}
-
-/// What the labelling call gives as its value.
-fn labels_value(expected: Result<usize, Refusal>, _was: u64) -> Result<u64, Refusal> {
-    expected.map(|count| count as u64)
+    with_case(outcome, || format!("{}\n  labels lent: {length}", with_numbers(&input, &vector)))
 }
