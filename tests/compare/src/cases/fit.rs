@@ -39,3 +39,19 @@ pub fn any(calls: &dyn Calls, random: &mut Random) -> Outcome {
     }
     compare(calls, &input)
 }
+
+fn example(calls: &dyn Calls, name: &str) -> Outcome {
+    let folder = std::path::Path::new(env!("CARGO_MANIFEST_DIR")).join("../../examples");
+    let input = std::fs::read(folder.join(name).with_extension("job")).map_err(|error| error.to_string())?;
+    let line = std::fs::read_to_string(folder.join(name).with_extension("out")).map_err(|error| error.to_string())?;
+    same(name, String::from_utf8_lossy(&calls.fit(&input)).as_ref(), line.as_str())
+}
+
+/// The examples, with the lines that stand beside them.
+pub fn modes_2d(calls: &dyn Calls, _: &mut Random) -> Outcome {
+    example(calls, "modes_2d")
+}
+
+pub fn modes_4d(calls: &dyn Calls, _: &mut Random) -> Outcome {
+    example(calls, "modes_4d")
+}

@@ -65,6 +65,8 @@ pub const GROUPS: &[Group] = &[
     group!("read_line", "read_line", 3000, lines::read_line),
     group!("fit-any", "fit", 600, fit::any),
     group!("fit-sound", "fit", 400, fit::sound),
+    group!("example-modes_2d", "fit", 1, fit::modes_2d),
+    group!("example-modes_4d", "fit", 1, fit::modes_4d),
 ];
 
 /// Compares a call's answer and value; `was` is the value that was lent.
