@@ -84,10 +84,7 @@ fn record_count(random: &mut Random) -> usize {
 
 fn domain_around(random: &mut Random, model: &Model, size: Size) -> Box8 {
     let (one, other) = (vector(random, model.used(), size), vector(random, model.used(), size));
-    Box8 {
-        low: std::array::from_fn(|k| one[k].min(other[k])),
-        high: std::array::from_fn(|k| one[k].max(other[k])),
-    }
+    Box8 { low: std::array::from_fn(|k| one[k].min(other[k])), high: std::array::from_fn(|k| one[k].max(other[k])) }
 }
 
 fn inside(random: &mut Random, domain: &Box8) -> Vector {

@@ -16,27 +16,68 @@ extern "C" {
     fn vengutari_loss(p: u8, epsilon: u32, e: i64, value: *mut u64) -> u32;
     #[cfg(feature = "cost")]
     fn vengutari_cost(
-        store: *const u8, store_len: usize, n: u8, d: u8, s: u8, p: u8, epsilon: u32,
-        vector: *const i16, vector_len: usize, value: *mut u64,
+        store: *const u8,
+        store_len: usize,
+        n: u8,
+        d: u8,
+        s: u8,
+        p: u8,
+        epsilon: u32,
+        vector: *const i16,
+        vector_len: usize,
+        value: *mut u64,
     ) -> u32;
     #[cfg(feature = "bound")]
     fn vengutari_bound(
-        store: *const u8, store_len: usize, n: u8, d: u8, s: u8, p: u8, epsilon: u32,
-        corners: *const i16, corners_len: usize, value: *mut u64,
+        store: *const u8,
+        store_len: usize,
+        n: u8,
+        d: u8,
+        s: u8,
+        p: u8,
+        epsilon: u32,
+        corners: *const i16,
+        corners_len: usize,
+        value: *mut u64,
     ) -> u32;
     #[cfg(feature = "split")]
     fn vengutari_split(
-        n: u8, d: u8, corners: *const i16, corners_len: usize, halves: *mut i16, halves_len: usize,
+        n: u8,
+        d: u8,
+        corners: *const i16,
+        corners_len: usize,
+        halves: *mut i16,
+        halves_len: usize,
     ) -> u32;
     #[cfg(feature = "labels")]
     fn vengutari_labels(
-        store: *const u8, store_len: usize, n: u8, d: u8, s: u8, p: u8, epsilon: u32,
-        vector: *const i16, vector_len: usize, labels: *mut u8, labels_len: usize, value: *mut u64,
+        store: *const u8,
+        store_len: usize,
+        n: u8,
+        d: u8,
+        s: u8,
+        p: u8,
+        epsilon: u32,
+        vector: *const i16,
+        vector_len: usize,
+        labels: *mut u8,
+        labels_len: usize,
+        value: *mut u64,
     ) -> u32;
     #[cfg(feature = "take_in")]
     fn vengutari_take_in(
-        store: *mut u8, store_len: usize, mark: usize, beacon: *const u8, beacon_len: usize, value: *mut u64,
+        store: *mut u8,
+        store_len: usize,
+        mark: usize,
+        beacon: *const u8,
+        beacon_len: usize,
+        value: *mut u64,
     ) -> u32;
+}
+
+#[allow(dead_code)]
+fn off(call: &str) -> u32 {
+    panic!("{call} is not in the list of exported calls")
 }
 
 /// A call of the library where it is exported; groups of other calls are off.
@@ -45,8 +86,7 @@ macro_rules! exported {
         #[cfg(feature = $feature)]
         let code = unsafe { $call };
         #[cfg(not(feature = $feature))]
-        let code = unreachable!(concat!($feature, " is not in the list of exported calls"));
-        #[allow(unreachable_code)]
+        let code = off($feature);
         code
     }};
 }
@@ -59,36 +99,50 @@ impl Calls for Library {
 
     fn cost(&self, store: &[u8], model: &Model, vector: &[i16], value: &mut u64) -> u32 {
         let Model { n, d, s, p, epsilon } = *model;
-        exported!("cost", vengutari_cost(
-            store.as_ptr(), store.len(), n, d, s, p, epsilon, vector.as_ptr(), vector.len(), value,
-        ))
+        exported!(
+            "cost",
+            vengutari_cost(store.as_ptr(), store.len(), n, d, s, p, epsilon, vector.as_ptr(), vector.len(), value,)
+        )
     }
 
     fn bound(&self, store: &[u8], model: &Model, corners: &[i16], value: &mut u64) -> u32 {
         let Model { n, d, s, p, epsilon } = *model;
-        exported!("bound", vengutari_bound(
-            store.as_ptr(), store.len(), n, d, s, p, epsilon, corners.as_ptr(), corners.len(), value,
-        ))
+        exported!(
+            "bound",
+            vengutari_bound(store.as_ptr(), store.len(), n, d, s, p, epsilon, corners.as_ptr(), corners.len(), value,)
+        )
     }
 
     fn split(&self, n: u8, d: u8, corners: &[i16], halves: &mut [i16]) -> u32 {
-        exported!("split", vengutari_split(
-            n, d, corners.as_ptr(), corners.len(), halves.as_mut_ptr(), halves.len(),
-        ))
+        exported!("split", vengutari_split(n, d, corners.as_ptr(), corners.len(), halves.as_mut_ptr(), halves.len(),))
     }
 
     fn labels(&self, store: &[u8], model: &Model, vector: &[i16], labels: &mut [u8], value: &mut u64) -> u32 {
         let Model { n, d, s, p, epsilon } = *model;
-        exported!("labels", vengutari_labels(
-            store.as_ptr(), store.len(), n, d, s, p, epsilon, vector.as_ptr(), vector.len(),
-            labels.as_mut_ptr(), labels.len(), value,
-        ))
+        exported!(
+            "labels",
+            vengutari_labels(
+                store.as_ptr(),
+                store.len(),
+                n,
+                d,
+                s,
+                p,
+                epsilon,
+                vector.as_ptr(),
+                vector.len(),
+                labels.as_mut_ptr(),
+                labels.len(),
+                value,
+            )
+        )
     }
 
     fn take_in(&self, store: &mut [u8], mark: usize, beacon: &[u8], value: &mut u64) -> u32 {
-        exported!("take_in", vengutari_take_in(
-            store.as_mut_ptr(), store.len(), mark, beacon.as_ptr(), beacon.len(), value,
-        ))
+        exported!(
+            "take_in",
+            vengutari_take_in(store.as_mut_ptr(), store.len(), mark, beacon.as_ptr(), beacon.len(), value,)
+        )
     }
 
     fn search(&self, store: &[u8], job: &Job, table: &mut [i16], found: &mut Found) -> u32 {

@@ -79,18 +79,37 @@ const SLIPS: &[(&str, &[Slip])] = &[
     ("bound", &[PairsLowWithLow, WrongLengthTaken]),
     ("loss", &[SquaresBeforeTheCut, EpsilonItselfIsOut, LeastI64]),
     ("cost", &[CostAtRefusal, StrayFieldByField, StrayWithoutRecord, WrongLengthTaken]),
-    ("labels", &[
-        EpsilonItselfIsOut, LabelsWithoutThreshold, LabelsHighestAmongEquals, LabelsClearTheRest,
-        WrongLengthTaken,
-    ]),
+    (
+        "labels",
+        &[EpsilonItselfIsOut, LabelsWithoutThreshold, LabelsHighestAmongEquals, LabelsClearTheRest, WrongLengthTaken],
+    ),
     ("take_in", &[Beacon250, BeaconBeforeShort, MarkUnchecked, StorePastItsLimit]),
-    ("search", &[
-        HalvesTowardZero, PairsLowWithLow, DropsByUnreachedC, StartBeforeBox, TableBeforeStray,
-        CutsHighestCoordinate, TakesLastSmallest, KeepsEqualBounds, EqualCostBecomesBest,
-        RightChildUncosted, SpentBeforeSolved, FullStateAfterStep, PeakOfRefusedStep, PeakIsOpen,
-        BoundIsZero, CountOneMore, NeverSplits, PartialRowUsed, RowsPastPeakWritten, RowsNotWritten,
-        RowsReversed,
-    ]),
+    (
+        "search",
+        &[
+            HalvesTowardZero,
+            PairsLowWithLow,
+            DropsByUnreachedC,
+            StartBeforeBox,
+            TableBeforeStray,
+            CutsHighestCoordinate,
+            TakesLastSmallest,
+            KeepsEqualBounds,
+            EqualCostBecomesBest,
+            RightChildUncosted,
+            SpentBeforeSolved,
+            FullStateAfterStep,
+            PeakOfRefusedStep,
+            PeakIsOpen,
+            BoundIsZero,
+            CountOneMore,
+            NeverSplits,
+            PartialRowUsed,
+            RowsPastPeakWritten,
+            RowsNotWritten,
+            RowsReversed,
+        ],
+    ),
     ("read_job", &[JobFieldsSwapped, JobLittleEndian]),
     ("write_job", &[JobFieldsSwapped]),
     ("write_answer", &[AnswerLittleEndian, AnswerLimitIsPowerOfTwo, AnswerLOverC, AnswerShortBeforeCheck]),
@@ -498,7 +517,9 @@ impl Calls for StandIn {
         match self.slip {
             FitWithoutLineEnd => drop(line.pop()),
             FitWithRecord if line.starts_with(b"refused 7") => line = b"refused 7 0\n".to_vec(),
-            FitAllCoordinates if line.starts_with(b"solved") => line.splice(line.len() - 1.., *b",0\n").for_each(drop),
+            FitAllCoordinates if line.starts_with(b"solved") => {
+                line.splice(line.len() - 1.., *b",0\n").for_each(drop)
+            }
             _ => {}
         }
         line

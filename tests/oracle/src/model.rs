@@ -204,10 +204,8 @@ mod tests {
     fn shapes() {
         let accepted = (0..=255_u8).flat_map(|n| (0..=255_u8).map(move |d| (n, d)));
         let accepted: Vec<_> = accepted.filter(|&(n, d)| check_shape(n, d).is_ok()).collect();
-        let expected = [
-            (1, 1), (1, 2), (1, 3), (1, 4), (2, 1), (2, 2), (2, 3), (2, 4),
-            (3, 1), (3, 2), (4, 1), (4, 2),
-        ];
+        let expected =
+            [(1, 1), (1, 2), (1, 3), (1, 4), (2, 1), (2, 2), (2, 3), (2, 4), (3, 1), (3, 2), (4, 1), (4, 2)];
         assert_eq!(accepted, expected);
     }
 

@@ -79,9 +79,8 @@ pub fn write_job(job: &Job) -> [u8; JOB] {
 
 /// Check 9, but for the length.
 pub fn check_answer(answer: &AnswerRecord) -> Result<(), Refusal> {
-    let out_of_range = !(1..=3).contains(&answer.kind)
-        || check_shape(answer.n, answer.d).is_err()
-        || check_scale(answer.s).is_err();
+    let out_of_range =
+        !(1..=3).contains(&answer.kind) || check_shape(answer.n, answer.d).is_err() || check_scale(answer.s).is_err();
     refuse_if(out_of_range, Refusal::Answer)?;
     let unused = check_unused(&answer.vector, answer.n as usize * answer.d as usize).is_err();
     refuse_if(unused || answer.l > answer.c || answer.c > COST_LIMIT, Refusal::Answer)

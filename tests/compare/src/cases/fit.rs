@@ -27,15 +27,17 @@ pub fn sound(calls: &dyn Calls, random: &mut Random) -> Outcome {
     compare(calls, &input_of(&case))
 }
 
-/// Jobs with damage, rows out of range and inputs cut short.
+/// Jobs with damage, rows out of range, inputs cut short and inputs of great length.
 pub fn any(calls: &dyn Calls, random: &mut Random) -> Outcome {
     let mut case = inputs::any(random);
     case.store.truncate(random.pick(&[600, 600, 600, usize::MAX]));
     case.job.budget = random.below(4) as u32;
     case.job.rows = random.pick(&[1, 4, 2048, 0, 2049, 65_537, u32::MAX]);
     let mut input = input_of(&case);
-    if random.once_in(8) {
-        input.truncate(random.pick(&[0, 1, 71, 72, 73, 83]));
+    match random.below(16) {
+        0 | 1 => input.truncate(random.pick(&[0, 1, 71, 72, 73, 83])),
+        2 => input.resize(72 + random.pick(&[49_152, 49_153, 49_164, 65_532, 65_544, 300_000]), 0),
+        _ => {}
     }
     compare(calls, &input)
 }

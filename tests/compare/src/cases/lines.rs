@@ -30,7 +30,8 @@ pub fn write_line(calls: &dyn Calls, random: &mut Random) -> Outcome {
         let mut patterns = was;
         let code = calls.write_line(d, s, &coordinates, &mut patterns);
         let expected = oracle::write_line(d, s, &coordinates);
-        let outcome = same("answer", code, number(&expected)).and(same("patterns", patterns, expected.unwrap_or(was)));
+        let outcome =
+            same("answer", code, number(&expected)).and(same("patterns", patterns, expected.unwrap_or(was)));
         with_case(outcome, || format!("  d = {d}, S = {s}, coordinates {coordinates:?}"))?;
     }
     Ok(())

@@ -100,7 +100,9 @@ pub fn split(calls: &dyn Calls, random: &mut Random) -> Outcome {
         number(&expected)
     };
     let outcome = same("answer", code, answer).and(halves.holds("halves", &after));
-    with_case(outcome, || format!("  n = {n}, d = {d}, {domain:?}\n  corners as given: {corners:?}, halves lent: {length}"))
+    with_case(outcome, || {
+        format!("  n = {n}, d = {d}, {domain:?}\n  corners as given: {corners:?}, halves lent: {length}")
+    })
 }
 
 pub fn labels(calls: &dyn Calls, random: &mut Random) -> Outcome {
