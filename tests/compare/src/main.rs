@@ -118,7 +118,8 @@ fn main() -> ExitCode {
             off.push(group.name);
             continue;
         }
-        let count = options.seeds.unwrap_or(group.cases);
+        // A group of one case does not use its seed.
+        let count = if group.cases == 1 { 1 } else { options.seeds.unwrap_or(group.cases) };
         let (more_passed, more_failed) = run_group(&calls, group, from..from + count, options.trace);
         passed += more_passed;
         failed += more_failed;
