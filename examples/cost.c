@@ -1,0 +1,63 @@
+/* The library from C: the cost of a vector, the bound of a box, and which line each point belongs to.
+ *
+ *   rt staticlib capi
+ *   cc -std=c99 -Wall -Iinclude examples/cost.c target/staticlib/libcapi.a -o target/cost && target/cost
+ */
+#include <stdio.h>
+#include "vengutari.h"
+
+#define POINTS 7
+#define RECORD 12
+
+/* Two lines through the origin, y = 2 x and y = -x, and a point off both. */
+static const int16_t points[POINTS][2] = {{1, 2}, {2, 4}, {3, 6}, {-2, 2}, {4, -4}, {5, -5}, {3, 20}};
+
+/* A point record: x1 to x4, y and the frame number, big-endian, 16 bits each. */
+static void put_record(uint8_t *record, int16_t x, int16_t y, uint16_t frame)
+{
+    const uint16_t fields[6] = {(uint16_t)x, 0, 0, 0, (uint16_t)y, frame};
+    for (int k = 0; k < 6; k++) {
+        record[2 * k] = (uint8_t)(fields[k] >> 8);
+        record[2 * k + 1] = (uint8_t)fields[k];
+    }
+}
+
+int main(void)
+{
+    uint8_t store[POINTS * RECORD];
+    for (int i = 0; i < POINTS; i++)
+        put_record(store + i * RECORD, points[i][0], points[i][1], (uint16_t)i);
+
+    /* Two lines in one dimension; coefficients are halves (scale 1); distances count up to 3, which is 6 halves. */
+    const uint8_t n = 2, d = 1, scale = 1, p = 1;
+    const uint32_t eps = 6;
+    const int16_t vector[8] = {4, -2};
+    uint64_t value = 0;
+
+    uint32_t code = vengutari_cost(store, sizeof store, n, d, scale, p, eps, vector, 8, &value);
+    if (code != 0)
+        return printf("refused %u\n", (unsigned)code), 1;
+    printf("cost %llu\n", (unsigned long long)value);
+
+    /* No vector with line 1 from 0 to 8 and line 2 from -8 to -1 is cheaper than this. */
+    const int16_t corners[16] = {0, -8, 0, 0, 0, 0, 0, 0, 8, -1};
+    code = vengutari_bound(store, sizeof store, n, d, scale, p, eps, corners, 16, &value);
+    if (code != 0)
+        return printf("refused %u\n", (unsigned)code), 1;
+    printf("bound %llu\n", (unsigned long long)value);
+
+    uint8_t labels[POINTS];
+    code = vengutari_labels(store, sizeof store, n, d, scale, p, eps, vector, 8, labels, POINTS, &value);
+    if (code != 0)
+        return printf("refused %u\n", (unsigned)code), 1;
+    printf("labels");
+    for (uint64_t i = 0; i < value; i++)
+        printf(" %u", labels[i]);
+    printf("\n");
+
+    /* A stray field: record 4 has an x2, but one dimension is used. */
+    store[4 * RECORD + 3] = 1;
+    code = vengutari_cost(store, sizeof store, n, d, scale, p, eps, vector, 8, &value);
+    printf("refused %u, record %llu\n", (unsigned)code, (unsigned long long)value);
+    return 0;
+}

@@ -1,0 +1,144 @@
+//! Do the cases notice a wrong product? Stand-ins made from the oracle, each with one slip, the paper's own
+//! "slips to expect" among them; every one must fail some case, and the one without a slip none.
+
+mod search;
+mod stand_in;
+
+use crate::cases::GROUPS;
+use crate::run_case;
+use stand_in::StandIn;
+use Slip::*;
+
+#[derive(Clone, Copy, Debug, PartialEq)]
+enum Slip {
+    None,
+    // The paper's slips to expect.
+    HalvesTowardZero,
+    PairsLowWithLow,
+    DropsByUnreachedC,
+    SquaresBeforeTheCut,
+    Beacon250,
+    // Numbers.
+    EpsilonItselfIsOut,
+    LeastI64,
+    CostAtRefusal,
+    LabelsWithoutThreshold,
+    LabelsHighestAmongEquals,
+    LabelsClearTheRest,
+    // Checks.
+    StrayFieldByField,
+    StrayWithoutRecord,
+    BeaconBeforeShort,
+    MarkUnchecked,
+    StorePastItsLimit,
+    StartBeforeBox,
+    OneVectorIsSplit,
+    TableBeforeStray,
+    WrongLengthTaken,
+    // The search.
+    CutsHighestCoordinate,
+    TakesLastSmallest,
+    KeepsEqualBounds,
+    EqualCostBecomesBest,
+    RightChildUncosted,
+    SpentBeforeSolved,
+    FullStateAfterStep,
+    PeakOfRefusedStep,
+    PeakIsOpen,
+    BoundIsZero,
+    CountOneMore,
+    NeverSplits,
+    PartialRowUsed,
+    RowsPastPeakWritten,
+    RowsNotWritten,
+    RowsReversed,
+    // Records, lines and fit.
+    JobFieldsSwapped,
+    JobLittleEndian,
+    AnswerLittleEndian,
+    AnswerLimitIsPowerOfTwo,
+    AnswerLOverC,
+    AnswerShortBeforeCheck,
+    AnswerUnusedKept,
+    NegativeZeroRead,
+    OffGridRounded,
+    LastWUnread,
+    UnusedPatternRead,
+    UnusedCoordinateWritten,
+    FitWithoutLineEnd,
+    FitWithRecord,
+    FitAllCoordinates,
+}
+
+/// Each call with the slips that its cases must notice.
+const SLIPS: &[(&str, &[Slip])] = &[
+    ("split", &[HalvesTowardZero, CutsHighestCoordinate, OneVectorIsSplit]),
+    ("bound", &[PairsLowWithLow, WrongLengthTaken]),
+    ("loss", &[SquaresBeforeTheCut, EpsilonItselfIsOut, LeastI64]),
+    ("cost", &[CostAtRefusal, StrayFieldByField, StrayWithoutRecord, WrongLengthTaken]),
+    (
+        "labels",
+        &[EpsilonItselfIsOut, LabelsWithoutThreshold, LabelsHighestAmongEquals, LabelsClearTheRest, WrongLengthTaken],
+    ),
+    ("take_in", &[Beacon250, BeaconBeforeShort, MarkUnchecked, StorePastItsLimit]),
+    (
+        "search",
+        &[
+            HalvesTowardZero,
+            PairsLowWithLow,
+            DropsByUnreachedC,
+            StartBeforeBox,
+            TableBeforeStray,
+            CutsHighestCoordinate,
+            TakesLastSmallest,
+            KeepsEqualBounds,
+            EqualCostBecomesBest,
+            RightChildUncosted,
+            SpentBeforeSolved,
+            FullStateAfterStep,
+            PeakOfRefusedStep,
+            PeakIsOpen,
+            BoundIsZero,
+            CountOneMore,
+            NeverSplits,
+            PartialRowUsed,
+            RowsPastPeakWritten,
+            RowsNotWritten,
+            RowsReversed,
+        ],
+    ),
+    ("read_job", &[JobFieldsSwapped, JobLittleEndian]),
+    ("write_job", &[JobFieldsSwapped]),
+    ("write_answer", &[AnswerLittleEndian, AnswerLimitIsPowerOfTwo, AnswerLOverC, AnswerShortBeforeCheck]),
+    ("read_answer", &[AnswerUnusedKept]),
+    ("read_line", &[NegativeZeroRead, OffGridRounded, LastWUnread, UnusedPatternRead]),
+    ("write_line", &[UnusedCoordinateWritten]),
+    ("fit", &[FitWithoutLineEnd, FitWithRecord, FitAllCoordinates]),
+];
+
+/// Whether some case of the call's groups fails for the stand-in.
+fn is_noticed(call: &str, slip: Slip) -> bool {
+    let calls = StandIn { slip };
+    let mut groups = GROUPS.iter().filter(|group| group.call == call);
+    groups.any(|group| (0..group.cases).any(|seed| run_case(&calls, group, seed).is_err()))
+}
+
+#[test]
+fn without_a_slip_no_case_fails() {
+    for group in GROUPS {
+        for seed in 0..group.cases.div_ceil(4) {
+            if let Err(report) = run_case(&StandIn { slip: Slip::None }, group, seed) {
+                panic!("{} --seed {seed}\n{report}", group.name);
+            }
+        }
+    }
+}
+
+#[test]
+fn every_slip_is_noticed() {
+    for (call, slips) in SLIPS {
+        for &slip in *slips {
+            assert!(is_noticed(call, slip), "{slip:?} is not noticed by the cases of {call}");
+        }
+    }
+}

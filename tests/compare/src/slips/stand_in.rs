@@ -1,0 +1,283 @@
+//! The calls of a stand-in: the oracle's, but for the slip.
+
+use super::Slip::{self, *};
+use crate::calls::{Calls, Found, WRONG_LENGTH};
+use oracle::boxes::check_box;
+use oracle::coefficients::{coordinate_of, pattern};
+use oracle::model::check_shape;
+use oracle::points::{check_length, points_of, Point, STORE_LIMIT};
+use oracle::records::{answer_fields, check_answer};
+use oracle::{AnswerRecord, Box8, Job, Model, Refusal, Vector};
+
+pub struct StandIn {
+    pub slip: Slip,
+}
+
+/// The number of a refusal, with the stray record's number in `value`.
+fn refused(refusal: Refusal, value: &mut u64) -> u32 {
+    if let Refusal::Stray(record) = refusal {
+        *value = record as u64;
+    }
+    refusal.number() as u32
+}
+
+fn settle(result: Result<u64, Refusal>, value: &mut u64) -> u32 {
+    match result {
+        Ok(result) => {
+            *value = result;
+            0
+        }
+        Err(refusal) => refused(refusal, value),
+    }
+}
+
+impl StandIn {
+    pub fn slips(&self, slip: Slip) -> bool {
+        self.slip == slip
+    }
+
+    /// Eight coordinates, or with a slip any number of them, filled up by zeros.
+    fn eight(&self, vector: &[i16]) -> Option<Vector> {
+        if self.slips(WrongLengthTaken) {
+            return Some(std::array::from_fn(|k| vector.get(k).copied().unwrap_or(0)));
+        }
+        vector.try_into().ok()
+    }
+
+    /// A box from sixteen coordinates.
+    fn row(&self, corners: &[i16]) -> Option<Box8> {
+        let half = corners.len() / 2;
+        let domain = Box8 { low: self.eight(&corners[..half])?, high: self.eight(&corners[half..])? };
+        Some(domain)
+    }
+}
+
+impl Calls for StandIn {
+    fn loss(&self, p: u8, epsilon: u32, e: i64, value: &mut u64) -> u32 {
+        let result = oracle::loss(p, epsilon, e).map(|loss| match self.slip {
+            SquaresBeforeTheCut if p == 2 => (e.wrapping_mul(e) as u64).min((epsilon as u64).pow(2)),
+            LeastI64 if e == i64::MIN => 0,
+            EpsilonItselfIsOut if p == 0 => (e.unsigned_abs() >= epsilon as u64) as u64,
+            _ => loss,
+        });
+        settle(result, value)
+    }
+
+    fn cost(&self, store: &[u8], model: &Model, vector: &[i16], value: &mut u64) -> u32 {
+        let Some(vector) = self.eight(vector) else {
+            return WRONG_LENGTH;
+        };
+        let was = *value;
+        let code = settle(oracle::cost(model, store, &vector), value);
+        match self.slip {
+            CostAtRefusal if code != 0 && code != 7 => *value = 0,
+            StrayWithoutRecord if code == 7 => *value = was,
+            StrayFieldByField if code == 7 => {
+                let points = points_of(store);
+                let first = |k: usize| points.iter().position(|point| point.x[k] != 0);
+                *value = (model.d as usize..4).find_map(first).unwrap() as u64;
+            }
+            _ => {}
+        }
+        code
+    }
+
+    fn bound(&self, store: &[u8], model: &Model, corners: &[i16], value: &mut u64) -> u32 {
+        let Some(domain) = self.row(corners) else {
+            return WRONG_LENGTH;
+        };
+        let checked = oracle::bound(model, store, &domain);
+        settle(checked.map(|_| self.bound_of(model, &points_of(store), &domain)), value)
+    }
+
+    fn split(&self, n: u8, d: u8, corners: &[i16], halves: &mut [i16]) -> u32 {
+        let Some(domain) = self.row(corners).filter(|_| halves.len() >= 32) else {
+            return WRONG_LENGTH;
+        };
+        let result = match self.slip {
+            OneVectorIsSplit => check_shape(n, d).and_then(|()| check_box(&domain, (n * d) as usize)),
+            _ => oracle::split(n, d, &domain).map(|_| ()),
+        };
+        match result {
+            Ok(()) => {
+                let (left, right) = self.cut(&domain);
+                halves[..32].copy_from_slice(&[left.low, left.high, right.low, right.high].concat());
+                0
+            }
+            Err(refusal) => refusal.number() as u32,
+        }
+    }
+
+    fn labels(&self, store: &[u8], model: &Model, vector: &[i16], labels: &mut [u8], value: &mut u64) -> u32 {
+        let Some(vector) = self.eight(vector) else {
+            return WRONG_LENGTH;
+        };
+        let code = settle(oracle::labels(model, store, &vector, labels).map(|count| count as u64), value);
+        if code == 0 {
+            let points = points_of(store);
+            let size = |point: &Point, j: usize| model.residual(point, &vector, j).unsigned_abs();
+            for (label, point) in labels.iter_mut().zip(&points) {
+                let last = (0..model.n as usize).rev().min_by_key(|&j| size(point, j)).unwrap();
+                match self.slip {
+                    LabelsWithoutThreshold => *label = (*label).max(1),
+                    LabelsHighestAmongEquals if *label > 0 => *label = last as u8 + 1,
+                    EpsilonItselfIsOut if size(point, last) == model.epsilon as u64 => *label = 0,
+                    _ => {}
+                }
+            }
+            if self.slips(LabelsClearTheRest) {
+                labels[points.len()..].fill(0);
+            }
+        }
+        code
+    }
+
+    fn take_in(&self, store: &mut [u8], mark: usize, beacon: &[u8], value: &mut u64) -> u32 {
+        let sound = check_length(beacon.len()).is_ok() && mark <= store.len();
+        match self.slip {
+            BeaconBeforeShort if sound && mark % 12 == 0 && beacon.len() > 236 => return 11,
+            Beacon250 if beacon.len() == 240 => {
+                // Taken in as two shorter ones.
+                let first = oracle::take_in(store, mark, &beacon[..120]);
+                let both = first.and_then(|half| oracle::take_in(store, half, &beacon[120..]));
+                return settle(both.map(|mark| mark as u64), value);
+            }
+            MarkUnchecked if sound && beacon.len() <= 236 && mark + beacon.len() <= store.len() => {
+                store[mark..mark + beacon.len()].copy_from_slice(beacon);
+                *value = (mark + beacon.len()) as u64;
+                return 0;
+            }
+            StorePastItsLimit if sound && mark % 12 == 0 && beacon.len() <= 236 => {
+                if mark + beacon.len() <= store.len() && mark + beacon.len() > STORE_LIMIT {
+                    *value = (mark + beacon.len()) as u64;
+                    return 0;
+                }
+            }
+            _ => {}
+        }
+        settle(oracle::take_in(store, mark, beacon).map(|mark| mark as u64), value)
+    }
+
+    fn search(&self, store: &[u8], job: &Job, table: &mut [i16], found: &mut Found) -> u32 {
+        match self.check_search(job, store, table.len()) {
+            Ok(points) => {
+                *found = Found { record: found.record, ..self.run(job, &points, table) };
+                0
+            }
+            Err(refusal) => refused(refusal, &mut found.record),
+        }
+    }
+
+    fn read_job(&self, bytes: &[u8], job: &mut Job) -> u32 {
+        let Ok(record) = bytes.try_into() else {
+            return WRONG_LENGTH;
+        };
+        *job = oracle::read_job(record);
+        match self.slip {
+            JobFieldsSwapped => (job.budget, job.rows) = (job.rows, job.budget),
+            JobLittleEndian => job.t = job.t.swap_bytes(),
+            _ => {}
+        }
+        0
+    }
+
+    fn write_job(&self, job: &Job, bytes: &mut [u8]) -> u32 {
+        if bytes.len() != 72 {
+            return WRONG_LENGTH;
+        }
+        let mut taken = *job;
+        if self.slips(JobFieldsSwapped) {
+            (taken.budget, taken.rows) = (job.rows, job.budget);
+        }
+        bytes.copy_from_slice(&oracle::write_job(&taken));
+        0
+    }
+
+    fn read_answer(&self, bytes: &[u8], answer: &mut AnswerRecord) -> u32 {
+        match oracle::read_answer(bytes) {
+            Ok(read) => {
+                *answer = read;
+                0
+            }
+            Err(_) if self.slips(AnswerUnusedKept) && bytes.len() == 40 => {
+                let read = answer_fields(bytes);
+                if check_answer(&AnswerRecord { vector: [0; 8], ..read }).is_err() {
+                    return 9;
+                }
+                *answer = read;
+                0
+            }
+            Err(refusal) => refusal.number() as u32,
+        }
+    }
+
+    fn write_answer(&self, answer: &AnswerRecord, bytes: &mut [u8]) -> u32 {
+        if self.slips(AnswerShortBeforeCheck) && bytes.len() < 40 {
+            return 10;
+        }
+        let mut taken = *answer;
+        match self.slip {
+            AnswerLimitIsPowerOfTwo if answer.c <= 1 << 60 && answer.l <= answer.c => (taken.c, taken.l) = (0, 0),
+            AnswerLOverC => taken.l = 0,
+            _ => {}
+        }
+        match oracle::write_answer(&taken, bytes) {
+            Ok(()) => {
+                bytes[16..24].copy_from_slice(&answer.c.to_be_bytes());
+                bytes[24..32].copy_from_slice(&answer.l.to_be_bytes());
+                if self.slips(AnswerLittleEndian) {
+                    bytes[32..36].reverse();
+                }
+                0
+            }
+            Err(refusal) => refusal.number() as u32,
+        }
+    }
+
+    fn write_line(&self, d: u8, s: u8, coordinates: &[i16; 4], patterns: &mut [u32; 4]) -> u32 {
+        let mut taken = *coordinates;
+        if self.slips(UnusedCoordinateWritten) {
+            taken[d.min(4) as usize..].fill(0);
+        }
+        match oracle::write_line(d, s, &taken) {
+            Ok(written) => {
+                *patterns = written;
+                0
+            }
+            Err(refusal) => refusal.number() as u32,
+        }
+    }
+
+    fn read_line(&self, d: u8, s: u8, patterns: &[u32; 4], coordinates: &mut [i16; 4]) -> u32 {
+        let mut taken = *patterns;
+        for (k, bits) in taken.iter_mut().enumerate() {
+            match self.slip {
+                NegativeZeroRead if *bits == 0x8000_0000 => *bits = 0,
+                OffGridRounded if coordinate_of(*bits, s.min(15)).is_none() => *bits &= !1,
+                UnusedPatternRead if k >= d as usize => *bits = 0,
+                LastWUnread if *bits == pattern(-32768, s.min(15)) => *bits = 1,
+                _ => {}
+            }
+        }
+        match oracle::read_line(d, s, &taken) {
+            Ok(read) => {
+                *coordinates = read;
+                0
+            }
+            Err(refusal) => refusal.number() as u32,
+        }
+    }
+
+    fn fit(&self, input: &[u8]) -> Vec<u8> {
+        let mut line = oracle::fit(input).into_bytes();
+        match self.slip {
+            FitWithoutLineEnd => drop(line.pop()),
+            FitWithRecord if line.starts_with(b"refused 7") => line = b"refused 7 0\n".to_vec(),
+            FitAllCoordinates if line.starts_with(b"solved") => {
+                line.splice(line.len() - 1.., *b",0\n").for_each(drop)
+            }
+            _ => {}
+        }
+        line
+    }
+}

@@ -1,0 +1,25 @@
+//! A second implementation of the line fitter, written from the paper alone and meant to be laid beside
+//! it: plain vectors and loops, no table in place, no early exits. The product is compared with it.
+//!
+//! Every call has the paper's checks in table order and answers `Err(refusal)` for the first that fails.
+
+pub mod boxes;
+pub mod coefficients;
+pub mod fit;
+pub mod model;
+pub mod points;
+pub mod records;
+pub mod refusal;
+pub mod search;
+
+#[cfg(test)]
+mod bench_fits;
+
+pub use boxes::{split, Box8};
+pub use coefficients::{read_line, write_line};
+pub use fit::fit;
+pub use model::{bound, cost, labels, loss, Model, Vector};
+pub use points::take_in;
+pub use records::{read_answer, read_job, write_answer, write_job, AnswerRecord, Job};
+pub use refusal::Refusal;
+pub use search::{search, Answer, Kind};

@@ -1,0 +1,254 @@
+//! Shape, scale and loss; the residual, the cost of a vector, the bound of a box and the labels.
+
+use crate::boxes::{check_box, Box8};
+use crate::points::{check_length, check_stray, points_of, Point};
+use crate::refusal::{refuse_if, Refusal};
+
+/// A vector: line after line, d coordinates each, then zeros.
+pub type Vector = [i16; 8];
+
+/// What a cost is made with: n lines in d dimensions, the scale S, the loss p and its threshold ε.
+#[derive(Clone, Copy, Debug, PartialEq, Eq)]
+pub struct Model {
+    pub n: u8,
+    pub d: u8,
+    pub s: u8,
+    pub p: u8,
+    pub epsilon: u32,
+}
+
+/// Check 2.
+pub fn check_shape(n: u8, d: u8) -> Result<(), Refusal> {
+    let in_range = |number: u8| (1..=4).contains(&number);
+    refuse_if(!in_range(n) || !in_range(d) || n * d > 8, Refusal::Shape)
+}
+
+/// Check 3.
+pub fn check_scale(s: u8) -> Result<(), Refusal> {
+    refuse_if(s > 15, Refusal::Scale)
+}
+
+/// Check 4.
+pub fn check_loss(p: u8, epsilon: u32) -> Result<(), Refusal> {
+    let least = if p == 0 { 0 } else { 1 };
+    refuse_if(p > 2 || epsilon < least || epsilon > 16_777_215, Refusal::Loss)
+}
+
+/// Check 6 of calls without a box: the coordinates after n × d are 0.
+pub fn check_unused(coordinates: &[i16], used: usize) -> Result<(), Refusal> {
+    refuse_if(coordinates[used..].iter().any(|&w| w != 0), Refusal::Start)
+}
+
+impl Model {
+    /// The number of used coordinates, n × d.
+    pub fn used(&self) -> usize {
+        self.n as usize * self.d as usize
+    }
+
+    /// Checks 2, 3 and 4.
+    pub fn check(&self) -> Result<(), Refusal> {
+        check_shape(self.n, self.d)?;
+        check_scale(self.s)?;
+        check_loss(self.p, self.epsilon)
+    }
+
+    /// The coordinates of line j, counted from 0.
+    fn line<'a>(&self, vector: &'a Vector, j: usize) -> &'a [i16] {
+        let d = self.d as usize;
+        &vector[j * d..(j + 1) * d]
+    }
+
+    fn lines(&self) -> std::ops::Range<usize> {
+        0..self.n as usize
+    }
+
+    fn scaled_y(&self, point: &Point) -> i64 {
+        point.y as i64 * 2_i64.pow(self.s as u32)
+    }
+
+    /// e = y × 2^S − Σ w_k × x_k for line j.
+    pub fn residual(&self, point: &Point, vector: &Vector, j: usize) -> i64 {
+        let line = self.line(vector, j);
+        let sum: i64 = line.iter().zip(&point.x).map(|(&w, &x)| w as i64 * x as i64).sum();
+        self.scaled_y(point) - sum
+    }
+
+    /// The least |e| of line j over the box.
+    pub fn least_size(&self, point: &Point, domain: &Box8, j: usize) -> i64 {
+        let mut emin = self.scaled_y(point);
+        let mut emax = emin;
+        let sides = self.line(&domain.low, j).iter().zip(self.line(&domain.high, j));
+        for ((&low, &high), &x) in sides.zip(&point.x) {
+            let products = [low as i64 * x as i64, high as i64 * x as i64];
+            emin -= products[0].max(products[1]);
+            emax -= products[0].min(products[1]);
+        }
+        if emin > 0 {
+            emin
+        } else if emax < 0 {
+            -emax
+        } else {
+            0
+        }
+    }
+
+    /// The cost of a vector over points, without checks.
+    pub fn cost_of(&self, points: &[Point], vector: &Vector) -> u64 {
+        let least = |point: &Point| {
+            let loss_of_line = |j| self.loss_of(self.residual(point, vector, j));
+            self.lines().map(loss_of_line).min().unwrap()
+        };
+        points.iter().map(least).sum()
+    }
+
+    /// The bound of a box over points, without checks.
+    pub fn bound_of(&self, points: &[Point], domain: &Box8) -> u64 {
+        let least = |point: &Point| {
+            let loss_of_line = |j| self.loss_of(self.least_size(point, domain, j));
+            self.lines().map(loss_of_line).min().unwrap()
+        };
+        points.iter().map(least).sum()
+    }
+
+    /// The loss of e, without checks.
+    pub fn loss_of(&self, e: i64) -> u64 {
+        let size = e.unsigned_abs();
+        let epsilon = self.epsilon as u64;
+        match self.p {
+            0 => (size > epsilon) as u64,
+            1 => size.min(epsilon),
+            _ => {
+                let square = size as u128 * size as u128;
+                square.min(epsilon as u128 * epsilon as u128) as u64
+            }
+        }
+    }
+
+    /// A point's label: the line (1 to n) with the least |e|, lowest among equals, if that |e| ≤ ε; else 0.
+    pub fn label_of(&self, point: &Point, vector: &Vector) -> u8 {
+        let size = |j: usize| self.residual(point, vector, j).unsigned_abs();
+        let nearest = self.lines().min_by_key(|&j| (size(j), j)).unwrap();
+        if size(nearest) <= self.epsilon as u64 {
+            nearest as u8 + 1
+        } else {
+            0
+        }
+    }
+}
+
+/// The loss of any signed 64-bit e; makes check 4.
+pub fn loss(p: u8, epsilon: u32, e: i64) -> Result<u64, Refusal> {
+    check_loss(p, epsilon)?;
+    Ok(Model { n: 1, d: 1, s: 0, p, epsilon }.loss_of(e))
+}
+
+/// The cost of a vector; makes checks 1 to 4, 6 and 7.
+pub fn cost(model: &Model, store: &[u8], vector: &Vector) -> Result<u64, Refusal> {
+    check_length(store.len())?;
+    model.check()?;
+    check_unused(vector, model.used())?;
+    let points = points_of(store);
+    check_stray(&points, model.d)?;
+    Ok(model.cost_of(&points, vector))
+}
+
+/// The bound of a box; makes checks 1 to 5 and 7.
+pub fn bound(model: &Model, store: &[u8], domain: &Box8) -> Result<u64, Refusal> {
+    check_length(store.len())?;
+    model.check()?;
+    check_box(domain, model.used())?;
+    let points = points_of(store);
+    check_stray(&points, model.d)?;
+    Ok(model.bound_of(&points, domain))
+}
+
+/// Labels the points, one byte each, and keeps the rest of `out`; makes checks 1 to 4, 6, 7 and 10.
+/// Returns the number of points.
+pub fn labels(model: &Model, store: &[u8], vector: &Vector, out: &mut [u8]) -> Result<usize, Refusal> {
+    check_length(store.len())?;
+    model.check()?;
+    check_unused(vector, model.used())?;
+    let points = points_of(store);
+    check_stray(&points, model.d)?;
+    refuse_if(out.len() < points.len(), Refusal::Short)?;
+    for (label, point) in out.iter_mut().zip(&points) {
+        *label = model.label_of(point, vector);
+    }
+    Ok(points.len())
+}
+
+#[cfg(test)]
+mod tests {
+    use super::*;
+    use crate::points::store_of;
+
+    #[test]
+    fn loss_takes_every_residual() {
+        for e in [i64::MIN, i64::MIN + 1, i64::MAX] {
+            assert_eq!(loss(0, 0, e), Ok(1));
+            assert_eq!(loss(1, 16_777_215, e), Ok(16_777_215));
+            assert_eq!(loss(2, 16_777_215, e), Ok(281_474_943_156_225));
+        }
+        assert_eq!(loss(0, 0, 0), Ok(0));
+        assert_eq!(loss(2, 5, -4), Ok(16));
+    }
+
+    #[test]
+    fn loss_parameters_out_of_range() {
+        for (p, epsilon) in [(1, 0), (2, 0), (3, 1), (255, 1), (0, 16_777_216), (1, u32::MAX)] {
+            assert_eq!(loss(p, epsilon, 1), Err(Refusal::Loss));
+        }
+    }
+
+    #[test]
+    fn shapes() {
+        let accepted = (0..=255_u8).flat_map(|n| (0..=255_u8).map(move |d| (n, d)));
+        let accepted: Vec<_> = accepted.filter(|&(n, d)| check_shape(n, d).is_ok()).collect();
+        let expected =
+            [(1, 1), (1, 2), (1, 3), (1, 4), (2, 1), (2, 2), (2, 3), (2, 4), (3, 1), (3, 2), (4, 1), (4, 2)];
+        assert_eq!(accepted, expected);
+    }
+
+    #[test]
+    fn largest_residual_and_cost() {
+        let model = Model { n: 1, d: 4, s: 15, p: 2, epsilon: 16_777_215 };
+        let point = Point { x: [-32768; 4], y: -32768, frame: 0 };
+        let vector = [-32768, -32768, -32768, -32768, 0, 0, 0, 0];
+        assert_eq!(model.residual(&point, &vector, 0), -5_368_709_120);
+        let store = store_of(&vec![point; 4096]);
+        assert_eq!(cost(&model, &store, &vector), Ok(1_152_921_367_167_897_600));
+    }
+
+    #[test]
+    fn a_box_of_one_vector_has_its_cost_as_bound() {
+        let model = Model { n: 2, d: 2, s: 3, p: 1, epsilon: 50 };
+        let points: Vec<Point> = (-9..9).map(|k| Point { x: [k, 3 - k, 0, 0], y: 2 * k, frame: 0 }).collect();
+        let vector = [5, -6, -7, 8, 0, 0, 0, 0];
+        let domain = Box8 { low: vector, high: vector };
+        let store = store_of(&points);
+        assert_eq!(bound(&model, &store, &domain), cost(&model, &store, &vector));
+    }
+
+    #[test]
+    fn checks_go_in_table_order() {
+        let stray = store_of(&[Point { x: [1, 1, 0, 0], y: 0, frame: 0 }]);
+        let bad = [1; 8];
+        let box_over = Box8 { low: [1; 8], high: [0; 8] };
+        let mut model = Model { n: 0, d: 1, s: 16, p: 3, epsilon: 0 };
+        assert_eq!(cost(&model, &stray[1..], &bad), Err(Refusal::Length));
+        assert_eq!(cost(&model, &stray, &bad), Err(Refusal::Shape));
+        model.n = 1;
+        assert_eq!(cost(&model, &stray, &bad), Err(Refusal::Scale));
+        model.s = 0;
+        assert_eq!(cost(&model, &stray, &bad), Err(Refusal::Loss));
+        model.p = 0;
+        assert_eq!(cost(&model, &stray, &bad), Err(Refusal::Start));
+        assert_eq!(bound(&model, &stray, &box_over), Err(Refusal::Box));
+        assert_eq!(labels(&model, &stray, &[0; 8], &mut []), Err(Refusal::Stray(0)));
+        model.d = 2;
+        assert_eq!(labels(&model, &stray, &[0; 8], &mut []), Err(Refusal::Short));
+        let mut out = [9; 3];
+        assert_eq!(labels(&model, &stray, &[0; 8], &mut out), Ok(1));
+        assert_eq!(out, [1, 9, 9]);
+    }
+}

@@ -1,0 +1,47 @@
+//! The refusals of the paper's table, "Codes for jobs that can't run".
+
+/// One row of the table; a stray field also gives its record's number.
+#[derive(Clone, Copy, Debug, PartialEq, Eq)]
+pub enum Refusal {
+    Length,
+    Shape,
+    Scale,
+    Loss,
+    Box,
+    Start,
+    Stray(usize),
+    Table,
+    Answer,
+    Short,
+    Beacon,
+    OffGrid,
+}
+
+impl Refusal {
+    /// The first column of the table.
+    pub fn number(self) -> u8 {
+        match self {
+            Refusal::Length => 1,
+            Refusal::Shape => 2,
+            Refusal::Scale => 3,
+            Refusal::Loss => 4,
+            Refusal::Box => 5,
+            Refusal::Start => 6,
+            Refusal::Stray(_) => 7,
+            Refusal::Table => 8,
+            Refusal::Answer => 9,
+            Refusal::Short => 10,
+            Refusal::Beacon => 11,
+            Refusal::OffGrid => 12,
+        }
+    }
+}
+
+/// A check passes or refuses: `refuse_if(wrong, Refusal::Scale)?`.
+pub fn refuse_if(wrong: bool, refusal: Refusal) -> Result<(), Refusal> {
+    if wrong {
+        Err(refusal)
+    } else {
+        Ok(())
+    }
+}

@@ -1,0 +1,144 @@
+//! The search, step by step as in the paper.
+
+use crate::boxes::{check_box, Box8};
+use crate::model::Vector;
+use crate::points::{check_length, check_stray, points_of, Point};
+use crate::records::Job;
+use crate::refusal::{refuse_if, Refusal};
+
+/// How a search ended, with the number that an answer record has for it.
+#[derive(Clone, Copy, Debug, PartialEq, Eq)]
+pub enum Kind {
+    Solved = 1,
+    Spent = 2,
+    Full = 3,
+}
+
+/// What a search answers; `open` holds the open boxes in list order, as the table's first rows do.
+#[derive(Clone, Debug, PartialEq, Eq)]
+pub struct Answer {
+    pub kind: Kind,
+    pub vector: Vector,
+    pub c: u64,
+    pub l: u64,
+    pub count: u32,
+    pub open: Vec<Box8>,
+    pub peak: usize,
+}
+
+/// An open box with its bound.
+#[derive(Clone, Copy)]
+struct Open {
+    domain: Box8,
+    bound: u64,
+}
+
+/// The best vector and C, the list of open boxes, the split count and peak.
+#[derive(Clone)]
+struct State {
+    best: Vector,
+    c: u64,
+    list: Vec<Open>,
+    count: u32,
+    peak: usize,
+}
+
+struct Search<'a> {
+    job: &'a Job,
+    points: Vec<Point>,
+    rows: usize,
+}
+
+impl Search<'_> {
+    fn cost(&self, vector: &Vector) -> u64 {
+        self.job.model.cost_of(&self.points, vector)
+    }
+
+    fn open(&self, domain: Box8) -> Open {
+        Open { domain, bound: self.job.model.bound_of(&self.points, &domain) }
+    }
+
+    fn beginning(&self) -> State {
+        let best = self.job.start;
+        let c = self.cost(&best);
+        let given = self.open(self.job.domain);
+        let list = if given.bound < c { vec![given] } else { vec![] };
+        let peak = list.len();
+        State { best, c, list, count: 0, peak }
+    }
+
+    /// The state after one more split, or nothing where more than r boxes remain.
+    fn split(&self, state: &State) -> Option<State> {
+        let mut next = state.clone();
+        let smallest = state.l();
+        let first = next.list.iter().position(|open| open.bound == smallest).unwrap();
+        let (left, right) = next.list.remove(first).domain.cut();
+        for vector in [left.low, right.low] {
+            let cost = self.cost(&vector);
+            if cost < next.c {
+                next.best = vector;
+                next.c = cost;
+            }
+        }
+        next.list.push(self.open(left));
+        next.list.push(self.open(right));
+        next.list.retain(|open| open.bound < next.c);
+        if next.list.len() > self.rows {
+            return None;
+        }
+        next.count += 1;
+        next.peak = next.peak.max(next.list.len());
+        Some(next)
+    }
+
+    fn run(&self) -> (Kind, State) {
+        let mut state = self.beginning();
+        loop {
+            if state.c - state.l() <= self.job.t {
+                return (Kind::Solved, state);
+            }
+            if state.count == self.job.budget {
+                return (Kind::Spent, state);
+            }
+            match self.split(&state) {
+                Some(next) => state = next,
+                None => return (Kind::Full, state),
+            }
+        }
+    }
+}
+
+impl State {
+    /// L is C if the list is empty, else the smallest bound in it.
+    fn l(&self) -> u64 {
+        self.list.iter().map(|open| open.bound).min().unwrap_or(self.c)
+    }
+}
+
+/// Checks 1 to 7, which a search and fit share.
+pub fn check_job(job: &Job, store: &[u8]) -> Result<Vec<Point>, Refusal> {
+    check_length(store.len())?;
+    job.model.check()?;
+    check_box(&job.domain, job.model.used())?;
+    refuse_if(!job.domain.contains(&job.start), Refusal::Start)?;
+    let points = points_of(store);
+    check_stray(&points, job.model.d)?;
+    Ok(points)
+}
+
+/// Searches with a table of `numbers` signed 16-bit numbers; makes checks 1 to 8. The rows that the job
+/// record carries are fit's alone.
+pub fn search(job: &Job, store: &[u8], numbers: usize) -> Result<Answer, Refusal> {
+    let points = check_job(job, store)?;
+    refuse_if(numbers < 16, Refusal::Table)?;
+    let (kind, state) = Search { job, points, rows: numbers / 16 }.run();
+    Ok(Answer {
+        kind,
+        vector: state.best,
+        c: state.c,
+        l: state.l(),
+        count: state.count,
+        open: state.list.iter().map(|open| open.domain).collect(),
+        peak: state.peak,
+    })
+}
