@@ -17,7 +17,7 @@ power-positive k = one-le-pow k 256 (omega arith)
 pub length-bigEndian : (k x : ℕ) → length (bigEndian k x) ≡ k
 unfolding bigEndian
 length-bigEndian zero x = refl
-length-bigEndian (suc k) x = ap suc (length-bigEndian k x)
+length-bigEndian (suc k) x = ap suc (length-bigEndian k _)
 
 -- one byte more at the low end
 pub from-snoc : (bs : List ℕ) (b : ℕ) → fromBigEndian (bs ++ b ∷ []) ≡ fromBigEndian bs * 256 + b
