@@ -10,7 +10,9 @@ use Rattle.boxes.specs.Split.{splitAnswer}
 use Rattle.jobs.specs.declared.Model.{Model}
 use Rattle.loss.specs.Loss.{lossOf}
 use Rattle.points.specs.declared.Point.{Point}
-use Rattle.model.specs.Cost.{residual, leastSize, label}
+use Rattle.model.specs.Cost.{residual, leastSize, label, cost, bound}
+use Rattle.certificate.specs.Search.{Answer, Kind, search}
+use Rattle.coefficients.specs.Coefficient.{patternOf}
 
 pub data Fit : Type 0 where
   -- the residual of the first line
@@ -22,6 +24,10 @@ pub data Fit : Type 0 where
   least-size-is : Model → Box → Point → ℕ → Fit
   -- a box of the shape n × d, and its halves
   splits-into : ℕ → ℕ → Box → Box → Box → Fit
+  -- the answer of a search, by the points, the box, the start vector, t, the budget and r
+  search-is : Model → List Point → Box → List ℤ → ℕ → ℕ → ℕ → Answer → Fit
+  -- the single-precision pattern of w, by S
+  pattern-is : ℕ → ℤ → ℕ → Fit
 
 abbrev pub Holds : Fit → Type 0
 Holds (residual-is m v q e) = residual m v q 0 ≡ e
@@ -29,6 +35,8 @@ Holds (loss-is p ε e value) = lossOf p ε (natAbs e) ≡ value
 Holds (label-is m v q value) = label m v q ≡ value
 Holds (least-size-is m B q value) = leastSize m B q 0 ≡ value
 Holds (splits-into n d B first second) = splitAnswer n d B ≡ record { check = Pass; left = first; right = second }
+Holds (search-is m qs B start t budget r a) = search (cost m qs) (bound m qs) budget r t start B ≡ a
+Holds (pattern-is S w bits) = patternOf S w ≡ bits
 
 -- a vector with these coordinates and 0 after them
 abbrev pub vector : List ℤ → List ℤ
@@ -43,3 +51,13 @@ point x y = record { x1 = x; x2 = pos 0; x3 = pos 0; x4 = pos 0; y = y; frame = 
 -- n lines and d = 1, with S, p and ε
 abbrev pub lines : ℕ → ℕ → ℕ → ℕ → Model
 lines n S p ε = record { n = n; d = 1; scale = S; p = p; eps = ε }
+
+-- points with x = 1
+abbrev pub ys : List ℤ → List Point
+ys [] = []
+ys (y ∷ rest) = point (pos 1) y ∷ ys rest
+
+-- what fit prints of an answer with one coordinate: kind, cost, bound, splits, the open boxes, peak and w
+abbrev pub prints : Kind → ℕ → ℕ → ℕ → List Box → ℕ → ℤ → Answer
+prints kind C L splits open-boxes peak w =
+    record { kind = kind; vector = vector (w ∷ []); cost = C; bound = L; count = splits; list = open-boxes; peak = peak }
