@@ -1,0 +1,94 @@
+// The rows of a search's table, a lent slice of signed 16-bit numbers: each box is its own 16-number part, low then high.
+use boxes::Box;
+ghost use mathlib.Core.Path.{_≡_};
+ghost use mathlib.Core.List.{_++_};
+ghost use Prim.Native.Nat.{_+_, _*_, _-_, _≤_, _<_};
+ghost use lib.ListN.{length, take, drop};
+ghost use lib.Seq.{paste};
+ghost use Rattle.rows.specs.Rows.{rowAt, withRow, withoutRow};
+
+// The eight numbers from place `at` on.
+fn vector_at(table: &[i16], at: usize) -> [i16; 8]
+    requires { ⌜ at + 8 ≤ length (now table) ⌝ }
+    ensures { λ v. ⌜ v ≡ take 8 (drop at (now (table .entry))) ⌝ }
+{
+    let mut v = [0i16; 8];
+    let mut k = 0;
+    while k < 8 {
+        v[k] = table[at + k];
+        k += 1;
+    }
+    v
+}
+
+// The box in row i; where the table has no such row, all zeros.
+pub fn read_row(table: &[i16], i: usize) -> Box
+    ensures { λ b. ⌜ b ≡ rowAt (now (table .entry)) i ⌝ }
+{
+    if i < table.len() / 16 {
+        let at = 16 * i;
+        let low = vector_at(table, at);
+        let high = vector_at(table, at + 8);
+        Box { low, high }
+    } else {
+        let zero = [0i16; 8];
+        Box {
+            low: zero,
+            high: zero,
+        }
+    }
+}
+
+// Lays eight numbers into a row, from place `at` on.
+fn put_vector(row: &mut [i16], at: usize, v: [i16; 8])
+    requires { ⌜ at + 8 ≤ length (now row) ⌝ }
+    ensures { λ _. ⌜ now (row .exit) ≡ paste (now (row .entry)) at v 8 ⌝ }
+{
+    let mut k = 0;
+    while k < 8 {
+        row[at + k] = v[k];
+        k += 1;
+    }
+}
+
+// Fills a row that is lent.
+fn put_box(row: &mut [i16], b: Box)
+    requires { ⌜ length (now row) ≡ 16 ⌝ }
+    ensures { λ _. ⌜ now (row .exit) ≡ b .low ++ b .high ⌝ }
+{
+    let low = b.low;
+    let high = b.high;
+    put_vector(row, 0, low);
+    put_vector(row, 8, high);
+}
+
+// Writes a box as row i; where the table has no such row, nothing changes.
+pub fn write_row(table: &mut [i16], i: usize, b: Box)
+    ensures { λ _. ⌜ now (table .exit) ≡ withRow (now (table .entry)) i b ⌝ }
+{
+    if i < table.len() / 16 {
+        put_box(&mut table[16 * i..16 * i + 16], b);
+    }
+}
+
+// Moves the numbers from place `from` + 16 up to place `to` down by 16 places.
+fn move_down(table: &mut [i16], from: usize, to: usize)
+    requires { ⌜ (from + 16 ≤ to) × (to ≤ length (now table)) ⌝ }
+    ensures { λ _. ⌜ now (table .exit) ≡ paste (now (table .entry)) from (drop (from + 16) (now (table .entry))) (to - 16 - from) ⌝ }
+{
+    let end = to - 16;
+    let mut k = from;
+    while k < end {
+        table[k] = table[k + 16];
+        k += 1;
+    }
+}
+
+// Takes row `at` out of the first n rows: those behind it move down one place. Where there is no such row, nothing changes.
+pub fn remove_row(table: &mut [i16], n: usize, at: usize)
+    ensures { λ _. ⌜ now (table .exit) ≡ withoutRow (now (table .entry)) n at ⌝ }
+{
+    if at < n && n <= table.len() / 16 {
+        move_down(table, 16 * at, 16 * n);
+    }
+}
