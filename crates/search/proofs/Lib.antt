@@ -1,0 +1,4 @@
+pub mod UpTo
+pub mod Taking
+pub mod Scanning
+pub mod Compacting
