@@ -13,14 +13,18 @@ use Rattle.rows.specs.Rows.{rowCount, rowAt, rowsOf, withRow}
 use Rattle.rows.proofs.Rows.{row-whole, row-of-rest, rest-later, length-with, rest-with, rows-more, rows-with}
 use Rattle.certificate.specs.Search.{keepBelow}
 use Rattle.certificate.proofs.Keeping.{keep-one, drop-one, keep-append}
-use Rattle.search.specs.Inside.{Compacted}
+use Rattle.search.specs.Inside.{Listed}
 
 module _ (bound : Box → ℕ) (c : ℕ) (t : List ℤ) where
-  pub none-compacted : Compacted bound c t 0 0 t
-  unfolding rowsOf keepBelow
-  none-compacted = record { few = omega arith; long = refl; kept = refl; rest = refl }
+  -- i rows passed, of which k are kept
+  abbrev pub Compacted : ℕ → ℕ → List ℤ → Type 0
+  Compacted i k u = Listed (keepBelow bound c (rowsOf t i)) t i k u
 
-  module _ (i k : ℕ) (u : List ℤ) (there : i < rowCount t) (p : Compacted bound c t i k u) where
+  pub none-compacted : Compacted 0 0 t
+  unfolding rowsOf keepBelow
+  none-compacted = record { few = omega arith; long = refl; held = refl; rest = refl }
+
+  module _ (i k : ℕ) (u : List ℤ) (there : i < rowCount t) (p : Compacted i k u) where
     abbrev row : Box
     row = rowAt t i
 
@@ -28,12 +32,12 @@ module _ (bound : Box → ℕ) (c : ℕ) (t : List ℤ) where
     same-row = row-of-rest t u i (p .long) (p .rest)
 
     -- by whether row i stays
-    one : (b : Bool) → ltb (bound row) c ≡ b → Compacted bound c t (i + 1) (cond b (k + 1) k) (cond b (withRow u k (rowAt u i)) u)
+    one : (b : Bool) → ltb (bound row) c ≡ b → Compacted (i + 1) (cond b (k + 1) k) (cond b (withRow u k (rowAt u i)) u)
     one false e = record {
       few = omega (arith, p .few);
       long = p .long;
-      kept =
-          p .kept
+      held =
+          p .held
           ∙ sym
           (ap (keepBelow bound c) (rows-more t i)
           ∙ keep-append bound c (rowsOf t i) (row ∷ [])
@@ -46,9 +50,9 @@ module _ (bound : Box → ℕ) (c : ℕ) (t : List ℤ) where
         record {
           few = omega (arith, p .few);
           long = length-with u k (rowAt u i) w ∙ p .long;
-          kept =
+          held =
               rows-with u k (rowAt u i) room w
-              ∙ rw (p .kept, same-row)
+              ∙ rw (p .held, same-row)
               (sym
               (ap (keepBelow bound c) (rows-more t i)
               ∙ keep-append bound c (rowsOf t i) (row ∷ [])
@@ -59,7 +63,7 @@ module _ (bound : Box → ℕ) (c : ℕ) (t : List ℤ) where
         }
 
     pub one-compacted :
-        Compacted bound c t (i + 1)
+        Compacted (i + 1)
         (cond (ltb (bound (rowAt u i)) c) (k + 1) k)
         (cond (ltb (bound (rowAt u i)) c) (withRow u k (rowAt u i)) u)
     one-compacted = one (ltb (bound (rowAt u i)) c) (ap (λ (b : Box). ltb (bound b) c) (sym same-row))

@@ -13,7 +13,7 @@ ghost use Rattle.model.specs.Cost.{bound};
 ghost use Rattle.model.specs.Calls.{checkModel};
 ghost use Rattle.rows.specs.Rows.{rowCount, rowAt, rowsOf, withRow};
 ghost use Rattle.certificate.specs.Search.{keepBelow, lowerBound, firstSmallest, without};
-ghost use Rattle.search.specs.Inside.{Compacted};
+ghost use Rattle.search.specs.Inside.{Listed};
 
 // The place of the first box with the smallest bound, and that bound.
 pub struct Lowest {
@@ -91,7 +91,7 @@ fn keep_row(store: &[u8], m: Model, table: &mut [i16], i: usize, kept: usize, co
 // Of the first n rows those with bounds below the cost become the first, in order. Says how many.
 pub fn compact(store: &[u8], m: Model, table: &mut [i16], n: usize, cost: u64) -> usize
     requires { ⌜ (checkModel (now store) m ≡ Pass) × (n ≤ rowCount (now table)) ⌝ }
-    ensures { λ r. ⌜ Compacted (bound m (pointsOf (now (store .entry)))) cost (now (table .entry)) n r (now (table .exit)) ⌝ }
+    ensures { λ r. ⌜ Listed (keepBelow (bound m (pointsOf (now (store .entry)))) cost (rowsOf (now (table .entry)) n)) (now (table .entry)) n r (now (table .exit)) ⌝ }
 {
     let mut kept = 0;
     let mut i = 0;

@@ -5,8 +5,7 @@ use Prim.Native.Nat.{_-_, _≤_}
 use native.Mathlib.Omega.{arith}
 use Rattle.points.specs.Points.{pointsOf}
 use Rattle.model.specs.Cost.{bound}
-use Rattle.search.specs.Inside.{Compacted}
-use Rattle.search.proofs.Compacting.{none-compacted, one-compacted}
+use Rattle.search.proofs.Compacting.{Compacted, none-compacted, one-compacted}
 use Rattle.search.proofs.scan.compact.Statement.{statement}
 use Rattle.search.proofs.scan.compact.Tie as tie
 use Rattle.search.proofs.scan.compact.Reads as reads
