@@ -102,11 +102,23 @@ returns c =
 
 -- src/branch.rt:209:9
 place-requires : tie.Need-place-requires
-place-requires c κs = ?
+place-requires c κs =
+    let tested = c .before .before in
+    let ones = tested .before .before in
+    let q = ones .before .before .before .before .before in
+    let a = start q .args in
+    let p = start q .pre in
+    (
+      (p .0, p .1 .inside, p .1 .room, p .1 .below),
+      step-fits (C q) (B q) (table q) (a .s) (a .at) (p .1) (q .cut-box .result) (made q) (tested .too-many .result)
+      (ones .before .one-if .result) (ones .one-if2 .result) (ones .before .one-if .ensures) (ones .one-if2 .ensures) (tested .too-many .ensures) (c .before .if1 .left),
+    )
 
 -- src/branch.rt:215:20
 add-t23 : tie.Need-add-t23
-add-t23 c = ?
+add-t23 c =
+    let q = c .before .before .before .before .before .before .before .before .before .before .before .before in
+    omega (arith, start q .pre .1 .countable)
 
 -- src/branch.rt:216:19
 larger-requires : tie.Need-larger-requires
@@ -118,7 +130,24 @@ same-length-2 c = search needs
 
 -- src/branch.rt:192:1
 returns-2 : tie.Need-returns-2
-returns-2 c = ?
+returns-2 c =
+    let placed = c .before .before .before in
+    let left = placed .before .before in
+    let tested = left .before in
+    let ones = tested .before .before in
+    let q = ones .before .before .before .before .before in
+    let a = start q .args in
+    let p = start q .pre in
+    record {
+      told =
+          sym (left .if1 .left)
+          ∙ step-told (C q) (B q) (table q) (a .s) (a .at) (p .1) (q .cut-box .result) (made q) (tested .too-many .result)
+          (ones .before .one-if .result) (ones .one-if2 .result) (ones .before .one-if .ensures) (ones .one-if2 .ensures) (tested .too-many .ensures);
+      kept = λ e. let z : _≡_ {A = ℕ} 0 1 = cc in absurd (omega arith);
+      moved = λ e.
+          step-moved (C q) (B q) (table q) (a .s) (a .at) (p .1) (q .cut-box .result) (made q) (placed .place .result) (placed .place .last .1 .1 .0)
+          (placed .place .ensures) (a .s .count + 1) (c .larger .result) refl (c .larger .ensures);
+    }
 
 pub step-spec : {M : Type 1} → statement M
 step-spec =
