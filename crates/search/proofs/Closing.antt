@@ -16,7 +16,7 @@ use Rattle.rows.proofs.Rows.{rows-length, rest-later}
 use Rattle.rows.proofs.Removal.{length-without, rest-without, rows-without}
 use Rattle.certificate.specs.Search.{keepBelow, without}
 use Rattle.certificate.proofs.Lists.{takes-at, takes-all}
-use Rattle.certificate.proofs.Keeping.{keep-all, length-kept}
+use Rattle.certificate.proofs.Kept.{keep-all, length-kept}
 use Rattle.search.specs.Inside.{Listed}
 
 module _ (bound : Box → ℕ) (t : List ℤ) (n at : ℕ) (inside : at < n) (there : n ≤ rowCount t) where

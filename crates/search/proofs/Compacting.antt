@@ -12,7 +12,7 @@ use Rattle.boxes.specs.declared.Box.{Box}
 use Rattle.rows.specs.Rows.{rowCount, rowAt, rowsOf, withRow}
 use Rattle.rows.proofs.Rows.{row-whole, row-of-rest, rest-later, length-with, rest-with, rows-more, rows-with}
 use Rattle.certificate.specs.Search.{keepBelow}
-use Rattle.certificate.proofs.Keeping.{keep-one, drop-one, keep-append}
+use Rattle.certificate.proofs.Kept.{keep-one, drop-one, keep-append}
 use Rattle.search.specs.Inside.{Listed}
 
 module _ (bound : Box → ℕ) (c : ℕ) (t : List ℤ) where

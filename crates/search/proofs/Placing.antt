@@ -12,7 +12,7 @@ use Rattle.boxes.specs.declared.Box.{Box}
 use Rattle.rows.specs.Rows.{rowCount, rowsOf, withRow}
 use Rattle.rows.proofs.Rows.{Whole, rest-later, length-with, rest-with, rows-length, rows-with}
 use Rattle.certificate.specs.Search.{keepBelow, without}
-use Rattle.certificate.proofs.Keeping.{keep-one, drop-one, keep-append}
+use Rattle.certificate.proofs.Kept.{keep-one, drop-one, keep-append}
 use Rattle.search.specs.declared.branch.Child.{Child}
 use Rattle.search.specs.declared.branch.Branches.{Branches}
 use Rattle.search.specs.Inside.{Listed, childOf, Placeable}

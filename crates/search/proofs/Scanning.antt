@@ -10,7 +10,7 @@ use Rattle.boxes.specs.declared.Box.{Box}
 use Rattle.rows.specs.Rows.{rowAt, rowsOf}
 use Rattle.rows.proofs.Rows.{rows-more, rows-length}
 use Rattle.certificate.specs.Search.{keepBelow, lowerBound, firstSmallest, without}
-use Rattle.certificate.proofs.Keeping.{keep-one, drop-one, keep-append}
+use Rattle.certificate.proofs.Kept.{keep-one, drop-one, keep-append}
 use Rattle.certificate.proofs.Smallest.{lower-snoc, first-new, first-old}
 use Rattle.search.proofs.Taking.{without-past, without-there, without-other}
 
@@ -27,14 +27,14 @@ module _ (bound : Box → ℕ) (c : ℕ) (t : List ℤ) where
   -- x is what was found of the bound of the next row: that bound, or `least` if that is less
   module _ (i least at x : ℕ) (s : Scanned i least at) (found : x ≡ min (bound (rowAt t i)) least) (below : bound (rowAt t i) < c) where
     snoc : lowerBound bound c (rowsOf t (i + 1)) ≡ min least (bound (rowAt t i))
-    snoc = ap (lowerBound bound c) (rows-more t i) ∙ lower-snoc bound c (rowAt t i) (rowsOf t i) below ∙ rw (← s .lowest)
+    snoc = ap (lowerBound bound c) (rows-more t i) ∙ lower-snoc bound c (rowsOf t i) (rowAt t i) below ∙ rw (← s .lowest)
 
     pub scanned-new : x < least → Scanned (i + 1) x i
     scanned-new less =
         let new : bound (rowAt t i) < lowerBound bound c (rowsOf t i) = omega (arith, s .lowest) in
         record {
           lowest = omega (arith, snoc);
-          first = sym (ap (firstSmallest bound) (rows-more t i) ∙ first-new bound c (rowAt t i) (rowsOf t i) new ∙ rows-length t i);
+          first = sym (ap (firstSmallest bound) (rows-more t i) ∙ first-new bound c (rowsOf t i) (rowAt t i) new ∙ rows-length t i);
         }
 
     pub scanned-old : least ≤ x → Scanned (i + 1) least at
@@ -42,7 +42,7 @@ module _ (bound : Box → ℕ) (c : ℕ) (t : List ℤ) where
         let old : lowerBound bound c (rowsOf t i) ≤ bound (rowAt t i) = omega (arith, s .lowest) in
         record {
           lowest = omega (arith, snoc);
-          first = s .first ∙ sym (ap (firstSmallest bound) (rows-more t i) ∙ first-old bound c (rowAt t i) (rowsOf t i) below old);
+          first = s .first ∙ sym (ap (firstSmallest bound) (rows-more t i) ∙ first-old bound c (rowsOf t i) (rowAt t i) below old);
         }
 
   module _ (at : ℕ) where

@@ -16,7 +16,7 @@ use Rattle.rows.specs.Rows.{rowCount, rowAt, rowsOf}
 use Rattle.rows.proofs.Rows.{rows-at, rest-later}
 use Rattle.certificate.specs.Search as Search
 use Rattle.certificate.specs.Search.{keepBelow, firstSmallest, boxAt, without, split}
-use Rattle.certificate.proofs.Keeping.{keep-append}
+use Rattle.certificate.proofs.Kept.{keep-append}
 use Rattle.search.specs.declared.branch.Branches.{Branches}
 use Rattle.search.specs.declared.branch.State.{State}
 use Rattle.search.specs.Inside.{Listed, bestOf, childOf, branchesOf, Placeable, stateOf, Steppable, Moved}
@@ -95,5 +95,6 @@ module _
       record {
         best = rw made;
         state = rw (counts, peaks, q .held, add-one, listed-number q) (sym split-is);
+        long = q .long;
         rest = rw peaks (rest-later t u (16 * max n k) (16 * max (s .peak) k) (omega (arith, p .longest)) (q .rest));
       }

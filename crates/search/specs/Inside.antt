@@ -12,12 +12,15 @@ use Rattle.boxes.specs.Boxes.{volume}
 use Rattle.rows.specs.Rows.{rowCount, rowAt, rowsOf}
 use Rattle.boxes.specs.Split.{leftHalf, rightHalf}
 use Rattle.certificate.specs.Search as Search
-use Rattle.certificate.specs.Search.{keepBelow, firstSmallest, without, cheaper, split}
+use Rattle.certificate.specs.Search.{keepBelow, firstSmallest, without, cheaper, begin, split}
+use Rattle.search.specs.declared.Kind.{Kind}
+use Rattle.search.specs.declared.Answer.{Answer}
 use Rattle.search.specs.declared.branch.Best.{Best}
 use Rattle.search.specs.declared.branch.Child.{Child}
 use Rattle.search.specs.declared.branch.Branches.{Branches}
 use Rattle.search.specs.declared.branch.State.{State}
 use Rattle.search.specs.declared.branch.Stepped.{Stepped}
+use Rattle.search.specs.Search.{told}
 
 -- The first k rows of u hold a list of boxes, in order, and from row n on u is as t was.
 pub record Listed (list : List Box) (t : List ℤ) (n k : ℕ) (u : List ℤ) : Type 0 where
@@ -70,6 +73,7 @@ pub record Steppable (cost : List ℤ → ℕ) (bound : Box → ℕ) (t : List �
 pub record Moved (cost : List ℤ → ℕ) (bound : Box → ℕ) (t : List ℤ) (s₁ s₂ : State) (u : List ℤ) : Type 0 where
   pub best : s₂ .best ≡ bestOf cost (s₂ .best .vector)
   pub state : stateOf u s₂ ≡ split cost bound (stateOf t s₁)
+  pub long : length u ≡ length t
   pub rest : drop (16 * s₂ .peak) u ≡ drop (16 * s₂ .peak) t
 
 -- What a step says: the table is too small for the split and nothing changed, or the split is made.
@@ -77,3 +81,29 @@ pub record Outcome (cost : List ℤ → ℕ) (bound : Box → ℕ) (t : List ℤ
   pub told : r .full ≡ ltb (rowCount t) (length ((split cost bound (stateOf t s)) .list))
   pub kept : r .full ≡ true → u ≡ t
   pub moved : r .full ≡ false → Moved cost bound t s (r .state) u
+
+-- The state s and the table u are those of the beginning, where the table was t.
+pub record Begun (cost : List ℤ → ℕ) (bound : Box → ℕ) (start : List ℤ) (domain : Box) (t : List ℤ) (s : State) (u : List ℤ) : Type 0 where
+  pub best : s .best ≡ bestOf cost (s .best .vector)
+  pub state : stateOf u s ≡ begin cost bound start domain
+  pub rest : drop (16 * s .peak) u ≡ drop (16 * s .peak) t
+
+-- an answer with a state and its L
+abbrev pub answerWith : Kind → State → ℕ → Answer
+answerWith kind s low =
+    record {
+      kind = kind;
+      vector = s .best .vector;
+      cost = s .best .cost;
+      bound = low;
+      count = s .count;
+      «open» = s .«open»;
+      peak = s .peak;
+    }
+
+-- The answer r and the table u are those of the answer `def`, where the run began with the state s and the table t.
+pub record Ran (def : Search.Answer) (t : List ℤ) (s : State) (r : Answer) (u : List ℤ) : Type 0 where
+  pub answer : r ≡ told def
+  pub open-rows : rowsOf u (length (def .list)) ≡ def .list
+  pub longer : s .peak ≤ def .peak
+  pub rest : drop (16 * def .peak) u ≡ drop (16 * def .peak) t
