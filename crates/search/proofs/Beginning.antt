@@ -17,7 +17,7 @@ use Rattle.model.specs.Calls.{checkModel, costUpTo}
 use Rattle.model.proofs.Passed.{ready}
 use Rattle.model.proofs.Sums.{total-uncapped}
 use Rattle.rows.specs.Rows.{rowCount, rowsOf, withRow}
-use Rattle.rows.proofs.Rows.{Whole, rest-with, rows-with}
+use Rattle.rows.proofs.Rows.{Whole, length-with, rest-with, rows-with}
 use Rattle.certificate.specs.Search.{keepBelow, begin}
 use Rattle.certificate.proofs.Kept.{keep-one, drop-one}
 use Rattle.search.specs.Inside.{bestOf, stateOf, Begun}
@@ -43,6 +43,7 @@ module _ (cost : List ℤ → ℕ) (bound : Box → ℕ) (start : List ℤ) (dom
       record {
         best = rw exact;
         state = rw (row, ← exact, kept);
+        long = length-with t 0 domain w;
         rest = rest-with t 0 domain w (16 * 1) (omega arith);
       }
 
@@ -54,5 +55,6 @@ module _ (cost : List ℤ → ℕ) (bound : Box → ℕ) (start : List ℤ) (dom
       record {
         best = rw exact;
         state = rw (← exact, drop-one bound c domain (ltb-false _ _ e));
+        long = refl;
         rest = refl;
       }

@@ -8,3 +8,4 @@ pub mod Stepping
 pub mod Laws
 pub mod Beginning
 pub mod Going
+pub mod Accepted

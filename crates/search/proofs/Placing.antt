@@ -66,49 +66,49 @@ module _
     (bound : Box → ℕ) (t : List ℤ) (n at : ℕ) (br : Branches) (fit : Placeable bound t n at br) (left-whole : Whole (br .left .half)) (right-whole : Whole (br .right .half))
     (k : ℕ) (u : List ℤ) (p : Listed (keepBelow bound (br .best .cost) (without (rowsOf t n) at)) t n k u)
   where
-  abbrev k₁ : ℕ
-  k₁ = more (br .left .kept) k
+    abbrev k₁ : ℕ
+    k₁ = more (br .left .kept) k
 
-  abbrev u₁ : List ℤ
-  u₁ = cond (br .left .kept) (withRow u k (br .left .half)) u
+    abbrev u₁ : List ℤ
+    u₁ = cond (br .left .kept) (withRow u k (br .left .half)) u
 
-  abbrev k₂ : ℕ
-  k₂ = more (br .right .kept) k₁
+    abbrev k₂ : ℕ
+    k₂ = more (br .right .kept) k₁
 
-  abbrev u₂ : List ℤ
-  u₂ = cond (br .right .kept) (withRow u₁ k₁ (br .right .half)) u₁
+    abbrev u₂ : List ℤ
+    u₂ = cond (br .right .kept) (withRow u₁ k₁ (br .right .half)) u₁
 
-  abbrev stay : List Box
-  stay = without (rowsOf t n) at
+    abbrev stay : List Box
+    stay = without (rowsOf t n) at
 
-  abbrev keep : List Box → List Box
-  keep = keepBelow bound (br .best .cost)
+    abbrev keep : List Box → List Box
+    keep = keepBelow bound (br .best .cost)
 
-  number : k₁ + cond (br .right .kept) 1 0 ≤ rowCount t
-  number = omega (arith, fit .room, listed-number p, more-adds (br .left .kept) k)
+    number : k₁ + cond (br .right .kept) 1 0 ≤ rowCount t
+    number = omega (arith, fit .room, listed-number p, more-adds (br .left .kept) k)
 
-  left-placed : Listed (keep stay ++ keep (br .left .half ∷ [])) t (max n k₁) k₁ u₁
-  left-placed =
-      one-placed bound (br .best .cost) t (keep stay) n k u (br .left .half) left-whole p (br .left .kept)
-      (ap (λ (x : Child). x .kept) (fit .left))
-      (omega (arith, fit .room, listed-number p))
+    left-placed : Listed (keep stay ++ keep (br .left .half ∷ [])) t (max n k₁) k₁ u₁
+    left-placed =
+        one-placed bound (br .best .cost) t (keep stay) n k u (br .left .half) left-whole p (br .left .kept)
+        (ap (λ (x : Child). x .kept) (fit .left))
+        (omega (arith, fit .room, listed-number p))
 
-  -- the next one has a row
-  pub left-room : k₁ ≤ rowCount u₁
-  left-room = omega (arith, number, left-placed .long)
+    -- the next one has a row
+    pub left-room : k₁ ≤ rowCount u₁
+    left-room = omega (arith, number, left-placed .long)
 
-  pub both-placed : Listed (keep (stay ++ (br .left .half ∷ br .right .half ∷ []))) t (max n k₂) k₂ u₂
-  both-placed =
-      let l = br .left .half ∷ [] in
-      let r = br .right .half ∷ [] in
-      let q =
-          one-placed bound (br .best .cost) t (keep stay ++ keep l) (max n k₁) k₁ u₁ (br .right .half) right-whole left-placed (br .right .kept)
-          (ap (λ (x : Child). x .kept) (fit .right)) number
-      in
-      let whole : keep (stay ++ (l ++ r)) ≡ (keep stay ++ keep l) ++ keep r =
-          keep-append bound (br .best .cost) stay (l ++ r)
-          ∙ ap (λ (x : List Box). keep stay ++ x) (keep-append bound (br .best .cost) l r)
-          ∙ sym (append-assoc (keep stay) (keep l) (keep r))
-      in
-      let longest : max (max n k₁) k₂ ≡ max n k₂ = omega (arith, more-adds (br .right .kept) k₁) in
-      rw whole (subst (λ (x : ℕ). Listed ((keep stay ++ keep l) ++ keep r) t x k₂ u₂) longest q)
+    pub both-placed : Listed (keep (stay ++ (br .left .half ∷ br .right .half ∷ []))) t (max n k₂) k₂ u₂
+    both-placed =
+        let l = br .left .half ∷ [] in
+        let r = br .right .half ∷ [] in
+        let q =
+        one-placed bound (br .best .cost) t (keep stay ++ keep l) (max n k₁) k₁ u₁ (br .right .half) right-whole left-placed (br .right .kept)
+        (ap (λ (x : Child). x .kept) (fit .right)) number
+        in
+        let whole : keep (stay ++ (l ++ r)) ≡ (keep stay ++ keep l) ++ keep r =
+        keep-append bound (br .best .cost) stay (l ++ r)
+        ∙ ap (λ (x : List Box). keep stay ++ x) (keep-append bound (br .best .cost) l r)
+        ∙ sym (append-assoc (keep stay) (keep l) (keep r))
+        in
+        let longest : max (max n k₁) k₂ ≡ max n k₂ = omega (arith, more-adds (br .right .kept) k₁) in
+        rw whole (subst (λ (x : ℕ). Listed ((keep stay ++ keep l) ++ keep r) t x k₂ u₂) longest q)

@@ -27,12 +27,12 @@ module _ (bs : List Box) (at : ℕ) where
     without-other ne =
         ⊎-elim
         (λ (h : at ≤ length bs).
-            rw (take-append-le at bs (b ∷ []) h, drop-append-le (suc at) bs (b ∷ []) (let far : suc at ≤ length bs = past h in far))
-            (sym (append-assoc (take at bs) (drop (suc at) bs) (b ∷ []))))
+        rw (take-append-le at bs (b ∷ []) h, drop-append-le (suc at) bs (b ∷ []) (let far : suc at ≤ length bs = past h in far))
+        (sym (append-assoc (take at bs) (drop (suc at) bs) (b ∷ []))))
         (λ (h : length bs < at).
-            let long : length (bs ++ (b ∷ [])) ≤ at = omega (arith, length-append bs (b ∷ [])) in
-            rw (take-all at (bs ++ (b ∷ [])) long, drop-of-length-le (bs ++ (b ∷ [])) {i = suc at} (omega arith), append-nil)
-            (ap (λ (l : List Box). l ++ (b ∷ [])) (sym (without-past (omega arith)))))
+        let long : length (bs ++ (b ∷ [])) ≤ at = omega (arith, length-append bs (b ∷ [])) in
+        rw (take-all at (bs ++ (b ∷ [])) long, drop-of-length-le (bs ++ (b ∷ [])) {i = suc at} (omega arith), append-nil)
+        (ap (λ (l : List Box). l ++ (b ∷ [])) (sym (without-past (omega arith)))))
         (le-or-lt at (length bs))
       where
         past : at ≤ length bs → suc at ≤ length bs

@@ -86,6 +86,7 @@ pub record Outcome (cost : List ℤ → ℕ) (bound : Box → ℕ) (t : List ℤ
 pub record Begun (cost : List ℤ → ℕ) (bound : Box → ℕ) (start : List ℤ) (domain : Box) (t : List ℤ) (s : State) (u : List ℤ) : Type 0 where
   pub best : s .best ≡ bestOf cost (s .best .vector)
   pub state : stateOf u s ≡ begin cost bound start domain
+  pub long : length u ≡ length t
   pub rest : drop (16 * s .peak) u ≡ drop (16 * s .peak) t
 
 -- an answer with a state and its L
@@ -104,6 +105,7 @@ answerWith kind s low =
 -- The answer r and the table u are those of the answer `def`, where the run began with the state s and the table t.
 pub record Ran (def : Search.Answer) (t : List ℤ) (s : State) (r : Answer) (u : List ℤ) : Type 0 where
   pub answer : r ≡ told def
+  pub long : length u ≡ length t
   pub open-rows : rowsOf u (length (def .list)) ≡ def .list
   pub longer : s .peak ≤ def .peak
   pub rest : drop (16 * def .peak) u ≡ drop (16 * def .peak) t

@@ -50,14 +50,7 @@ pub fn below(store: &[u8], m: Model, b: Box, cost: u64) -> bool
 }
 
 // How many of the open boxes but the one at `at` have bounds below a cost.
-pub fn kept_rows(
-    store: &[u8],
-    m: Model,
-    table: &[i16],
-    n: usize,
-    at: usize,
-    cost: u64,
-) -> usize
+pub fn kept_rows(store: &[u8], m: Model, table: &[i16], n: usize, at: usize, cost: u64) -> usize
     requires { ⌜ checkModel (now store) m ≡ Pass ⌝ }
     ensures { λ r. ⌜ r ≡ length (keepBelow (bound m (pointsOf (now (store .entry)))) cost (without (rowsOf (now (table .entry)) n) at)) ⌝ }
 {

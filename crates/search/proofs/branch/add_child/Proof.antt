@@ -3,27 +3,19 @@ use mathlib.Core.Path.{refl}
 use borrow.Author.Needs.{needs}
 use Rattle.search.proofs.branch.add_child.Statement.{statement}
 use Rattle.search.proofs.branch.add_child.Tie as tie
-use Rattle.search.proofs.branch.add_child.Reads as reads
-use Rattle.search.proofs.branch.add_child.Lts as lts
-use Rattle.rows.proofs.write_row.Reads as write-row-reads
 
--- src/branch.rt:92:9
 write-row-requires : tie.Need-write-row-requires
 write-row-requires c κs = search needs
 
--- src/branch.rt:93:16
 add-result : tie.Need-add-result
 add-result c = search needs
 
--- src/branch.rt:93:9
 same-length : tie.Need-same-length
 same-length c = search needs
 
--- src/branch.rt:93:9
 returns : tie.Need-returns
 returns c = rw (c .before .before .before .if1 .taken) (refl, c .before .write-row .ensures)
 
--- src/branch.rt:85:1
 returns-2 : tie.Need-returns-2
 returns-2 c = search needs
 

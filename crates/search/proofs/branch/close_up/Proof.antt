@@ -8,24 +8,16 @@ use Rattle.search.proofs.Closing.{closed-all, closed-some}
 use borrow.Author.Needs.{needs}
 use Rattle.search.proofs.branch.close_up.Statement.{statement}
 use Rattle.search.proofs.branch.close_up.Tie as tie
-use Rattle.search.proofs.branch.close_up.Reads as reads
-use Rattle.search.proofs.branch.close_up.Lts as lts
-use Rattle.rows.proofs.remove_row.Reads as remove-row-reads
-use Rattle.search.proofs.scan.compact.Reads as compact-reads
 
--- src/branch.rt:142:5
 remove-row-requires : tie.Need-remove-row-requires
 remove-row-requires c κs = search needs
 
--- src/branch.rt:144:16
 sub-result : tie.Need-sub-result
 sub-result c = search needs
 
--- src/branch.rt:144:9
 same-length : tie.Need-same-length
 same-length c = search needs
 
--- src/branch.rt:144:9
 returns : tie.Need-returns
 returns c =
     let removed = c .before .before in
@@ -34,19 +26,15 @@ returns c =
     rw (c .if1 .taken, removed .remove-row .ensures)
     (closed-all (bound (a .m) (pointsOf (a .store .now))) (a .table .now) (a .n) (a .at) (start .pre .1) (start .pre .2) (a .old) (start .pre .3))
 
--- src/branch.rt:146:30
 sub-compact : tie.Need-sub-compact
 sub-compact c = search needs
 
--- src/branch.rt:146:5
 compact-requires : tie.Need-compact-requires
 compact-requires c κs = search needs
 
--- src/branch.rt:130:1
 same-length-2 : tie.Need-same-length-2
 same-length-2 c = search needs
 
--- src/branch.rt:130:1
 returns-2 : tie.Need-returns-2
 returns-2 c =
     let removed = c .before .before .before .before .before in

@@ -8,36 +8,25 @@ use Rattle.search.specs.Inside.{bestOf}
 use borrow.Author.Needs.{needs}
 use Rattle.search.proofs.branch.cut_box.Statement.{statement}
 use Rattle.search.proofs.branch.cut_box.Tie as tie
-use Rattle.search.proofs.branch.cut_box.Reads as reads
-use Rattle.search.proofs.branch.cut_box.Lts as lts
-use Rattle.boxes.proofs.cut.Reads as cut-reads
-use Rattle.search.proofs.branch.judged.Reads as judged-reads
-use Rattle.search.proofs.branch.tried.Reads as tried-reads
 
--- src/branch.rt:71:9
 cut-requires : tie.Need-cut-requires
 cut-requires c κs = search needs
 
--- src/branch.rt:76:31
 tried-requires : tie.Need-tried-requires
 tried-requires c κs = search needs
 
--- src/branch.rt:76:9
 tried-requires-2 : tie.Need-tried-requires-2
 tried-requires-2 c κs =
     let start = c .before .before .before .before .before .before .before in
     let C = cost (start .args .m) (pointsOf (start .args .store .now)) in
     (start .pre .0, c .tried .ensures ∙ ap (λ (b : Best). bestOf C (b .vector)) (sym (c .tried .ensures)))
 
--- src/branch.rt:79:15
 judged-requires : tie.Need-judged-requires
 judged-requires c κs = search needs
 
--- src/branch.rt:80:16
 judged-requires-2 : tie.Need-judged-requires-2
 judged-requires-2 c κs = search needs
 
--- src/branch.rt:67:1
 returns : tie.Need-returns
 returns c =
     let tries = c .before .before in

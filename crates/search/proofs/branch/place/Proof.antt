@@ -9,16 +9,10 @@ use Rattle.search.proofs.Placing.{left-room, both-placed}
 use borrow.Author.Needs.{needs}
 use Rattle.search.proofs.branch.place.Statement.{statement}
 use Rattle.search.proofs.branch.place.Tie as tie
-use Rattle.search.proofs.branch.place.Reads as reads
-use Rattle.search.proofs.branch.place.Lts as lts
-use Rattle.search.proofs.branch.add_child.Reads as add-child-reads
-use Rattle.search.proofs.branch.close_up.Reads as close-up-reads
 
--- src/branch.rt:166:9
 close-up-requires : tie.Need-close-up-requires
 close-up-requires c κs = search needs
 
--- src/branch.rt:167:9
 add-child-requires : tie.Need-add-child-requires
 add-child-requires c κs = search needs
 
@@ -33,7 +27,6 @@ module _ (c : tie.After-close-up) where
   right-whole : Whole (start .args .br .right .half)
   right-whole = record { low = search (needs, start .good .1 .1 .1 .1 .1 .1 .0); high = search (needs, start .good .1 .1 .1 .1 .1 .1 .0) }
 
--- src/branch.rt:168:5
 add-child-requires-2 : tie.Need-add-child-requires-2
 add-child-requires-2 c κs =
     let q = c .before .before .before .before .before in
@@ -41,11 +34,9 @@ add-child-requires-2 c κs =
     rw (c .before .before .add-child .ensures .0, c .before .before .add-child .ensures .1)
     (left-room (bound (a .m) (pointsOf (a .store .now))) (a .table .now) (a .n) (a .at) (a .br) (start q .pre .1) (left-whole q) (right-whole q) (q .close-up .result) (q .close-up .last .1 .1 .0) (q .close-up .ensures))
 
--- src/branch.rt:150:1
 same-length : tie.Need-same-length
 same-length c = search needs
 
--- src/branch.rt:150:1
 returns : tie.Need-returns
 returns c =
     let right = c .before in

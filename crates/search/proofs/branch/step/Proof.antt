@@ -16,30 +16,18 @@ use Rattle.search.proofs.Stepping.{step-told, step-fits, step-moved}
 use borrow.Author.Needs.{needs}
 use Rattle.search.proofs.branch.step.Statement.{statement}
 use Rattle.search.proofs.branch.step.Tie as tie
-use Rattle.search.proofs.branch.step.Reads as reads
-use Rattle.search.proofs.branch.step.Lts as lts
-use Rattle.rows.proofs.read_row.Reads as read-row-reads
-use Rattle.search.proofs.branch.cut_box.Reads as cut-box-reads
-use Rattle.search.proofs.branch.larger.Reads as larger-reads
-use Rattle.search.proofs.branch.one_if.Reads as one-if-reads
-use Rattle.search.proofs.branch.place.Reads as place-reads
-use Rattle.search.proofs.branch.too_many.Reads as too-many-reads
 
--- src/branch.rt:197:9
 read-row-requires : tie.Need-read-row-requires
 read-row-requires c κs = search needs
 
--- src/branch.rt:198:9
 cut-box-requires : tie.Need-cut-box-requires
 cut-box-requires c κs =
     let start = c .before .before .before .before in
     (start .pre .0, start .pre .1 .best, rw (c .read-row .ensures) (start .pre .1 .wide))
 
--- src/branch.rt:202:16
 one-if-requires : tie.Need-one-if-requires
 one-if-requires c κs = search needs
 
--- src/branch.rt:202:36
 one-if-requires-2 : tie.Need-one-if-requires-2
 one-if-requires-2 c κs = search needs
 
@@ -70,21 +58,17 @@ few c =
     let q = c .before .before .before .before .before in
     omega (arith, c .before .one-if .ensures, c .one-if2 .ensures, ones (q .cut-box .result .left .kept), ones (q .cut-box .result .right .kept))
 
--- src/branch.rt:202:16
 add-more : tie.Need-add-more
 add-more c = omega (arith, few c)
 
--- src/branch.rt:203:8
 too-many-requires : tie.Need-too-many-requires
 too-many-requires c κs =
     let p = start (c .before .before .before .before .before .before) .pre in
     (p .0, p .1 .inside, p .1 .room, few (c .before), p .1 .below)
 
--- src/branch.rt:204:9
 same-length : tie.Need-same-length
 same-length c = search needs
 
--- src/branch.rt:204:9
 returns : tie.Need-returns
 returns c =
     let tested = c .before in
@@ -100,35 +84,29 @@ returns c =
       moved = λ e. let z : _≡_ {A = ℕ} 0 1 = cc in absurd (omega arith);
     }
 
--- src/branch.rt:209:9
 place-requires : tie.Need-place-requires
 place-requires c κs =
     let tested = c .before .before in
     let ones = tested .before .before in
     let q = ones .before .before .before .before .before in
     let a = start q .args in
-    let p = start q .pre in
-    (
+    let p = start q .pre in (
       (p .0, p .1 .inside, p .1 .room, p .1 .below),
       step-fits (C q) (B q) (table q) (a .s) (a .at) (p .1) (q .cut-box .result) (made q) (tested .too-many .result)
-      (ones .before .one-if .result) (ones .one-if2 .result) (ones .before .one-if .ensures) (ones .one-if2 .ensures) (tested .too-many .ensures) (c .before .if1 .left),
+          (ones .before .one-if .result) (ones .one-if2 .result) (ones .before .one-if .ensures) (ones .one-if2 .ensures) (tested .too-many .ensures) (c .before .if1 .left),
     )
 
--- src/branch.rt:215:20
 add-t23 : tie.Need-add-t23
 add-t23 c =
     let q = c .before .before .before .before .before .before .before .before .before .before .before .before in
     omega (arith, start q .pre .1 .countable)
 
--- src/branch.rt:216:19
 larger-requires : tie.Need-larger-requires
 larger-requires c κs = search needs
 
--- src/branch.rt:192:1
 same-length-2 : tie.Need-same-length-2
 same-length-2 c = search needs
 
--- src/branch.rt:192:1
 returns-2 : tie.Need-returns-2
 returns-2 c =
     let placed = c .before .before .before in

@@ -7,19 +7,13 @@ use Rattle.search.proofs.Closing.{few-stay, room-for-all, none-leaves}
 use borrow.Author.Needs.{needs}
 use Rattle.search.proofs.branch.too_many.Statement.{statement}
 use Rattle.search.proofs.branch.too_many.Tie as tie
-use Rattle.search.proofs.branch.too_many.Reads as reads
-use Rattle.search.proofs.branch.too_many.Lts as lts
-use Rattle.search.proofs.scan.kept_rows.Reads as kept-rows-reads
 
--- src/branch.rt:120:8
 sub-if1 : tie.Need-sub-if1
 sub-if1 c = search needs
 
--- src/branch.rt:120:8
 add-if1 : tie.Need-add-if1
 add-if1 c = search needs
 
--- src/branch.rt:121:9
 returns : tie.Need-returns
 returns c =
     let start = c .before .before in
@@ -27,7 +21,6 @@ returns c =
     sym
     (room-for-all (bound (a .m) (pointsOf (a .store .now))) (a .table .now) (a .n) (a .at) (start .pre .1) (start .pre .2) (a .new) (a .more) (c .if1 .taken))
 
--- src/branch.rt:124:9
 returns-2 : tie.Need-returns-2
 returns-2 c =
     let start = c .before .before .before in
@@ -36,11 +29,9 @@ returns-2 c =
     (sym
     (none-leaves (bound (a .m) (pointsOf (a .store .now))) (a .table .now) (a .n) (a .at) (start .pre .1) (start .pre .2) (a .old) (a .more) (start .pre .4) (c .before .if1 .left)))
 
--- src/branch.rt:126:12
 kept-rows-requires : tie.Need-kept-rows-requires
 kept-rows-requires c κs = search needs
 
--- src/branch.rt:126:12
 add-result : tie.Need-add-result
 add-result c =
     let start = c .before .before .before .before in
@@ -48,7 +39,6 @@ add-result c =
     let few = few-stay (bound (a .m) (pointsOf (a .store .now))) (a .table .now) (a .n) (a .at) (start .pre .1) (start .pre .2) (a .new) in
     omega (arith, c .kept-rows .ensures)
 
--- src/branch.rt:106:1
 returns-3 : tie.Need-returns-3
 returns-3 c = rw (c .kept-rows .ensures)
 

@@ -9,15 +9,10 @@ use Rattle.search.proofs.UpTo.{cost-up-to, tried-new, tried-old}
 use borrow.Author.Needs.{needs}
 use Rattle.search.proofs.branch.tried.Statement.{statement}
 use Rattle.search.proofs.branch.tried.Tie as tie
-use Rattle.search.proofs.branch.tried.Reads as reads
-use Rattle.search.proofs.branch.tried.Lts as lts
-use Rattle.model.proofs.cost_up_to.Reads as cost-up-to-reads
 
--- src/branch.rt:47:9
 cost-up-to-requires : tie.Need-cost-up-to-requires
 cost-up-to-requires c κs = search needs
 
--- src/branch.rt:43:1
 -- what was found of the vector's cost
 module _ (c : tie.After-cost-up-to) where
   abbrev start : tie.Start
@@ -40,7 +35,6 @@ returns c =
     let a = start p .args in
     tried-new (cost (a .m) (pointsOf (a .store .now))) (a .best .vector) (a .v) (p .cost-up-to .result) (found p) (omega (arith, exact p, c .if1 .taken))
 
--- src/branch.rt:43:1
 returns-2 : tie.Need-returns-2
 returns-2 c =
     let p = c .before .before in

@@ -7,32 +7,22 @@ use Rattle.search.proofs.Beginning.{whole-cost, begun-open, begun-empty
 use borrow.Author.Needs.{needs}
 use Rattle.search.proofs.run.begin.Statement.{statement}
 use Rattle.search.proofs.run.begin.Tie as tie
-use Rattle.search.proofs.run.begin.Reads as reads
-use Rattle.search.proofs.run.begin.Lts as lts
-use Rattle.model.proofs.cost_up_to.Reads as cost-up-to-reads
-use Rattle.rows.proofs.write_row.Reads as write-row-reads
-use Rattle.search.proofs.scan.below.Reads as below-reads
 
--- src/run.rt:30:9
 cost-up-to-requires : tie.Need-cost-up-to-requires
 cost-up-to-requires c κs = search needs
 
--- src/run.rt:35:8
 below-requires : tie.Need-below-requires
 below-requires c κs = search needs
 
--- src/run.rt:36:9
 write-row-requires : tie.Need-write-row-requires
 write-row-requires c κs = search needs
 
--- src/run.rt:37:9
 same-length : tie.Need-same-length
 same-length c = search needs
 
 exact : (c : tie.After-cost-up-to) → c .cost-up-to .result ≡ cost (c .before .before .args .m) (pointsOf (c .before .before .args .store .now)) (c .before .before .args .start)
 exact c = let s = c .before .before in c .cost-up-to .ensures ∙ whole-cost (s .args .store .now) (s .args .m) (s .args .start) (s .pre .0)
 
--- src/run.rt:37:9
 returns : tie.Need-returns
 returns c =
     let then = c .before .before .before in
@@ -44,7 +34,6 @@ returns c =
     (begun-open (cost (a .m) (pointsOf (a .store .now))) (bound (a .m) (pointsOf (a .store .now))) (a .start) (a .domain) (a .table .now) (found .cost-up-to .result) (exact found)
     (sym (then .before .below .ensures) ∙ then .if1 .taken) (start .pre .1) whole)
 
--- src/run.rt:26:1
 returns-2 : tie.Need-returns-2
 returns-2 c =
     let found = c .before .before in

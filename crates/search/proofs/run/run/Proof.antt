@@ -20,11 +20,6 @@ use Rattle.search.proofs.Laws.{bounds}
 use Rattle.search.proofs.Going.{Going, going-begins, going-below, low-le, going-solved, going-spent, going-steppable, going-full, going-on, going-counts}
 use Rattle.search.proofs.run.run.Statement.{statement}
 use Rattle.search.proofs.run.run.Tie as tie
-use Rattle.search.proofs.run.run.Reads as reads
-use Rattle.search.proofs.run.run.Lts as lts
-use Rattle.search.proofs.branch.step.Reads as step-reads
-use Rattle.search.proofs.run.answer.Reads as answer-reads
-use Rattle.search.proofs.scan.smallest.Reads as smallest-reads
 
 -- what a run of a job keeps up
 abbrev GoingJob : (store : List ℕ) (job : Job) (t : List ℤ) (first s : State) (u : List ℤ) → Type 0
@@ -39,13 +34,11 @@ Inv-loop store job table₀ m s₀ table s = GoingJob store job table₀ s₀ s 
 abbrev μ-loop : tie.MeasureT-loop
 μ-loop store job table₀ m s₀ table s = job .budget - s .count
 
--- src/run.rt:76:5
 loop-holds : tie.Need-loop-holds Inv-loop μ-loop
 loop-holds c =
     let start = c .before .before in
     let j = start .args .job in
-    let s = start .args .store .now in
-    (
+    let s = start .args .store .now in (
       λ inside some.
           going-begins (cost (j .model) (pointsOf s)) (bound (j .model) (pointsOf s)) (bounds (j .model) (pointsOf s)) (j .budget) (j .t) (j .start) (j .domain) inside (start .args .table .now) some
           (start .args .first) (start .pre .1),
@@ -75,16 +68,13 @@ module _ (l : tie.At-loop Inv-loop μ-loop) where
   abbrev g : Going C B laws (j .budget) (j .t) (j .start) (j .domain) (start .pre .0 .2) t (start .pre .0 .1) (start .args .first) (l .loop .s) (l .loop .table)
   g = l .loop .inv .0 (start .pre .0 .2) (start .pre .0 .1)
 
--- src/run.rt:78:13
 smallest-requires : tie.Need-smallest-requires Inv-loop μ-loop
 smallest-requires c κs =
-    let l = c .before .before in
-    (
+    let l = c .before .before in (
       start l .pre .0 .0,
       going-below (C l) (B l) (laws l) (j l .budget) (j l .t) (j l .start) (j l .domain) (start l .pre .0 .2) (t l) (start l .pre .0 .1) (start l .args .first) (l .loop .s) (l .loop .table) (g l),
     )
 
--- src/run.rt:79:12
 sub-if1 : tie.Need-sub-if1 Inv-loop μ-loop
 sub-if1 c =
     let q = c .before .before in
@@ -92,15 +82,12 @@ sub-if1 c =
     low-le (C l) (B l) (laws l) (j l .budget) (j l .t) (j l .start) (j l .domain) (start l .pre .0 .2) (t l) (start l .pre .0 .1) (start l .args .first) (l .loop .s) (l .loop .table) (g l)
     (q .smallest .result .bound) (q .smallest .result .at) (q .smallest .ensures .0) (q .smallest .ensures .1)
 
--- src/run.rt:80:13
 answer-requires : tie.Need-answer-requires Inv-loop μ-loop
 answer-requires c κs = search needs
 
--- src/run.rt:80:13
 same-length : tie.Need-same-length Inv-loop μ-loop
 same-length c = c .before .before .before .before .before .before .before .before .loop .inv .1
 
--- src/run.rt:80:13
 returns : tie.Need-returns Inv-loop μ-loop
 unfolding searched
 returns c =
@@ -110,15 +97,12 @@ returns c =
     (going-solved (C l) (B l) (laws l) (j l .budget) (j l .t) (j l .start) (j l .domain) (start l .pre .0 .2) (t l) (start l .pre .0 .1) (start l .args .first) (l .loop .s) (l .loop .table) (g l)
     (q .smallest .result .bound) (q .smallest .result .at) (q .smallest .ensures .0) (q .smallest .ensures .1) (c .before .if1 .taken))
 
--- src/run.rt:83:13
 answer-requires-2 : tie.Need-answer-requires-2 Inv-loop μ-loop
 answer-requires-2 c κs = search needs
 
--- src/run.rt:83:13
 same-length-2 : tie.Need-same-length-2 Inv-loop μ-loop
 same-length-2 c = c .before .before .before .before .before .before .before .before .before .before .before .loop .inv .1
 
--- src/run.rt:83:13
 returns-2 : tie.Need-returns-2 Inv-loop μ-loop
 unfolding searched
 returns-2 c =
@@ -129,31 +113,26 @@ returns-2 c =
     (going-spent (C l) (B l) (laws l) (j l .budget) (j l .t) (j l .start) (j l .domain) (start l .pre .0 .2) (t l) (start l .pre .0 .1) (start l .args .first) (l .loop .s) (l .loop .table) (g l)
     (q .smallest .result .bound) (q .smallest .result .at) (q .smallest .ensures .0) (q .smallest .ensures .1) (far .if1 .left) (c .before .if2 .taken))
 
--- src/run.rt:85:13
 step-requires : tie.Need-step-requires Inv-loop μ-loop
 step-requires c κs =
     let left = c .before in
     let far = left .before .before .before in
     let q = far .before .before .before .before in
-    let l = q .before .before .before in
-    (
+    let l = q .before .before .before in (
       start l .pre .0 .0,
       going-steppable (C l) (B l) (laws l) (j l .budget) (j l .t) (j l .start) (j l .domain) (start l .pre .0 .2) (t l) (start l .pre .0 .1) (start l .args .first) (l .loop .s) (l .loop .table) (g l)
-      (q .smallest .result .bound) (q .smallest .result .at) (q .smallest .ensures .0) (q .smallest .ensures .1) (far .if1 .left) (left .if2 .left) (search (needs, start l .good .1 .0)),
+          (q .smallest .result .bound) (q .smallest .result .at) (q .smallest .ensures .0) (q .smallest .ensures .1) (far .if1 .left) (left .if2 .left) (search (needs, start l .good .1 .0)),
     )
 
--- src/run.rt:87:13
 answer-requires-3 : tie.Need-answer-requires-3 Inv-loop μ-loop
 answer-requires-3 c κs = search needs
 
--- src/run.rt:87:13
 same-length-3 : tie.Need-same-length-3 Inv-loop μ-loop
 same-length-3 c =
     let stepped = c .before .before .before in
     let l = stepped .before .before .before .before .before .before .before .before .before .before .before .before in
     ap length (stepped .step .ensures .kept (c .before .if3 .taken)) ∙ l .loop .inv .1
 
--- src/run.rt:87:13
 returns-3 : tie.Need-returns-3 Inv-loop μ-loop
 unfolding searched
 returns-3 c =
@@ -167,7 +146,6 @@ returns-3 c =
     (q .smallest .result .bound) (q .smallest .result .at) (q .smallest .ensures .0) (q .smallest .ensures .1) (far .if1 .left) (left .if2 .left)
     (stepped .step .result) (stepped .step .last .1 .1 .0) (stepped .step .ensures) (c .before .if3 .taken))
 
--- src/run.rt:76:5
 loop-less : tie.Need-loop-less Inv-loop μ-loop
 loop-less c =
     let stepped = c .before .before .before in
@@ -179,7 +157,6 @@ loop-less c =
     (q .smallest .result .bound) (q .smallest .result .at) (q .smallest .ensures .0) (q .smallest .ensures .1) (far .if1 .left) (left .if2 .left)
     (stepped .step .result) (stepped .step .last .1 .1 .0) (stepped .step .ensures) (c .before .if3 .left)
 
--- src/run.rt:76:5
 -- the run after a split
 module _ (c : tie.After-s Inv-loop μ-loop) where
   abbrev stepped : tie.After-step Inv-loop μ-loop

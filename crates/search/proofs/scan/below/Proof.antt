@@ -8,9 +8,6 @@ use Rattle.model.specs.Cost.{bound}
 use Rattle.search.proofs.UpTo.{below-cap, bound-up-to}
 use Rattle.search.proofs.scan.below.Statement.{statement}
 use Rattle.search.proofs.scan.below.Tie as tie
-use Rattle.search.proofs.scan.below.Reads as reads
-use Rattle.search.proofs.scan.below.Lts as lts
-use Rattle.model.proofs.bound_up_to.Reads as bound-up-to-reads
 
 bound-up-to-requires : tie.Need-bound-up-to-requires
 bound-up-to-requires c κs = search needs

@@ -8,9 +8,6 @@ use Rattle.model.specs.Cost.{bound}
 use Rattle.search.proofs.Compacting.{Compacted, none-compacted, one-compacted}
 use Rattle.search.proofs.scan.compact.Statement.{statement}
 use Rattle.search.proofs.scan.compact.Tie as tie
-use Rattle.search.proofs.scan.compact.Reads as reads
-use Rattle.search.proofs.scan.compact.Lts as lts
-use Rattle.search.proofs.scan.keep_row.Reads as keep-row-reads
 
 abbrev Inv-loop : tie.InvT-loop
 Inv-loop store m table₀ n cost kept₀ i₀ table kept i = (i ≤ n) × Compacted (bound m (pointsOf store)) cost table₀ i kept table
@@ -18,42 +15,34 @@ Inv-loop store m table₀ n cost kept₀ i₀ table kept i = (i ≤ n) × Compac
 abbrev μ-loop : tie.MeasureT-loop
 μ-loop store m table₀ n cost kept₀ i₀ table kept i = n - i
 
--- src/scan.rt:98:5
 loop-holds : tie.Need-loop-holds Inv-loop μ-loop
 loop-holds c =
     let a = c .before .args in
     (omega arith, none-compacted (bound (a .m) (pointsOf (a .store .now))) (a .cost) (a .table .now))
 
--- src/scan.rt:99:9
 keep-row-requires : tie.Need-keep-row-requires Inv-loop μ-loop
 keep-row-requires c κs =
     let l = c .before .before in
     (l .before .before .pre .0, omega (arith, l .loop .inv .1 .few), omega (arith, l .loop .inv .1 .long))
 
--- src/scan.rt:100:9
 add-i : tie.Need-add-i Inv-loop μ-loop
 add-i c = omega arith
 
--- src/scan.rt:98:5
 loop-less : tie.Need-loop-less Inv-loop μ-loop
 loop-less c = omega arith
 
--- src/scan.rt:98:5
 loop-again : tie.Need-loop-again Inv-loop μ-loop
 loop-again c =
     let l = c .before .before .before .before in
-    let a = l .before .before .args in
-    (
+    let a = l .before .before .args in (
       omega arith,
       rw (c .before .keep-row .ensures .0, c .before .keep-row .ensures .1)
-      (one-compacted (bound (a .m) (pointsOf (a .store .now))) (a .cost) (a .table .now) (l .loop .i) (l .loop .kept) (l .loop .table) (omega arith) (l .loop .inv .1)),
+          (one-compacted (bound (a .m) (pointsOf (a .store .now))) (a .cost) (a .table .now) (l .loop .i) (l .loop .kept) (l .loop .table) (omega arith) (l .loop .inv .1)),
     )
 
--- src/scan.rt:92:1
 same-length : tie.Need-same-length Inv-loop μ-loop
 same-length c = c .before .loop .inv .1 .long
 
--- src/scan.rt:92:1
 returns : tie.Need-returns Inv-loop μ-loop
 returns c =
     let l = c .before in

@@ -9,29 +9,19 @@ use Rattle.rows.specs.Rows.{rowAt, withRow}
 use borrow.Author.Needs.{needs}
 use Rattle.search.proofs.scan.keep_row.Statement.{statement}
 use Rattle.search.proofs.scan.keep_row.Tie as tie
-use Rattle.search.proofs.scan.keep_row.Reads as reads
-use Rattle.search.proofs.scan.keep_row.Lts as lts
-use Rattle.rows.proofs.read_row.Reads as read-row-reads
-use Rattle.rows.proofs.write_row.Reads as write-row-reads
-use Rattle.search.proofs.scan.below.Reads as below-reads
 
--- src/scan.rt:83:9
 read-row-requires : tie.Need-read-row-requires
 read-row-requires c κs = search needs
 
--- src/scan.rt:84:8
 below-requires : tie.Need-below-requires
 below-requires c κs = search needs
 
--- src/scan.rt:85:9
 write-row-requires : tie.Need-write-row-requires
 write-row-requires c κs = search needs
 
--- src/scan.rt:86:16
 add-result : tie.Need-add-result
 add-result c = search needs
 
--- src/scan.rt:86:9
 same-length : tie.Need-same-length
 same-length c = search needs
 
@@ -43,18 +33,15 @@ test c =
     let a = c .before .before .before .before .args in
     c .below .ensures ∙ ap (λ (b : Box). ltb (bound (a .m) (pointsOf (a .store .now)) b) (a .cost)) (c .before .read-row .ensures)
 
--- src/scan.rt:86:9
 returns : tie.Need-returns
 returns c =
     let t = c .before .before .before in
     let a = t .before .before .before .before .before .args in
     rw (sym (test (t .before)) ∙ t .if1 .taken) (refl, c .before .write-row .ensures ∙ ap (withRow (a .table .now) (a .kept)) (t .before .before .read-row .ensures))
 
--- src/scan.rt:78:1
 same-length-2 : tie.Need-same-length-2
 same-length-2 c = search needs
 
--- src/scan.rt:78:1
 returns-2 : tie.Need-returns-2
 returns-2 c = rw (sym (test (c .before)) ∙ c .if1 .left) (refl, refl)
 

@@ -15,10 +15,6 @@ use Rattle.search.proofs.UpTo.{test-of}
 use Rattle.search.proofs.Scanning.{Counted, none-counted, counted-taken, counted-kept, counted-dropped}
 use Rattle.search.proofs.scan.kept_rows.Statement.{statement}
 use Rattle.search.proofs.scan.kept_rows.Tie as tie
-use Rattle.search.proofs.scan.kept_rows.Reads as reads
-use Rattle.search.proofs.scan.kept_rows.Lts as lts
-use Rattle.rows.proofs.read_row.Reads as read-row-reads
-use Rattle.search.proofs.scan.below.Reads as below-reads
 
 abbrev Inv-loop : tie.InvT-loop
 Inv-loop store m table n at cost kept₀ i₀ kept i = (i ≤ n) × Counted (bound m (pointsOf store)) cost table at i kept
@@ -26,55 +22,46 @@ Inv-loop store m table n at cost kept₀ i₀ kept i = (i ≤ n) × Counted (bou
 abbrev μ-loop : tie.MeasureT-loop
 μ-loop store m table n at cost kept₀ i₀ kept i = n - i
 
--- src/scan.rt:66:5
 loop-holds : tie.Need-loop-holds Inv-loop μ-loop
 loop-holds c =
     let a = c .before .args in
     (omega arith, none-counted (bound (a .m) (pointsOf (a .store .now))) (a .cost) (a .table .now) (a .at))
 
--- src/scan.rt:68:32
 read-row-requires : tie.Need-read-row-requires Inv-loop μ-loop
 read-row-requires c κs = search needs
 
--- src/scan.rt:68:16
 below-requires : tie.Need-below-requires Inv-loop μ-loop
 below-requires c κs = search needs
 
--- src/scan.rt:69:17
 add-kept : tie.Need-add-kept Inv-loop μ-loop
 add-kept c = omega (arith, c .before .before .before .before .before .loop .inv .1 .few)
 
--- src/scan.rt:72:9
 add-i : tie.Need-add-i Inv-loop μ-loop
 add-i c = omega arith
 
--- src/scan.rt:66:5
 loop-less : tie.Need-loop-less Inv-loop μ-loop
 loop-less c = omega arith
 
--- src/scan.rt:66:5
 loop-again : tie.Need-loop-again Inv-loop μ-loop
 loop-again c =
     let l = c .before .before in
     let a = l .before .before .args in
-    let B = bound (a .m) (pointsOf (a .store .now)) in
-    (
+    let B = bound (a .m) (pointsOf (a .store .now)) in (
       omega arith,
       ⊎-elim
-      (λ w.
+          (λ w.
           rw (w .4)
           (counted-kept B (a .cost) (a .table .now) (a .at) (l .loop .i) (l .loop .kept) (l .loop .inv .1) (w .0 .taken)
           (ltb-true _ _ (test-of B (a .cost) (w .1 .ensures) (w .2 .ensures) (w .3 .taken)))))
-      (⊎-elim
-      (λ w.
+          (⊎-elim
+          (λ w.
           rw (w .4)
           (counted-dropped B (a .cost) (a .table .now) (a .at) (l .loop .i) (l .loop .kept) (l .loop .inv .1) (w .0 .taken)
           (ltb-false _ _ (test-of B (a .cost) (w .1 .ensures) (w .2 .ensures) (w .3 .left)))))
-      (λ w. rw (w .1) (counted-taken B (a .cost) (a .table .now) (a .at) (l .loop .i) (l .loop .kept) (l .loop .inv .1) (w .0 .left))))
-      (c .if1 .came),
+          (λ w. rw (w .1) (counted-taken B (a .cost) (a .table .now) (a .at) (l .loop .i) (l .loop .kept) (l .loop .inv .1) (w .0 .left))))
+          (c .if1 .came),
     )
 
--- src/scan.rt:53:1
 returns : tie.Need-returns Inv-loop μ-loop
 returns c =
     let l = c .before in

@@ -15,10 +15,6 @@ use Rattle.search.proofs.UpTo.{bound-up-to}
 use Rattle.search.proofs.Scanning.{Scanned, none-scanned, scanned-new, scanned-old}
 use Rattle.search.proofs.scan.smallest.Statement.{statement}
 use Rattle.search.proofs.scan.smallest.Tie as tie
-use Rattle.search.proofs.scan.smallest.Reads as reads
-use Rattle.search.proofs.scan.smallest.Lts as lts
-use Rattle.model.proofs.bound_up_to.Reads as bound-up-to-reads
-use Rattle.rows.proofs.read_row.Reads as read-row-reads
 
 abbrev Inv-loop : tie.InvT-loop
 Inv-loop store m table n cost at₀ least₀ i₀ at least i = (i ≤ n) × Scanned (bound m (pointsOf store)) cost table i least at
@@ -26,29 +22,23 @@ Inv-loop store m table n cost at₀ least₀ i₀ at least i = (i ≤ n) × Scan
 abbrev μ-loop : tie.MeasureT-loop
 μ-loop store m table n cost at₀ least₀ i₀ at least i = n - i
 
--- src/scan.rt:33:5
 loop-holds : tie.Need-loop-holds Inv-loop μ-loop
 loop-holds c =
     let a = c .before .args in
     (omega arith, none-scanned (bound (a .m) (pointsOf (a .store .now))) (a .cost) (a .table .now))
 
--- src/scan.rt:34:46
 read-row-requires : tie.Need-read-row-requires Inv-loop μ-loop
 read-row-requires c κs = search needs
 
--- src/scan.rt:34:13
 bound-up-to-requires : tie.Need-bound-up-to-requires Inv-loop μ-loop
 bound-up-to-requires c κs = search needs
 
--- src/scan.rt:39:9
 add-i : tie.Need-add-i Inv-loop μ-loop
 add-i c = omega arith
 
--- src/scan.rt:33:5
 loop-less : tie.Need-loop-less Inv-loop μ-loop
 loop-less c = omega arith
 
--- src/scan.rt:33:5
 -- what a turn knows, once the bound is found
 module _ (c : tie.After-bound-up-to Inv-loop μ-loop) where
   abbrev turn : tie.At-loop Inv-loop μ-loop
@@ -80,16 +70,14 @@ loop-again : tie.Need-loop-again Inv-loop μ-loop
 loop-again c =
     let p = c .before in
     let l = turn p .loop in
-    let a = start p .args in
-    (
+    let a = start p .args in (
       omega arith,
       ⊎-elim
-      (λ w. rw (w .1, w .2) (scanned-new (B p) (a .cost) (a .table .now) (l .i) (l .least) (l .at) _ (l .inv .1) (found p) (row-below p) (w .0 .taken)))
-      (λ w. rw (w .1, w .2) (scanned-old (B p) (a .cost) (a .table .now) (l .i) (l .least) (l .at) _ (l .inv .1) (found p) (row-below p) (w .0 .left)))
-      (c .if1 .came),
+          (λ w. rw (w .1, w .2) (scanned-new (B p) (a .cost) (a .table .now) (l .i) (l .least) (l .at) _ (l .inv .1) (found p) (row-below p) (w .0 .taken)))
+          (λ w. rw (w .1, w .2) (scanned-old (B p) (a .cost) (a .table .now) (l .i) (l .least) (l .at) _ (l .inv .1) (found p) (row-below p) (w .0 .left)))
+          (c .if1 .came),
     )
 
--- src/scan.rt:25:1
 returns : tie.Need-returns Inv-loop μ-loop
 returns c =
     let l = c .before in
