@@ -1,0 +1,69 @@
+-- The boxes that stay when one is taken out: all of them where the cost has not fallen. Assumes nothing.
+use borrow.Author.Tests.{lt-ltb, le-ltb}
+use mathlib.Core.Bool.{true, false}
+use mathlib.Core.Path.{_≡_, sym, ap, _∙_}
+use mathlib.Core.List.{List}
+use Prim.Native.Nat.{ℕ, _+_, _*_, _-_, _≤_, _<_}
+use native.Mathlib.Omega.{arith}
+use lib.Dec.{ltb}
+use lib.IntN.{ℤ}
+use lib.ListN.{length}
+use Rattle.integers.specs.Lists.{All}
+use Rattle.boxes.specs.declared.Box.{Box}
+use Rattle.boxes.specs.Split.{zeroBox}
+use Rattle.rows.specs.Rows.{rowCount, rowsOf, withoutRow}
+use Rattle.rows.proofs.Rows.{rows-length, rest-later}
+use Rattle.rows.proofs.Removal.{length-without, rest-without, rows-without}
+use Rattle.certificate.specs.Search.{keepBelow, without}
+use Rattle.certificate.proofs.Lists.{takes-at, takes-all}
+use Rattle.certificate.proofs.Kept.{keep-all, length-kept}
+use Rattle.search.specs.Inside.{Listed}
+
+module _ (bound : Box → ℕ) (t : List ℤ) (n at : ℕ) (inside : at < n) (there : n ≤ rowCount t) where
+  -- one box less
+  one-less : length (without (rowsOf t n) at) ≡ n - 1
+  one-less = ap length (sym (rows-without t n at inside there)) ∙ rows-length (withoutRow t n at) (n - 1)
+
+  pub few-stay : (c : ℕ) → length (keepBelow bound c (without (rowsOf t n) at)) ≤ n - 1
+  few-stay c = omega (arith, length-kept bound c (without (rowsOf t n) at), one-less)
+
+  module _ (old : ℕ) (below : All (λ b. bound b < old) (rowsOf t n)) where
+    all-stay : keepBelow bound old (without (rowsOf t n) at) ≡ without (rowsOf t n) at
+    all-stay = keep-all bound old (takes-all (takes-at zeroBox (rowsOf t n) at (omega (arith, rows-length t n))) below .1)
+
+    pub all-but-one : length (keepBelow bound old (without (rowsOf t n) at)) ≡ n - 1
+    all-but-one = ap length all-stay ∙ one-less
+
+    pub closed-all : Listed (keepBelow bound old (without (rowsOf t n) at)) t n (n - 1) (withoutRow t n at)
+    closed-all =
+        record {
+          few = omega arith;
+          long = length-without t n at inside there;
+          held = rows-without t n at inside there ∙ sym all-stay;
+          rest = rest-without t n at inside there (16 * n) (omega arith);
+        }
+
+  pub closed-some :
+      (new k : ℕ) (u : List ℤ) →
+      Listed (keepBelow bound new (rowsOf (withoutRow t n at) (n - 1))) (withoutRow t n at) (n - 1) k u →
+      Listed (keepBelow bound new (without (rowsOf t n) at)) t n k u
+  closed-some new k u p =
+      record {
+        few = omega (arith, p .few);
+        long = p .long ∙ length-without t n at inside there;
+        held = p .held ∙ ap (keepBelow bound new) (rows-without t n at inside there);
+        rest =
+            rest-later (withoutRow t n at) u (16 * (n - 1)) (16 * n) (omega arith) (p .rest)
+            ∙ rest-without t n at inside there (16 * n) (omega arith);
+      }
+
+  -- whether they and `more` children are more than the rows of the table
+  pub room-for-all : (c more : ℕ) → n - 1 + more ≤ rowCount t → ltb (rowCount t) (length (keepBelow bound c (without (rowsOf t n) at)) + more) ≡ false
+  room-for-all c more h = le-ltb (rowCount t) (length (keepBelow bound c (without (rowsOf t n) at)) + more) (omega (arith, few-stay c))
+
+  pub none-leaves :
+      (old more : ℕ) →
+      All (λ b. bound b < old) (rowsOf t n) →
+      rowCount t < n - 1 + more →
+      ltb (rowCount t) (length (keepBelow bound old (without (rowsOf t n) at)) + more) ≡ true
+  none-leaves old more below h = lt-ltb (rowCount t) (length (keepBelow bound old (without (rowsOf t n) at)) + more) (omega (arith, all-but-one old below))

@@ -1,0 +1,160 @@
+-- A run of the search whose open boxes are the first rows of a table: it stands at the beginning, a step keeps it up, and where it
+-- stops the answer is the definition's. Assumes nothing.
+use borrow.Author.Tests.{ltb-true, ltb-false}
+use mathlib.Core.Path.{_≡_, refl, sym, ap, _∙_}
+use mathlib.Core.Bool.{true, false}
+use mathlib.Core.List.{List}
+use Prim.Native.Nat.{ℕ, _*_, _-_, _≤_, _<_, max}
+use native.Mathlib.Omega.{arith}
+use native.Mathlib.Nat.{le-refl}
+use lib.IntN.{ℤ}
+use lib.ListN.{length, drop}
+use Rattle.integers.specs.Lists.{All}
+use Rattle.boxes.specs.declared.Box.{Box}
+use Rattle.boxes.specs.Boxes.{InBox, volume}
+use Rattle.boxes.specs.Split.{zeroBox}
+use Rattle.rows.specs.Rows.{rowCount, rowAt, rowsOf}
+use Rattle.rows.proofs.Rows.{rows-at, rows-length, rest-later}
+use Rattle.certificate.specs.Search as Search
+use Rattle.certificate.specs.Search.{solved, spent, full, lowerBound, firstSmallest, begin, split, answer, search}
+use Rattle.certificate.specs.Certificate.{Bounds}
+use Rattle.certificate.specs.Laws.{Open, Sound, Smallest}
+use Rattle.certificate.proofs.Lists.{all-at}
+use Rattle.certificate.proofs.Smallest.{lower-le, lower-open, smallest}
+use Rattle.certificate.proofs.Steps.{gap}
+use Rattle.certificate.proofs.Running.{Running, running-begins, running-sound, running-solved, running-spent, running-full, running-goes}
+use Rattle.search.specs.declared.branch.Best.{Best}
+use Rattle.search.specs.declared.branch.State.{State}
+use Rattle.search.specs.declared.branch.Stepped.{Stepped}
+use Rattle.search.specs.Search.{kindOf, told}
+use Rattle.search.specs.Inside.{bestOf, stateOf, Steppable, Moved, Outcome, Begun, answerWith, Ran}
+
+module _
+    (cost : List ℤ → ℕ) (bound : Box → ℕ) (laws : Bounds cost bound) (budget tol : ℕ) (start : List ℤ) (domain : Box) (inside : InBox start domain)
+    (t : List ℤ) (some : 1 ≤ rowCount t) (first : State)
+  where
+    abbrev def : Search.Answer
+    def = search cost bound budget (rowCount t) tol start domain
+
+    pub record Going (s : State) (u : List ℤ) : Type 0 where
+      pub running : Running cost bound budget (rowCount t) tol start domain (stateOf u s)
+      pub best : s .best ≡ bestOf cost (s .best .vector)
+      pub long : length u ≡ length t
+      pub longer : first .peak ≤ s .peak
+      pub rest : drop (16 * s .peak) u ≡ drop (16 * s .peak) t
+
+    pub going-begins : Begun cost bound start domain t first t → Going first t
+    going-begins b =
+        record {
+          running = rw (b .state) (running-begins cost bound budget (rowCount t) tol start domain);
+          best = b .best;
+          long = refl;
+          longer = le-refl (first .peak);
+          rest = refl;
+        }
+
+    module _ (s : State) (u : List ℤ) (g : Going s u) where
+      abbrev list : List Box
+      list = rowsOf u (s .«open»)
+
+      sound : Sound cost bound budget (rowCount t) domain (stateOf u s)
+      sound = running-sound cost bound budget (rowCount t) tol start domain (stateOf u s) (g .running) laws inside
+
+      exact : s .best .cost ≡ cost (s .best .vector)
+      exact = ap (λ (b : Best). b .cost) (g .best)
+
+      -- peak never falls
+      grows : (after : State) (v : List ℤ) → Moved cost bound u s after v → s .peak ≤ after .peak
+      unfolding split
+      grows after v m = omega (arith, ap (λ (x : Search.State). x .peak) (m .state))
+
+      -- every open box has a bound below C
+      pub going-below : All (λ b. bound b < s .best .cost) list
+      going-below = rw exact (sound .below)
+
+      pub going-within : s .count ≤ budget
+      going-within = g .running .within
+
+      module _ (low at : ℕ) (lowest : low ≡ lowerBound bound (s .best .cost) list) (place : at ≡ firstSmallest bound list) where
+        pub low-le : low ≤ s .best .cost
+        low-le = rw lowest (lower-le bound (s .best .cost) list going-below)
+
+        low-is : low ≡ lowerBound bound (cost (s .best .vector)) list
+        low-is = lowest ∙ ap (λ (c : ℕ). lowerBound bound c list) exact
+
+        gap-is : gap cost bound (stateOf u s) ≡ s .best .cost - low
+        gap-is = omega (arith, exact, low-is)
+
+        answers : (kind : Search.Kind) → def ≡ answer cost bound kind (stateOf u s) → Ran def t first (answerWith (kindOf kind) s low) u
+        unfolding answer
+        answers kind e =
+            rw e
+            (record {
+              answer = rw (low-is, exact, rows-length u (s .«open»));
+              long = g .long;
+              open-rows = rw (rows-length u (s .«open»));
+              longer = g .longer;
+              rest = g .rest;
+            })
+
+        -- (a)
+        pub going-solved : s .best .cost - low ≤ tol → Ran def t first (answerWith (kindOf solved) s low) u
+        going-solved near =
+            answers solved (running-solved cost bound budget (rowCount t) tol start domain (stateOf u s) (g .running) (omega (arith, gap-is)))
+
+        module _ (far : tol < s .best .cost - low) where
+          far-gap : tol < gap cost bound (stateOf u s)
+          far-gap = omega (arith, gap-is)
+
+          -- (b)
+          pub going-spent : s .count ≡ budget → Ran def t first (answerWith (kindOf spent) s low) u
+          going-spent all =
+              answers spent (running-spent cost bound budget (rowCount t) tol start domain (stateOf u s) (g .running) far-gap all)
+
+          -- (c)
+          module _ (left : s .count ≡ budget → ⊥) where
+            less : s .count < budget
+            less = omega (arith, going-within)
+
+            pub going-steppable : budget < 4294967296 → Steppable cost bound u s at
+            going-steppable few =
+                let many : 1 ≤ length list = lower-open bound (cost (s .best .vector)) list (omega (arith, far-gap)) in
+                let there : at < s .«open» = rw place (omega (arith, (smallest bound list many) .inside, rows-length u (s .«open»))) in
+                record {
+                  best = g .best;
+                  first = place;
+                  inside = there;
+                  wide = rw (rows-at u (s .«open») at zeroBox there) at ((all-at zeroBox (sound .opened) at (omega (arith, rows-length u (s .«open»)))) .two);
+                  below = going-below;
+                  room = omega (arith, sound .longest, sound .room, rows-length u (s .«open»), g .long);
+                  longest = omega (arith, sound .longest, rows-length u (s .«open»));
+                  countable = omega (arith, less);
+                }
+
+            module _ (r : Stepped) (v : List ℤ) (o : Outcome cost bound u s r v) where
+              pub going-full : r .full ≡ true → Ran def t first (answerWith (kindOf full) s low) v
+              going-full e =
+                  let many = ltb-true (rowCount u) (length ((split cost bound (stateOf u s)) .list)) (sym (o .told) ∙ e) in
+                  rw (o .kept e)
+                  (answers full
+                  (running-full cost bound budget (rowCount t) tol start domain (stateOf u s) (g .running) far-gap less (omega (arith, g .long))))
+
+              -- one split less is left
+              pub going-counts : r .full ≡ false → budget - r .state .count < budget - s .count
+              unfolding split
+              going-counts e = omega (arith, less, ap (λ (x : Search.State). x .count) (o .moved e .state))
+
+              pub going-on : r .full ≡ false → Going (r .state) v
+              going-on e =
+                  let few = ltb-false (rowCount u) (length ((split cost bound (stateOf u s)) .list)) (sym (o .told) ∙ e) in
+                  let m = o .moved e in
+                  let peaks = grows (r .state) v m in
+                  record {
+                    running =
+                        rw (m .state)
+                        (running-goes cost bound budget (rowCount t) tol start domain (stateOf u s) (g .running) far-gap less (omega (arith, g .long)));
+                    best = m .best;
+                    long = m .long ∙ g .long;
+                    longer = omega (arith, g .longer);
+                    rest = m .rest ∙ rest-later t u (16 * s .peak) (16 * r .state .peak) (omega arith) (g .rest);
+                  }

@@ -1,0 +1,11 @@
+pub mod UpTo
+pub mod Taking
+pub mod Scanning
+pub mod Compacting
+pub mod Closing
+pub mod Placing
+pub mod Stepping
+pub mod Laws
+pub mod Beginning
+pub mod Going
+pub mod Accepted

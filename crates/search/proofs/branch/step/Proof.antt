@@ -1,0 +1,146 @@
+-- By whether the table has room. The box taken out is the one at the place of the first smallest bound, so what the callees say of it
+-- is what the definition's split says.
+use mathlib.Core.Path.{_≡_, refl, sym, ap, _∙_}
+use mathlib.Core.Bool.{Bool, true, false, cond}
+use mathlib.Core.List.{List}
+use Prim.Native.Nat.{ℕ, _+_, _≤_}
+use native.Mathlib.Omega.{arith}
+use lib.IntN.{ℤ}
+use Rattle.boxes.specs.declared.Box.{Box}
+use Rattle.boxes.specs.Boxes.{volume}
+use Rattle.points.specs.Points.{pointsOf}
+use Rattle.model.specs.Cost.{cost, bound}
+use Rattle.rows.specs.Rows.{rowAt}
+use Rattle.search.specs.Inside.{branchesOf}
+use Rattle.search.proofs.Stepping.{step-told, step-fits, step-moved}
+use borrow.Author.Needs.{needs}
+use Rattle.search.proofs.branch.step.Statement.{statement}
+use Rattle.search.proofs.branch.step.Tie as tie
+
+read-row-requires : tie.Need-read-row-requires
+read-row-requires c κs = search needs
+
+cut-box-requires : tie.Need-cut-box-requires
+cut-box-requires c κs =
+    let start = c .before .before .before .before in
+    (start .pre .0, start .pre .1 .best, rw (c .read-row .ensures) (start .pre .1 .wide))
+
+one-if-requires : tie.Need-one-if-requires
+one-if-requires c κs = search needs
+
+one-if-requires-2 : tie.Need-one-if-requires-2
+one-if-requires-2 c κs = search needs
+
+-- what is known once the box is cut
+module _ (c : tie.After-cut-box) where
+  abbrev start : tie.Start
+  start = c .before .before .before .before .before
+
+  abbrev C : List ℤ → ℕ
+  C = cost (start .args .m) (pointsOf (start .args .store .now))
+
+  abbrev B : Box → ℕ
+  B = bound (start .args .m) (pointsOf (start .args .store .now))
+
+  abbrev table : List ℤ
+  table = start .args .table .now
+
+  made : c .cut-box .result ≡ branchesOf C B (rowAt table (start .args .at)) (start .args .s .best .vector)
+  made = c .cut-box .ensures ∙ ap (λ (b : Box). branchesOf C B b (start .args .s .best .vector)) (c .before .read-row .ensures)
+
+-- and how many halves are kept
+ones : (b : Bool) → cond b 1 0 ≤ 1
+ones true = omega arith
+ones false = omega arith
+
+few : (c : tie.After-one-if2) → c .before .one-if .result + c .one-if2 .result ≤ 2
+few c =
+    let q = c .before .before .before .before .before in
+    omega (arith, c .before .one-if .ensures, c .one-if2 .ensures, ones (q .cut-box .result .left .kept), ones (q .cut-box .result .right .kept))
+
+add-more : tie.Need-add-more
+add-more c = omega (arith, few c)
+
+too-many-requires : tie.Need-too-many-requires
+too-many-requires c κs =
+    let p = start (c .before .before .before .before .before .before) .pre in
+    (p .0, p .1 .inside, p .1 .room, few (c .before), p .1 .below)
+
+same-length : tie.Need-same-length
+same-length c = search needs
+
+returns : tie.Need-returns
+returns c =
+    let tested = c .before in
+    let ones = tested .before .before in
+    let q = ones .before .before .before .before .before in
+    let a = start q .args in
+    record {
+      told =
+          sym (c .if1 .taken)
+          ∙ step-told (C q) (B q) (table q) (a .s) (a .at) (start q .pre .1) (q .cut-box .result) (made q) (tested .too-many .result)
+          (ones .before .one-if .result) (ones .one-if2 .result) (ones .before .one-if .ensures) (ones .one-if2 .ensures) (tested .too-many .ensures);
+      kept = λ e. refl;
+      moved = λ e. let z : _≡_ {A = ℕ} 0 1 = cc in absurd (omega arith);
+    }
+
+place-requires : tie.Need-place-requires
+place-requires c κs =
+    let tested = c .before .before in
+    let ones = tested .before .before in
+    let q = ones .before .before .before .before .before in
+    let a = start q .args in
+    let p = start q .pre in (
+      (p .0, p .1 .inside, p .1 .room, p .1 .below),
+      step-fits (C q) (B q) (table q) (a .s) (a .at) (p .1) (q .cut-box .result) (made q) (tested .too-many .result)
+          (ones .before .one-if .result) (ones .one-if2 .result) (ones .before .one-if .ensures) (ones .one-if2 .ensures) (tested .too-many .ensures) (c .before .if1 .left),
+    )
+
+add-t23 : tie.Need-add-t23
+add-t23 c =
+    let q = c .before .before .before .before .before .before .before .before .before .before .before .before in
+    omega (arith, start q .pre .1 .countable)
+
+larger-requires : tie.Need-larger-requires
+larger-requires c κs = search needs
+
+same-length-2 : tie.Need-same-length-2
+same-length-2 c = search needs
+
+returns-2 : tie.Need-returns-2
+returns-2 c =
+    let placed = c .before .before .before in
+    let left = placed .before .before in
+    let tested = left .before in
+    let ones = tested .before .before in
+    let q = ones .before .before .before .before .before in
+    let a = start q .args in
+    let p = start q .pre in
+    record {
+      told =
+          sym (left .if1 .left)
+          ∙ step-told (C q) (B q) (table q) (a .s) (a .at) (p .1) (q .cut-box .result) (made q) (tested .too-many .result)
+          (ones .before .one-if .result) (ones .one-if2 .result) (ones .before .one-if .ensures) (ones .one-if2 .ensures) (tested .too-many .ensures);
+      kept = λ e. let z : _≡_ {A = ℕ} 0 1 = cc in absurd (omega arith);
+      moved = λ e.
+          step-moved (C q) (B q) (table q) (a .s) (a .at) (p .1) (q .cut-box .result) (made q) (placed .place .result) (placed .place .last .1 .1 .0)
+          (placed .place .ensures) (a .s .count + 1) (c .larger .result) refl (c .larger .ensures);
+    }
+
+pub step-spec : {M : Type 1} → statement M
+step-spec =
+    tie.close
+    (tie.spec
+    read-row-requires
+    cut-box-requires
+    one-if-requires
+    one-if-requires-2
+    add-more
+    too-many-requires
+    same-length
+    returns
+    place-requires
+    add-t23
+    larger-requires
+    same-length-2
+    returns-2)

@@ -1,0 +1,206 @@
+-- The invariant: the state was reached from the beginning, and the run from there on gives the definition's answer (`Going`). The
+-- measure is the splits left.
+use borrow.Author.Needs.{needs}
+use mathlib.Core.Path.{_≡_, refl, sym, ap, _∙_}
+use mathlib.Core.List.{List}
+use Prim.Native.Nat.{ℕ, _-_, _≤_, _<_}
+use native.Mathlib.Omega.{arith}
+use lib.IntN.{ℤ}
+use lib.ListN.{length}
+use Rattle.boxes.specs.declared.Box.{Box}
+use Rattle.boxes.specs.Boxes.{InBox}
+use Rattle.jobs.specs.declared.Job.{Job}
+use Rattle.points.specs.Points.{pointsOf}
+use Rattle.model.specs.Cost.{cost, bound}
+use Rattle.rows.specs.Rows.{rowCount}
+use Rattle.certificate.specs.Certificate.{Bounds}
+use Rattle.search.specs.declared.branch.State.{State}
+use Rattle.search.specs.Search.{searched}
+use Rattle.search.proofs.Laws.{bounds}
+use Rattle.search.proofs.Going.{Going, going-begins, going-below, low-le, going-solved, going-spent, going-steppable, going-full, going-on, going-counts}
+use Rattle.search.proofs.run.run.Statement.{statement}
+use Rattle.search.proofs.run.run.Tie as tie
+
+-- what a run of a job keeps up
+abbrev GoingJob : (store : List ℕ) (job : Job) (t : List ℤ) (first s : State) (u : List ℤ) → Type 0
+GoingJob store job t first s u =
+    (inside : InBox (job .start) (job .domain)) →
+    (some : 1 ≤ rowCount t) →
+    Going (cost (job .model) (pointsOf store)) (bound (job .model) (pointsOf store)) (bounds (job .model) (pointsOf store)) (job .budget) (job .t) (job .start) (job .domain) inside t some first s u
+
+abbrev Inv-loop : tie.InvT-loop
+Inv-loop store job table₀ m s₀ table s = GoingJob store job table₀ s₀ s table × (length table ≡ length table₀)
+
+abbrev μ-loop : tie.MeasureT-loop
+μ-loop store job table₀ m s₀ table s = job .budget - s .count
+
+loop-holds : tie.Need-loop-holds Inv-loop μ-loop
+loop-holds c =
+    let start = c .before .before in
+    let j = start .args .job in
+    let s = start .args .store .now in (
+      λ inside some.
+          going-begins (cost (j .model) (pointsOf s)) (bound (j .model) (pointsOf s)) (bounds (j .model) (pointsOf s)) (j .budget) (j .t) (j .start) (j .domain) inside (start .args .table .now) some
+          (start .args .first) (start .pre .1),
+      refl,
+    )
+
+-- what a turn knows
+module _ (l : tie.At-loop Inv-loop μ-loop) where
+  abbrev start : tie.Start Inv-loop μ-loop
+  start = l .before .before .before
+
+  abbrev j : Job
+  j = start .args .job
+
+  abbrev t : List ℤ
+  t = start .args .table .now
+
+  abbrev C : List ℤ → ℕ
+  C = cost (j .model) (pointsOf (start .args .store .now))
+
+  abbrev B : Box → ℕ
+  B = bound (j .model) (pointsOf (start .args .store .now))
+
+  abbrev laws : Bounds C B
+  laws = bounds (j .model) (pointsOf (start .args .store .now))
+
+  abbrev g : Going C B laws (j .budget) (j .t) (j .start) (j .domain) (start .pre .0 .2) t (start .pre .0 .1) (start .args .first) (l .loop .s) (l .loop .table)
+  g = l .loop .inv .0 (start .pre .0 .2) (start .pre .0 .1)
+
+smallest-requires : tie.Need-smallest-requires Inv-loop μ-loop
+smallest-requires c κs =
+    let l = c .before .before in (
+      start l .pre .0 .0,
+      going-below (C l) (B l) (laws l) (j l .budget) (j l .t) (j l .start) (j l .domain) (start l .pre .0 .2) (t l) (start l .pre .0 .1) (start l .args .first) (l .loop .s) (l .loop .table) (g l),
+    )
+
+sub-if1 : tie.Need-sub-if1 Inv-loop μ-loop
+sub-if1 c =
+    let q = c .before .before in
+    let l = q .before .before .before in
+    low-le (C l) (B l) (laws l) (j l .budget) (j l .t) (j l .start) (j l .domain) (start l .pre .0 .2) (t l) (start l .pre .0 .1) (start l .args .first) (l .loop .s) (l .loop .table) (g l)
+    (q .smallest .result .bound) (q .smallest .result .at) (q .smallest .ensures .0) (q .smallest .ensures .1)
+
+answer-requires : tie.Need-answer-requires Inv-loop μ-loop
+answer-requires c κs = search needs
+
+same-length : tie.Need-same-length Inv-loop μ-loop
+same-length c = c .before .before .before .before .before .before .before .before .loop .inv .1
+
+returns : tie.Need-returns Inv-loop μ-loop
+unfolding searched
+returns c =
+    let q = c .before .before .before .before .before in
+    let l = q .before .before .before in
+    rw (c .answer .ensures)
+    (going-solved (C l) (B l) (laws l) (j l .budget) (j l .t) (j l .start) (j l .domain) (start l .pre .0 .2) (t l) (start l .pre .0 .1) (start l .args .first) (l .loop .s) (l .loop .table) (g l)
+    (q .smallest .result .bound) (q .smallest .result .at) (q .smallest .ensures .0) (q .smallest .ensures .1) (c .before .if1 .taken))
+
+answer-requires-2 : tie.Need-answer-requires-2 Inv-loop μ-loop
+answer-requires-2 c κs = search needs
+
+same-length-2 : tie.Need-same-length-2 Inv-loop μ-loop
+same-length-2 c = c .before .before .before .before .before .before .before .before .before .before .before .loop .inv .1
+
+returns-2 : tie.Need-returns-2 Inv-loop μ-loop
+unfolding searched
+returns-2 c =
+    let far = c .before .before .before .before in
+    let q = far .before .before .before .before in
+    let l = q .before .before .before in
+    rw (c .answer2 .ensures)
+    (going-spent (C l) (B l) (laws l) (j l .budget) (j l .t) (j l .start) (j l .domain) (start l .pre .0 .2) (t l) (start l .pre .0 .1) (start l .args .first) (l .loop .s) (l .loop .table) (g l)
+    (q .smallest .result .bound) (q .smallest .result .at) (q .smallest .ensures .0) (q .smallest .ensures .1) (far .if1 .left) (c .before .if2 .taken))
+
+step-requires : tie.Need-step-requires Inv-loop μ-loop
+step-requires c κs =
+    let left = c .before in
+    let far = left .before .before .before in
+    let q = far .before .before .before .before in
+    let l = q .before .before .before in (
+      start l .pre .0 .0,
+      going-steppable (C l) (B l) (laws l) (j l .budget) (j l .t) (j l .start) (j l .domain) (start l .pre .0 .2) (t l) (start l .pre .0 .1) (start l .args .first) (l .loop .s) (l .loop .table) (g l)
+          (q .smallest .result .bound) (q .smallest .result .at) (q .smallest .ensures .0) (q .smallest .ensures .1) (far .if1 .left) (left .if2 .left) (search (needs, start l .good .1 .0)),
+    )
+
+answer-requires-3 : tie.Need-answer-requires-3 Inv-loop μ-loop
+answer-requires-3 c κs = search needs
+
+same-length-3 : tie.Need-same-length-3 Inv-loop μ-loop
+same-length-3 c =
+    let stepped = c .before .before .before in
+    let l = stepped .before .before .before .before .before .before .before .before .before .before .before .before in
+    ap length (stepped .step .ensures .kept (c .before .if3 .taken)) ∙ l .loop .inv .1
+
+returns-3 : tie.Need-returns-3 Inv-loop μ-loop
+unfolding searched
+returns-3 c =
+    let stepped = c .before .before .before in
+    let left = stepped .before .before in
+    let far = left .before .before .before in
+    let q = far .before .before .before .before in
+    let l = q .before .before .before in
+    rw (c .answer3 .ensures)
+    (going-full (C l) (B l) (laws l) (j l .budget) (j l .t) (j l .start) (j l .domain) (start l .pre .0 .2) (t l) (start l .pre .0 .1) (start l .args .first) (l .loop .s) (l .loop .table) (g l)
+    (q .smallest .result .bound) (q .smallest .result .at) (q .smallest .ensures .0) (q .smallest .ensures .1) (far .if1 .left) (left .if2 .left)
+    (stepped .step .result) (stepped .step .last .1 .1 .0) (stepped .step .ensures) (c .before .if3 .taken))
+
+loop-less : tie.Need-loop-less Inv-loop μ-loop
+loop-less c =
+    let stepped = c .before .before .before in
+    let left = stepped .before .before in
+    let far = left .before .before .before in
+    let q = far .before .before .before .before in
+    let l = q .before .before .before in
+    going-counts (C l) (B l) (laws l) (j l .budget) (j l .t) (j l .start) (j l .domain) (start l .pre .0 .2) (t l) (start l .pre .0 .1) (start l .args .first) (l .loop .s) (l .loop .table) (g l)
+    (q .smallest .result .bound) (q .smallest .result .at) (q .smallest .ensures .0) (q .smallest .ensures .1) (far .if1 .left) (left .if2 .left)
+    (stepped .step .result) (stepped .step .last .1 .1 .0) (stepped .step .ensures) (c .before .if3 .left)
+
+-- the run after a split
+module _ (c : tie.After-s Inv-loop μ-loop) where
+  abbrev stepped : tie.After-step Inv-loop μ-loop
+  stepped = c .before .before .before
+
+  abbrev left : tie.Else2 Inv-loop μ-loop
+  left = stepped .before .before
+
+  abbrev far : tie.Else1 Inv-loop μ-loop
+  far = left .before .before .before
+
+  abbrev found : tie.After-smallest Inv-loop μ-loop
+  found = far .before .before .before .before
+
+  abbrev turn : tie.At-loop Inv-loop μ-loop
+  turn = found .before .before .before
+
+  goes : GoingJob (start turn .args .store .now) (j turn) (t turn) (start turn .args .first) (stepped .step .result .state) (stepped .step .last .1 .1 .0)
+  goes inside some =
+      going-on (C turn) (B turn) (laws turn) (j turn .budget) (j turn .t) (j turn .start) (j turn .domain) inside (t turn) some (start turn .args .first) (turn .loop .s) (turn .loop .table)
+      (turn .loop .inv .0 inside some) (found .smallest .result .bound) (found .smallest .result .at) (found .smallest .ensures .0) (found .smallest .ensures .1) (far .if1 .left) (left .if2 .left)
+      (stepped .step .result) (stepped .step .last .1 .1 .0) (stepped .step .ensures) (c .before .if3 .left)
+
+loop-again : tie.Need-loop-again Inv-loop μ-loop
+loop-again c = let s = start (turn c) in (goes c, goes c (s .pre .0 .2) (s .pre .0 .1) .long)
+
+pub run-spec : {M : Type 1} → statement M
+run-spec =
+    tie.close
+    (tie.spec
+    Inv-loop
+    μ-loop
+    loop-holds
+    smallest-requires
+    sub-if1
+    answer-requires
+    same-length
+    returns
+    answer-requires-2
+    same-length-2
+    returns-2
+    step-requires
+    answer-requires-3
+    same-length-3
+    returns-3
+    loop-less
+    loop-again)

@@ -1,0 +1,87 @@
+-- What a search answers: "The search" over the points of a store, with the checks 1 to 8 before it.
+use mathlib.Core.Path.{_≡_}
+use mathlib.Core.List.{List, [], _∷_}
+use Prim.Native.Nat.{ℕ, _*_}
+use lib.Dec.{leb}
+use lib.IntN.{ℤ, pos}
+use lib.ListN.{length, drop, replicate}
+use Rattle.codes.specs.declared.Check.{Check}
+use Rattle.codes.specs.declared.Check.the-variants.{Pass, Refuse}
+use Rattle.codes.specs.declared.Refusal.{Refusal}
+use Rattle.codes.specs.Codes.{passIf, inOrder}
+use Rattle.boxes.specs.Boxes.{checkBox, checkStart}
+use Rattle.jobs.specs.declared.Job.{Job}
+use Rattle.points.specs.Points.{pointsOf, checkStray}
+use Rattle.model.specs.Cost.{cost, bound}
+use Rattle.model.specs.Calls.{checkModel}
+use Rattle.rows.specs.Rows.{rowCount, rowsOf}
+use Rattle.certificate.specs.Search as Search
+use Rattle.certificate.specs.Search.{solved, spent, full, search}
+use Rattle.certificate.specs.Certificate.{Certificate}
+use Rattle.search.specs.declared.Kind.{Kind}
+use Rattle.search.specs.declared.Kind.the-variants.{Solved, Spent, Full, Refused}
+use Rattle.search.specs.declared.Answer.{Answer}
+
+-- The search that a job asks for: the costs and bounds are those of the store's points, and "r is its length divided by 16, rounded down".
+unfoldable pub searched : List ℕ → Job → List ℤ → Search.Answer
+searched store job table =
+    search (cost (job .model) (pointsOf store)) (bound (job .model) (pointsOf store)) (job .budget) (rowCount table) (job .t) (job .start) (job .domain)
+
+abbrev pub kindOf : Search.Kind → Kind
+kindOf solved = Solved
+kindOf spent = Spent
+kindOf full = Full
+
+-- "The answer carries vector, C, L, count, open boxes and peak", the boxes by their number: they stand in the table.
+abbrev pub told : Search.Answer → Answer
+told r =
+    record {
+      kind = kindOf (r .kind);
+      vector = r .vector;
+      cost = r .cost;
+      bound = r .bound;
+      count = r .count;
+      «open» = length (r .list);
+      peak = r .peak;
+    }
+
+-- at a refusal every value is 0
+abbrev pub refused : Refusal → Answer
+refused why = record { kind = Refused why; vector = replicate 8 (pos 0); cost = 0; bound = 0; count = 0; «open» = 0; peak = 0 }
+
+-- "A search and fit make 1 to 8"; 8: "fewer than 16 numbers"
+unfoldable pub checkSearch : List ℕ → Job → ℕ → Check
+checkSearch store job numbers =
+    let m = job .model in
+    inOrder
+    (checkModel store m
+    ∷ checkBox (m .n) (m .d) (job .domain)
+    ∷ checkStart (job .domain) (job .start)
+    ∷ checkStray (m .d) (pointsOf store)
+    ∷ passIf (leb 16 numbers) Refusal.Table
+    ∷ [])
+
+-- "A search accepts a job when none of the checks that it makes, by the codes below, refuses the call."
+abbrev pub answerUnlessRefused : Check → Search.Answer → Answer
+answerUnlessRefused Pass r = told r
+answerUnlessRefused (Refuse why) r = refused why
+
+unfoldable pub searchAnswer : List ℕ → Job → List ℤ → Answer
+searchAnswer store job table = answerUnlessRefused (checkSearch store job (length table)) (searched store job table)
+
+-- The table afterwards, where it was `table`. "At the end the first rows hold the open boxes in list order. Rows from there up to peak
+-- may hold leftovers; from peak on, and in a partial row, nothing changed." At a refusal nothing changed at all.
+pub record TableAfter (store : List ℕ) (job : Job) (table after : List ℤ) : Type 0 where
+  pub long : length after ≡ length table
+  pub untouched : (why : Refusal) → checkSearch store job (length table) ≡ Refuse why → after ≡ table
+  pub open-rows : checkSearch store job (length table) ≡ Pass → rowsOf after (length ((searched store job table) .list)) ≡ (searched store job table) .list
+  pub rest :
+      checkSearch store job (length table) ≡ Pass →
+      drop (16 * (searched store job table) .peak) after ≡ drop (16 * (searched store job table) .peak) table
+
+-- the certificate of the answer to an accepted job
+abbrev pub Certified : List ℕ → Job → List ℤ → Type 0
+Certified store job table =
+    checkSearch store job (length table) ≡ Pass →
+    Certificate (cost (job .model) (pointsOf store)) (bound (job .model) (pointsOf store)) (job .budget) (rowCount table) (job .t) (job .start) (job .domain)
+    (searched store job table)

@@ -1,0 +1,98 @@
+// The search: branch and bound over the boxes of a lent table, with the certificate of its answer.
+mod branch;
+mod run;
+mod scan;
+
+use crate::run::begin;
+use crate::run::run;
+use codes::Check;
+use codes::Refusal;
+use codes::in_order;
+use jobs::Job;
+ghost use mathlib.Core.Path.{_≡_};
+ghost use mathlib.Core.List.{List};
+ghost use lib.Dec.{leb};
+ghost use lib.ListN.{length};
+ghost use Rattle.codes.specs.Codes.{passIf};
+ghost use Rattle.codes.specs.declared.Refusal.{Refusal};
+ghost use Rattle.search.specs.Search.{checkSearch, searchAnswer, refused, TableAfter, Certified};
+
+// What a search comes to.
+pub enum Kind {
+    Solved,
+    Spent,
+    Full,
+    Refused(Refusal),
+}
+
+// "The answer carries vector, C, L, count, open boxes and peak." At a refusal they are all 0.
+pub struct Answer {
+    pub kind: Kind,
+    pub vector: [i16; 8],
+    pub cost: u64,
+    pub bound: u64,
+    pub count: u32,
+    pub open: usize,
+    pub peak: usize,
+}
+
+// Check 8, of the numbers that the table has.
+fn check_table(numbers: usize) -> Check
+    ensures { λ r. ⌜ r ≡ passIf (leb 16 numbers) Refusal.Table ⌝ }
+{
+    if 16 <= numbers {
+        Check::Pass
+    } else {
+        Check::Refuse(Refusal::Table)
+    }
+}
+
+// Checks 1 to 8, with a table of so many numbers. Only a store that passes the others is looked through for stray fields.
+pub fn check_search(store: &[u8], job: Job, numbers: usize) -> Check
+    ensures { λ r. ⌜ r ≡ checkSearch (now (store .entry)) job numbers ⌝ }
+{
+    let m = job.model;
+    let domain = job.domain;
+    let start = job.start;
+    let region = in_order(
+        boxes::check_box(m.n, m.d, domain),
+        boxes::check_start(domain, start),
+    );
+    match in_order(model::check_model(store, m), region) {
+        Check::Pass => in_order(points::check_stray(store, m.d), check_table(numbers)),
+        Check::Refuse(r) => Check::Refuse(r),
+    }
+}
+
+// The answer to a job that is refused.
+fn refusal(why: Refusal) -> Answer
+    ensures { λ r. ⌜ r ≡ refused why ⌝ }
+{
+    Answer {
+        kind: Kind::Refused(why),
+        vector: [0i16; 8],
+        cost: 0,
+        bound: 0,
+        count: 0,
+        open: 0,
+        peak: 0,
+    }
+}
+
+// Searches the box of a job for the cheapest vector, within a split budget and the rows of a lent table.
+pub fn search(store: &[u8], job: Job, table: &mut [i16]) -> Answer
+    ensures answer { λ r. ⌜ r ≡ searchAnswer (now (store .entry)) job (now (table .entry)) ⌝ }
+    ensures table { λ _. ⌜ TableAfter (now (store .entry)) job (now (table .entry)) (now (table .exit)) ⌝ }
+    ensures certificate { λ _. ⌜ Certified (now (store .entry)) job (now (table .entry)) ⌝ }
+{
+    match check_search(store, job, table.len()) {
+        Check::Pass => {
+            let m = job.model;
+            let domain = job.domain;
+            let start = job.start;
+            let first = begin(store, m, table, domain, start);
+            run(store, job, table, first)
+        }
+        Check::Refuse(why) => refusal(why),
+    }
+}
