@@ -1,6 +1,9 @@
-//! Where `rt staticlib` writes the library.
+//! Links the static libraries that `rt staticlib` writes.
 fn main() {
-    let root = std::env::var("CARGO_MANIFEST_DIR").unwrap();
-    println!("cargo:rustc-link-search=native={root}/../target/staticlib");
-    println!("cargo:rerun-if-changed={root}/../target/staticlib/libbench_kernels.a");
+    let libraries = format!("{}/../target/staticlib", env!("CARGO_MANIFEST_DIR"));
+    println!("cargo:rustc-link-search=native={libraries}");
+    for name in ["capi", "bench_kernels"] {
+        println!("cargo:rustc-link-lib=static={name}");
+        println!("cargo:rerun-if-changed={libraries}/lib{name}.a");
+    }
 }
