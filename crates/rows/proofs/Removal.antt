@@ -1,14 +1,12 @@
 -- What a row that is taken out leaves. Assumes nothing.
 use borrow.Author.Tests.{lt-ltb, le-leb}
-use mathlib.Core.Path.{_≡_, refl, sym, ap, ap₂, _∙_}
+use mathlib.Core.Path.{_≡_, sym, ap, _∙_}
 use mathlib.Core.List.{List, [], _∷_, _++_, append-assoc, append-nil}
 use Prim.Native.Nat.{ℕ, zero, suc, _+_, _*_, _-_, _≤_, _<_}
-use native.Mathlib.Numerals.{add-one}
 use native.Mathlib.Omega.{arith}
 use lib.IntN.{ℤ}
 use lib.ListN.{length, take, drop, length-append, length-drop, drop-of-length-le}
 use lib.Seq.{paste, length-paste, drop-paste, take-at, drop-at, drop-drop, length-take-le, take-append-le, drop-append-le}
-use Rattle.boxes.specs.declared.Box.{Box}
 use Rattle.rows.specs.Rows.{rowCount, rowAt, rowsOf, withoutRow}
 use Rattle.rows.proofs.Parts.{part-before}
 use Rattle.rows.proofs.Rows.{row-there, rest-later, rows-more, rows-length, rows-same}

@@ -1,13 +1,12 @@
 -- The beginning of a search on a table. Assumes nothing.
-use mathlib.Core.Path.{_≡_, refl, sym, ap, _∙_}
+use mathlib.Core.Path.{_≡_, refl, _∙_}
 use mathlib.Core.Bool.{true, false}
-use mathlib.Core.List.{List, [], _∷_}
-use Prim.Native.Nat.{ℕ, _*_, _≤_, _<_, min}
+use mathlib.Core.List.{List}
+use Prim.Native.Nat.{ℕ, _*_, _≤_}
 use native.Mathlib.Omega.{arith}
 use borrow.Author.Tests.{ltb-true, ltb-false}
 use lib.Dec.{ltb}
 use lib.IntN.{ℤ}
-use lib.ListN.{length}
 use Rattle.codes.specs.declared.Check.the-variants.{Pass}
 use Rattle.boxes.specs.declared.Box.{Box}
 use Rattle.jobs.specs.declared.Model.{Model}
@@ -18,9 +17,9 @@ use Rattle.model.proofs.Passed.{ready}
 use Rattle.model.proofs.Sums.{total-uncapped}
 use Rattle.rows.specs.Rows.{rowCount, rowsOf, withRow}
 use Rattle.rows.proofs.Rows.{Whole, length-with, rest-with, rows-with}
-use Rattle.certificate.specs.Search.{keepBelow, begin}
+use Rattle.certificate.specs.Search.{begin}
 use Rattle.certificate.proofs.Kept.{keep-one, drop-one}
-use Rattle.search.specs.Inside.{bestOf, stateOf, Begun}
+use Rattle.search.specs.Inside.{Begun}
 use Rattle.search.proofs.UpTo.{cost-up-to}
 
 -- no cost reaches the largest number of 64 bits

@@ -1,13 +1,12 @@
 -- Rows that move to the front of the table in place: those before row i with bounds below c are the first k. Assumes nothing.
 use mathlib.Core.Path.{_≡_, refl, sym, ap, _∙_}
 use mathlib.Core.Bool.{Bool, true, false, cond}
-use mathlib.Core.List.{List, [], _∷_, _++_, append-nil}
-use Prim.Native.Nat.{ℕ, _+_, _*_, _≤_, _<_}
+use mathlib.Core.List.{List, [], _∷_, append-nil}
+use Prim.Native.Nat.{ℕ, _+_, _*_, _<_}
 use native.Mathlib.Omega.{arith}
 use borrow.Author.Tests.{ltb-true, ltb-false}
 use lib.Dec.{ltb}
 use lib.IntN.{ℤ}
-use lib.ListN.{length, drop}
 use Rattle.boxes.specs.declared.Box.{Box}
 use Rattle.rows.specs.Rows.{rowCount, rowAt, rowsOf, withRow}
 use Rattle.rows.proofs.Rows.{row-whole, row-of-rest, rest-later, length-with, rest-with, rows-more, rows-with}

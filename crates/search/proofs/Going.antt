@@ -4,21 +4,21 @@ use borrow.Author.Tests.{ltb-true, ltb-false}
 use mathlib.Core.Path.{_≡_, refl, sym, ap, _∙_}
 use mathlib.Core.Bool.{true, false}
 use mathlib.Core.List.{List}
-use Prim.Native.Nat.{ℕ, _*_, _-_, _≤_, _<_, max}
+use Prim.Native.Nat.{ℕ, _*_, _-_, _≤_, _<_}
 use native.Mathlib.Omega.{arith}
 use native.Mathlib.Nat.{le-refl}
 use lib.IntN.{ℤ}
 use lib.ListN.{length, drop}
 use Rattle.integers.specs.Lists.{All}
 use Rattle.boxes.specs.declared.Box.{Box}
-use Rattle.boxes.specs.Boxes.{InBox, volume}
+use Rattle.boxes.specs.Boxes.{InBox}
 use Rattle.boxes.specs.Split.{zeroBox}
-use Rattle.rows.specs.Rows.{rowCount, rowAt, rowsOf}
+use Rattle.rows.specs.Rows.{rowCount, rowsOf}
 use Rattle.rows.proofs.Rows.{rows-at, rows-length, rest-later}
 use Rattle.certificate.specs.Search as Search
-use Rattle.certificate.specs.Search.{solved, spent, full, lowerBound, firstSmallest, begin, split, answer, search}
+use Rattle.certificate.specs.Search.{solved, spent, full, lowerBound, firstSmallest, split, answer, search}
 use Rattle.certificate.specs.Certificate.{Bounds}
-use Rattle.certificate.specs.Laws.{Open, Sound, Smallest}
+use Rattle.certificate.specs.Laws.{Sound}
 use Rattle.certificate.proofs.Lists.{all-at}
 use Rattle.certificate.proofs.Smallest.{lower-le, lower-open, smallest}
 use Rattle.certificate.proofs.Steps.{gap}

@@ -3,7 +3,7 @@ use borrow.Author.Tests.{ltb-true, ltb-false}
 use mathlib.Core.Path.{_≡_, refl, sym, ap, subst, _∙_}
 use mathlib.Core.Bool.{Bool, true, false, cond}
 use mathlib.Core.List.{List, [], _∷_, _++_, append-assoc, append-nil}
-use Prim.Native.Nat.{ℕ, _+_, _*_, _≤_, _<_, max}
+use Prim.Native.Nat.{ℕ, _+_, _*_, _≤_, max}
 use native.Mathlib.Omega.{arith}
 use lib.Dec.{ltb}
 use lib.IntN.{ℤ}
@@ -15,7 +15,7 @@ use Rattle.certificate.specs.Search.{keepBelow, without}
 use Rattle.certificate.proofs.Kept.{keep-one, drop-one, keep-append}
 use Rattle.search.specs.declared.branch.Child.{Child}
 use Rattle.search.specs.declared.branch.Branches.{Branches}
-use Rattle.search.specs.Inside.{Listed, childOf, Placeable}
+use Rattle.search.specs.Inside.{Listed, Placeable}
 
 -- one more if b
 abbrev pub more : Bool → ℕ → ℕ

@@ -1,10 +1,10 @@
 -- The split of the definition, in terms of the table: what is kept is what stays of the first rows, and the halves of the row taken out.
 -- Assumes nothing.
-use borrow.Author.Tests.{ltb-false, lt-ltb, le-ltb}
-use mathlib.Core.Path.{_≡_, refl, sym, ap, ap₂, _∙_}
+use borrow.Author.Tests.{ltb-false}
+use mathlib.Core.Path.{_≡_, refl, sym, ap, _∙_}
 use mathlib.Core.Bool.{Bool, true, false, cond}
 use mathlib.Core.List.{List, [], _∷_, _++_}
-use Prim.Native.Nat.{ℕ, suc, _+_, _*_, _≤_, _<_, max}
+use Prim.Native.Nat.{ℕ, suc, _+_, _*_, max}
 use native.Mathlib.Numerals.{add-one}
 use native.Mathlib.Omega.{arith}
 use lib.Dec.{ltb}
@@ -15,11 +15,11 @@ use Rattle.boxes.specs.Split.{zeroBox}
 use Rattle.rows.specs.Rows.{rowCount, rowAt, rowsOf}
 use Rattle.rows.proofs.Rows.{rows-at, rest-later}
 use Rattle.certificate.specs.Search as Search
-use Rattle.certificate.specs.Search.{keepBelow, firstSmallest, boxAt, without, split}
+use Rattle.certificate.specs.Search.{keepBelow, boxAt, without, split}
 use Rattle.certificate.proofs.Kept.{keep-append}
 use Rattle.search.specs.declared.branch.Branches.{Branches}
 use Rattle.search.specs.declared.branch.State.{State}
-use Rattle.search.specs.Inside.{Listed, bestOf, childOf, branchesOf, Placeable, stateOf, Steppable, Moved}
+use Rattle.search.specs.Inside.{Listed, branchesOf, Placeable, stateOf, Steppable, Moved}
 use Rattle.search.proofs.Placing.{listed-number}
 
 -- one box, kept or not

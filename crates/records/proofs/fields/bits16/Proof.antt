@@ -1,7 +1,7 @@
 -- The bits of −(m + 1) are 65,535 − m.
 use mathlib.Core.Bool.{true}
 use mathlib.Core.Path.{_≡_, refl, sym, _∙_, ap}
-use Prim.Native.Nat.{ℕ, suc, _-_, _+_, _<_, _^_}
+use Prim.Native.Nat.{ℕ, suc, _-_, _<_, _^_}
 use native.Mathlib.Omega.{arith}
 use lib.Dec.{T}
 use lib.IntN.{ℤ, pos, negsuc, natAbs, _-ℤ_}

@@ -1,7 +1,4 @@
 -- By whether the cost has fallen.
-use mathlib.Core.Path.{_≡_, sym, ap, _∙_}
-use mathlib.Core.List.{List}
-use native.Mathlib.Omega.{arith}
 use Rattle.points.specs.Points.{pointsOf}
 use Rattle.model.specs.Cost.{bound}
 use Rattle.search.proofs.Closing.{closed-all, closed-some}

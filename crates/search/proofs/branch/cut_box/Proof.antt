@@ -1,5 +1,5 @@
 -- A box of two vectors or more is cut, and each half is tried and judged.
-use mathlib.Core.Path.{_≡_, refl, sym, ap, _∙_}
+use mathlib.Core.Path.{sym, ap, _∙_}
 use Rattle.points.specs.Points.{pointsOf}
 use Rattle.model.specs.Cost.{cost}
 use Rattle.boxes.proofs.Splitting.{cut-passes}

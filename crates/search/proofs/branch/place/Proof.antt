@@ -1,7 +1,4 @@
 -- The boxes that stay, then left, then right.
-use mathlib.Core.Path.{_≡_}
-use mathlib.Core.List.{List}
-use native.Mathlib.Omega.{arith}
 use Rattle.points.specs.Points.{pointsOf}
 use Rattle.model.specs.Cost.{bound}
 use Rattle.rows.proofs.Rows.{Whole}

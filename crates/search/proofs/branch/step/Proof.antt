@@ -7,7 +7,6 @@ use Prim.Native.Nat.{ℕ, _+_, _≤_}
 use native.Mathlib.Omega.{arith}
 use lib.IntN.{ℤ}
 use Rattle.boxes.specs.declared.Box.{Box}
-use Rattle.boxes.specs.Boxes.{volume}
 use Rattle.points.specs.Points.{pointsOf}
 use Rattle.model.specs.Cost.{cost, bound}
 use Rattle.rows.specs.Rows.{rowAt}

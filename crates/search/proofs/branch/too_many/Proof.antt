@@ -1,5 +1,5 @@
 -- By whether there is room for all, and whether the cost has fallen.
-use mathlib.Core.Path.{_≡_, sym, ap, _∙_}
+use mathlib.Core.Path.{sym}
 use native.Mathlib.Omega.{arith}
 use Rattle.points.specs.Points.{pointsOf}
 use Rattle.model.specs.Cost.{bound}

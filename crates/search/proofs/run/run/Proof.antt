@@ -1,10 +1,9 @@
 -- The invariant: the state was reached from the beginning, and the run from there on gives the definition's answer (`Going`). The
 -- measure is the splits left.
 use borrow.Author.Needs.{needs}
-use mathlib.Core.Path.{_≡_, refl, sym, ap, _∙_}
+use mathlib.Core.Path.{_≡_, refl, ap, _∙_}
 use mathlib.Core.List.{List}
-use Prim.Native.Nat.{ℕ, _-_, _≤_, _<_}
-use native.Mathlib.Omega.{arith}
+use Prim.Native.Nat.{ℕ, _-_, _≤_}
 use lib.IntN.{ℤ}
 use lib.ListN.{length}
 use Rattle.boxes.specs.declared.Box.{Box}

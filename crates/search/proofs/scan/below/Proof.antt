@@ -1,6 +1,6 @@
 -- The bound, or the cost if that is less, is below the cost where the bound is.
 use borrow.Author.Needs.{needs}
-use mathlib.Core.Path.{_≡_, sym, ap, _∙_}
+use mathlib.Core.Path.{ap, _∙_}
 use Prim.Native.Nat.{ℕ}
 use lib.Dec.{ltb}
 use Rattle.points.specs.Points.{pointsOf}

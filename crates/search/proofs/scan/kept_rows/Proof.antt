@@ -1,16 +1,12 @@
 -- The invariant: the number is that of the first i rows. The measure is the rows left.
 use borrow.Author.Needs.{needs}
 use borrow.Author.Tests.{ltb-true, ltb-false}
-use mathlib.Core.Path.{_≡_, sym, ap, _∙_}
-use mathlib.Core.Bool.{Bool}
+use mathlib.Core.Path.{_≡_}
 use mathlib.Core.Logic.{⊎-elim}
-use Prim.Native.Nat.{ℕ, _+_, _-_, _≤_, _<_}
+use Prim.Native.Nat.{_-_, _≤_}
 use native.Mathlib.Omega.{arith}
-use lib.Dec.{ltb}
-use Rattle.boxes.specs.declared.Box.{Box}
 use Rattle.points.specs.Points.{pointsOf}
 use Rattle.model.specs.Cost.{bound}
-use Rattle.rows.specs.Rows.{rowAt}
 use Rattle.search.proofs.UpTo.{test-of}
 use Rattle.search.proofs.Scanning.{Counted, none-counted, counted-taken, counted-kept, counted-dropped}
 use Rattle.search.proofs.scan.kept_rows.Statement.{statement}

@@ -1,14 +1,14 @@
 -- The invariant: the place and the bound are those of the first i rows. The measure is the rows left.
 use borrow.Author.Needs.{needs}
-use mathlib.Core.Path.{_≡_, sym, ap, _∙_}
+use mathlib.Core.Path.{_≡_, ap, _∙_}
 use mathlib.Core.Logic.{⊎-elim}
-use Prim.Native.Nat.{ℕ, _+_, _-_, _≤_, _<_, min}
+use Prim.Native.Nat.{ℕ, _-_, _≤_, _<_, min}
 use native.Mathlib.Omega.{arith}
 use Rattle.boxes.specs.declared.Box.{Box}
 use Rattle.boxes.specs.Split.{zeroBox}
 use Rattle.points.specs.Points.{pointsOf}
 use Rattle.model.specs.Cost.{bound}
-use Rattle.rows.specs.Rows.{rowAt, rowsOf}
+use Rattle.rows.specs.Rows.{rowAt}
 use Rattle.rows.proofs.Rows.{rows-at, rows-length}
 use Rattle.certificate.proofs.Lists.{all-at}
 use Rattle.search.proofs.UpTo.{bound-up-to}
