@@ -83,14 +83,7 @@ fn check_line(d: u8, s: u8) -> Check
 fn rest_zero(d: u8, w: [i16; 4]) -> bool
     ensures { λ r. ⌜ r ≡ allZero (drop d w) ⌝ }
 {
-    let mut k = d as usize;
-    while k < 4 {
-        if w[k] != 0 {
-            return false;
-        }
-        k += 1;
-    }
-    true
+    boxes::zero_from(&w, d as usize)
 }
 
 fn not_written(r: Refusal) -> Written
