@@ -3,7 +3,7 @@ use jobs::Model;
 ghost use mathlib.Core.Path.{_≡_};
 ghost use Rattle.model.specs.Calls.{costUpTo, boundUpTo};
 ghost use Rattle.rows.specs.Rows.{rowAt};
-ghost use Rattle.capi.specs.Boundary.{modelOf};
+ghost use Rattle.boundary.specs.Boundary.{modelOf};
 
 // The cost of the low vector of a box, up to a cap.
 #[no_mangle]

@@ -14,7 +14,7 @@ use Rattle.boxes.specs.declared.Halves.{Halves}
 use Rattle.boxes.specs.Split.{splitAnswer}
 use Rattle.rows.specs.Rows.{rowAt, withRow}
 use Rattle.beacon.specs.Beacon.{takeInAnswer}
-use Rattle.capi.specs.Boundary.{Call, ifLengths, answered, checkCode}
+use Rattle.boundary.specs.Boundary.{Call, ifLengths, answered, checkCode}
 
 -- the loss of a residual: no buffer
 abbrev pub lossCall : ℕ → ℕ → ℤ → Call

@@ -1,2 +1,2 @@
-pub mod Boundary
 pub mod Calls
+pub mod Searches

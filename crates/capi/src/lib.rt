@@ -1,76 +1,19 @@
 // The calls of the line fitter for C and everything that speaks C, declared in include/vengutari.h. Each takes numbers and buffers with
 // their lengths, and returns 0, the paper's number of a refusal, or 255 for a buffer of the wrong length. What it answers goes into
 // lent memory, which a refusal leaves as it is; only the record number of a stray field (7) goes where the value would.
+pub mod searches;
+
+use boundary::model_of;
+use boundary::settle;
+use boundary::vector_of;
 use codes::Check;
-use codes::Outcome;
-use codes::Refusal;
-use jobs::Model;
 ghost use mathlib.Core.Path.{_≡_};
-ghost use lib.ListN.{length};
-ghost use Rattle.codes.specs.Codes.{numberOf};
 ghost use Rattle.beacon.specs.Beacon.{storeAfter};
-ghost use Rattle.capi.specs.Boundary.{modelOf, answered, recordOr, codeOf, valueAfter};
+ghost use Rattle.boundary.specs.Boundary.{modelOf, codeOf, valueAfter};
 ghost use Rattle.capi.specs.Calls.{lossCall, costCall, boundCall, labelsCall, labelsAfter, takeInCall, splitCode, halvesAfter};
 
 // A buffer of the wrong length: no number of the paper.
 const WRONG_LENGTH: u32 = 255;
-
-// What the lent number holds after a refusal: the record of a stray field, or what it held.
-fn record_or(r: Refusal, held: u64) -> u64
-    ensures { λ k. ⌜ k ≡ recordOr r held ⌝ }
-{
-    match r {
-        Refusal::Length => held,
-        Refusal::Shape => held,
-        Refusal::Scale => held,
-        Refusal::Loss => held,
-        Refusal::Box => held,
-        Refusal::Start => held,
-        Refusal::Stray(record) => record as u64,
-        Refusal::Table => held,
-        Refusal::Answer => held,
-        Refusal::Short => held,
-        Refusal::Beacon => held,
-        Refusal::OffGrid => held,
-    }
-}
-
-// An outcome as this interface hands it over.
-fn settle(o: Outcome, value: &mut u64) -> u32
-    ensures code { λ k. ⌜ k ≡ codeOf (answered o) ⌝ }
-    ensures value { λ _. ⌜ now (value .exit) ≡ valueAfter (answered o) (now (value .entry)) ⌝ }
-{
-    match o {
-        Outcome::Value(v) => {
-            *value = v;
-            0
-        }
-        Outcome::Refused(r) => {
-            *value = record_or(r, *value);
-            codes::number(r) as u32
-        }
-    }
-}
-
-fn model_of(n: u8, d: u8, scale: u8, p: u8, eps: u32) -> Model
-    ensures { λ m. ⌜ m ≡ modelOf n d scale p eps ⌝ }
-{
-    Model {
-        n,
-        d,
-        scale,
-        p,
-        eps,
-    }
-}
-
-// A vector out of a buffer.
-fn eight(v: &[i16]) -> [i16; 8]
-    requires { ⌜ length (now v) ≡ 8 ⌝ }
-    ensures { λ r. ⌜ r ≡ now (v .entry) ⌝ }
-{
-    [v[0], v[1], v[2], v[3], v[4], v[5], v[6], v[7]]
-}
 
 // The loss of a residual e.
 #[no_mangle]
@@ -100,7 +43,7 @@ pub extern "C" fn vengutari_cost(
         return WRONG_LENGTH;
     }
     settle(
-        model::cost(store, model_of(n, d, scale, p, eps), eight(vector)),
+        model::cost(store, model_of(n, d, scale, p, eps), vector_of(vector)),
         value,
     )
 }
@@ -179,10 +122,8 @@ pub extern "C" fn vengutari_labels(
     if vector.len() != 8 {
         return WRONG_LENGTH;
     }
-    settle(
-        model::labels(store, model_of(n, d, scale, p, eps), eight(vector), labels),
-        value,
-    )
+    let m = model_of(n, d, scale, p, eps);
+    settle(model::labels(store, m, vector_of(vector), labels), value)
 }
 
 // Takes a beacon in behind the first `mark` bytes of the store; the value is the new mark.

@@ -5,7 +5,7 @@ use borrow.Author.Tests.{eq-eqb, ne-eqb}
 use lib.ListN.{length}
 use Rattle.model.specs.Calls.{boundAnswer}
 use Rattle.rows.specs.Rows.{rowAt}
-use Rattle.capi.specs.Boundary.{modelOf}
+use Rattle.boundary.specs.Boundary.{modelOf}
 use Rattle.capi.proofs.vengutari_bound.Statement.{statement}
 use Rattle.capi.proofs.vengutari_bound.Tie as tie
 

@@ -4,15 +4,16 @@ use mathlib.Core.Path.{_≡_, refl, _∙_}
 use borrow.Author.Tests.{eq-eqb, ne-eqb}
 use lib.ListN.{length}
 use Rattle.model.specs.Calls.{labelsAnswer, labelled}
-use Rattle.capi.specs.Boundary.{modelOf}
+use Rattle.boundary.specs.Boundary.{modelOf}
+use Rattle.boundary.proofs.Vectors.{vector-in}
 use Rattle.capi.proofs.vengutari_labels.Statement.{statement}
 use Rattle.capi.proofs.vengutari_labels.Tie as tie
 
 returns : tie.Need-returns
 returns c = rw (ne-eqb (length (c .before .before .before .args .vector .now)) 8 (c .if1 .taken)) (refl, (refl, refl))
 
-eight-requires : tie.Need-eight-requires
-eight-requires c κs = search needs
+vector-of-requires : tie.Need-vector-of-requires
+vector-of-requires c κs = search needs
 
 model-of-requires : tie.Need-model-of-requires
 model-of-requires c κs = search needs
@@ -32,7 +33,7 @@ returns-2 c =
     let test = k .before .before .before .before in
     let a = test .before .before .before .args in
     let m = modelOf (a .n) (a .d) (a .scale) (a .p) (a .eps) in
-    let v = k .before .before .eight .ensures in
+    let v = k .before .before .vector-of .ensures ∙ vector-in (a .vector .now) (test .if1 .left) in
     let is-model = k .before .before .before .model-of .ensures in
     let e : k .labels .result ≡ labelsAnswer (a .store .now) m (a .vector .now) (a .labels .now) = k .labels .ensures .0 ∙ (λ i. labelsAnswer (a .store .now) (is-model i) (v i) (a .labels .now)) in
     rw (eq-eqb (length (a .vector .now)) 8 (test .if1 .left), ← e) (
@@ -43,4 +44,4 @@ returns-2 c =
 pub vengutari-labels-spec : {M : Type 1} → statement M
 vengutari-labels-spec =
     tie.close
-    (tie.spec returns model-of-requires eight-requires labels-requires settle-requires same-length returns-2)
+    (tie.spec returns model-of-requires vector-of-requires labels-requires settle-requires same-length returns-2)

@@ -1,6 +1,10 @@
--- What every call of the C interface has in common: the model from its numbers, the code that is returned, and the lent number afterwards.
-use mathlib.Core.Bool.{Bool, true, false}
+-- What every call of the C interface has in common: values from numbers and buffers, the code that is returned, and lent memory afterwards.
+use mathlib.Core.Bool.{Bool, true, false, cond}
+use mathlib.Core.List.{List}
 use Prim.Native.Nat.{ℕ}
+use lib.Dec.{eqb}
+use lib.IntN.{ℤ, pos}
+use lib.ListN.{length, replicate}
 use Rattle.codes.specs.declared.Check.{Check}
 use Rattle.codes.specs.declared.Check.the-variants.{Pass, Refuse}
 use Rattle.codes.specs.declared.Outcome.{Outcome}
@@ -8,11 +12,26 @@ use Rattle.codes.specs.declared.Outcome.the-variants.{Value, Refused}
 use Rattle.codes.specs.declared.Refusal.{Refusal}
 use Rattle.codes.specs.declared.Refusal.the-variants.{Length, Shape, Scale, Loss, Box, Start, Stray, Table, Answer, Short, Beacon, OffGrid}
 use Rattle.codes.specs.Codes.{numberOf}
+use Rattle.jobs.specs.declared.Job.{Job}
 use Rattle.jobs.specs.declared.Model.{Model}
+use Rattle.rows.specs.Rows.{rowAt}
 
 -- n, d, S, p and ε, "a byte each" but for ε
 abbrev pub modelOf : ℕ → ℕ → ℕ → ℕ → ℕ → Model
 modelOf n d scale p eps = record { n = n; d = d; scale = scale; p = p; eps = eps }
+
+-- A vector is a buffer of 8 numbers. Any other length is read as zeros, as a row that is not there is; no call goes on with one.
+abbrev pub vectorIn : List ℤ → List ℤ
+vectorIn v = cond (eqb (length v) 8) v (replicate 8 (pos 0))
+
+-- A job from its numbers, a box of 16 numbers, low then high, and the start vector.
+abbrev pub jobFrom : Model → ℕ → ℕ → ℕ → List ℤ → List ℤ → Job
+jobFrom m t budget rows corners start =
+    record { model = m; t = t; budget = budget; rows = rows; domain = rowAt corners 0; start = vectorIn start }
+
+-- A buffer of just as many elements takes all of them; any other is kept.
+abbrev pub filled : {A : Type 0} → List A → List A → List A
+filled out from = cond (eqb (length out) (length from)) from out
 
 -- A call has buffers of the wrong length, or comes to an outcome of the product.
 pub data Call : Type 0 where
@@ -50,6 +69,12 @@ abbrev pub valueAfter : Call → ℕ → ℕ
 valueAfter wrongLength held = held
 valueAfter (answered (Value v)) held = v
 valueAfter (answered (Refused r)) held = recordOr r held
+
+-- What lent memory holds after a call: what the call gives, if it is accepted, and else what it held.
+abbrev pub ifAccepted : {A : Type 0} → Call → A → A → A
+ifAccepted wrongLength given held = held
+ifAccepted (answered (Value v)) given held = given
+ifAccepted (answered (Refused r)) given held = held
 
 -- The code of a call whose answer is no number.
 abbrev pub checkCode : Check → ℕ

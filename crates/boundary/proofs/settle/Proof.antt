@@ -1,7 +1,7 @@
 -- By the outcome: its value, or what the refusal leaves.
 use borrow.Author.Needs.{needs}
-use Rattle.capi.proofs.settle.Statement.{statement}
-use Rattle.capi.proofs.settle.Tie as tie
+use Rattle.boundary.proofs.settle.Statement.{statement}
+use Rattle.boundary.proofs.settle.Tie as tie
 
 enum-known-o : tie.Need-enum-known-o
 enum-known-o c = search needs

@@ -1,0 +1,110 @@
+// What the calls for C have in common: an outcome handed over as a code and a lent number, values out of lent buffers, and elements into them.
+use codes::Outcome;
+use codes::Refusal;
+use jobs::Job;
+use jobs::Model;
+ghost use mathlib.Core.Path.{_≡_};
+ghost use lib.ListN.{length};
+ghost use Rattle.boundary.specs.Boundary.{modelOf, vectorIn, jobFrom, filled, answered, recordOr, codeOf, valueAfter};
+
+// What the lent number holds after a refusal: the record of a stray field, or what it held.
+fn record_or(r: Refusal, held: u64) -> u64
+    ensures { λ k. ⌜ k ≡ recordOr r held ⌝ }
+{
+    match r {
+        Refusal::Length => held,
+        Refusal::Shape => held,
+        Refusal::Scale => held,
+        Refusal::Loss => held,
+        Refusal::Box => held,
+        Refusal::Start => held,
+        Refusal::Stray(record) => record as u64,
+        Refusal::Table => held,
+        Refusal::Answer => held,
+        Refusal::Short => held,
+        Refusal::Beacon => held,
+        Refusal::OffGrid => held,
+    }
+}
+
+// An outcome as this interface hands it over.
+pub fn settle(o: Outcome, value: &mut u64) -> u32
+    ensures code { λ k. ⌜ k ≡ codeOf (answered o) ⌝ }
+    ensures value { λ _. ⌜ now (value .exit) ≡ valueAfter (answered o) (now (value .entry)) ⌝ }
+{
+    match o {
+        Outcome::Value(v) => {
+            *value = v;
+            0
+        }
+        Outcome::Refused(r) => {
+            *value = record_or(r, *value);
+            codes::number(r) as u32
+        }
+    }
+}
+
+pub fn model_of(n: u8, d: u8, scale: u8, p: u8, eps: u32) -> Model
+    ensures { λ m. ⌜ m ≡ modelOf n d scale p eps ⌝ }
+{
+    Model {
+        n,
+        d,
+        scale,
+        p,
+        eps,
+    }
+}
+
+// A vector out of a buffer.
+pub fn vector_of(v: &[i16]) -> [i16; 8]
+    ensures { λ r. ⌜ r ≡ vectorIn (now (v .entry)) ⌝ }
+{
+    if v.len() != 8 {
+        return [0i16; 8];
+    }
+    [v[0], v[1], v[2], v[3], v[4], v[5], v[6], v[7]]
+}
+
+pub fn job_of(m: Model, t: u64, budget: u32, rows: u32, corners: &[i16], start: &[i16]) -> Job
+    ensures { λ j. ⌜ j ≡ jobFrom m t budget rows (now (corners .entry)) (now (start .entry)) ⌝ }
+{
+    let domain = rows::read_row(corners, 0);
+    let first = vector_of(start);
+    Job {
+        model: m,
+        t,
+        budget,
+        rows,
+        domain,
+        start: first,
+    }
+}
+
+// Fills a buffer of coordinates.
+pub fn fill_coordinates(out: &mut [i16], from: &[i16])
+    ensures { λ _. ⌜ now (out .exit) ≡ filled (now (out .entry)) (now (from .entry)) ⌝ }
+{
+    if out.len() != from.len() {
+        return;
+    }
+    let mut k: usize = 0;
+    while k < from.len() {
+        out[k] = from[k];
+        k += 1;
+    }
+}
+
+// Fills a buffer of numbers.
+pub fn fill_numbers(out: &mut [u64], from: &[u64])
+    ensures { λ _. ⌜ now (out .exit) ≡ filled (now (out .entry)) (now (from .entry)) ⌝ }
+{
+    if out.len() != from.len() {
+        return;
+    }
+    let mut k: usize = 0;
+    while k < from.len() {
+        out[k] = from[k];
+        k += 1;
+    }
+}
