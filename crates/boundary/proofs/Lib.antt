@@ -1,3 +1,3 @@
 pub mod Listed
 pub mod Filling
-pub mod Vectors
+pub mod Buffers

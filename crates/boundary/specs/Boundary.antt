@@ -11,7 +11,7 @@ use Rattle.codes.specs.declared.Outcome.{Outcome}
 use Rattle.codes.specs.declared.Outcome.the-variants.{Value, Refused}
 use Rattle.codes.specs.declared.Refusal.{Refusal}
 use Rattle.codes.specs.declared.Refusal.the-variants.{Length, Shape, Scale, Loss, Box, Start, Stray, Table, Answer, Short, Beacon, OffGrid}
-use Rattle.codes.specs.Codes.{numberOf}
+use Rattle.codes.specs.Codes.{numberOf, ifPassed}
 use Rattle.jobs.specs.declared.Job.{Job}
 use Rattle.jobs.specs.declared.Model.{Model}
 use Rattle.rows.specs.Rows.{rowAt}
@@ -20,9 +20,13 @@ use Rattle.rows.specs.Rows.{rowAt}
 abbrev pub modelOf : ℕ → ℕ → ℕ → ℕ → ℕ → Model
 modelOf n d scale p eps = record { n = n; d = d; scale = scale; p = p; eps = eps }
 
--- A vector is a buffer of 8 numbers. Any other length is read as zeros, as a row that is not there is; no call goes on with one.
+-- A buffer of so many elements. Any other length is read as zeros, as a row that is not there is; no call goes on with one.
+abbrev pub exactly : {A : Type 0} → ℕ → A → List A → List A
+exactly k zero v = cond (eqb (length v) k) v (replicate k zero)
+
+-- a vector is a buffer of 8 numbers
 abbrev pub vectorIn : List ℤ → List ℤ
-vectorIn v = cond (eqb (length v) 8) v (replicate 8 (pos 0))
+vectorIn v = exactly 8 (pos 0) v
 
 -- A job from its numbers, a box of 16 numbers, low then high, and the start vector.
 abbrev pub jobFrom : Model → ℕ → ℕ → ℕ → List ℤ → List ℤ → Job
@@ -76,7 +80,13 @@ ifAccepted wrongLength given held = held
 ifAccepted (answered (Value v)) given held = given
 ifAccepted (answered (Refused r)) given held = held
 
--- The code of a call whose answer is no number.
+-- A call whose answer is no number: the code of its check, then its code and what lent memory holds, by whether the lengths are right.
 abbrev pub checkCode : Check → ℕ
 checkCode Pass = 0
 checkCode (Refuse r) = numberOf r
+
+abbrev pub checkedCode : Bool → Check → ℕ
+checkedCode lengths check = cond lengths (checkCode check) 255
+
+abbrev pub ifChecked : {A : Type 0} → Bool → Check → A → A → A
+ifChecked lengths check given held = cond lengths (ifPassed check given held) held

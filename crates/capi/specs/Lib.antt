@@ -1,2 +1,4 @@
 pub mod Calls
 pub mod Searches
+pub mod Records
+pub mod Lines

@@ -1,6 +1,8 @@
 // The calls of the line fitter for C and everything that speaks C, declared in include/vengutari.h. Each takes numbers and buffers with
 // their lengths, and returns 0, the paper's number of a refusal, or 255 for a buffer of the wrong length. What it answers goes into
 // lent memory, which a refusal leaves as it is; only the record number of a stray field (7) goes where the value would.
+pub mod formats;
+pub mod lines;
 pub mod searches;
 
 use boundary::model_of;

@@ -52,7 +52,7 @@ returns-2 c =
     let f₂ : SFits w16 (getD v 2 (pos 0)) = record { sfits = c .before .before .before .before .before .t9 .given } in
     let f₁ : SFits w16 (getD v 1 (pos 0)) = record { sfits = c .before .before .before .before .before .before .t7 .given } in
     let f₀ : SFits w16 (getD v 0 (pos 0)) = record { sfits = c .before .before .before .before .before .before .before .t5 .given } in
-    rw (eq-eqb (length v) 8 (test .if1 .left)) (simp toZ-ofZ (elements-rest v 0 8 (omega arith)))
+    rw (eq-eqb (length v) 8 (test .if1 .left)) (simp toZ-ofZ (elements-rest (pos 0) v 0 8 (omega arith)))
 
 pub vector-of-spec : {M : Type 1} → statement M
 vector-of-spec =

@@ -5,7 +5,7 @@ use borrow.Author.Tests.{eq-eqb, ne-eqb}
 use lib.ListN.{length}
 use Rattle.model.specs.Calls.{labelsAnswer, labelled}
 use Rattle.boundary.specs.Boundary.{modelOf}
-use Rattle.boundary.proofs.Vectors.{vector-in}
+use Rattle.boundary.proofs.Buffers.{vector-in}
 use Rattle.capi.proofs.vengutari_labels.Statement.{statement}
 use Rattle.capi.proofs.vengutari_labels.Tie as tie
 

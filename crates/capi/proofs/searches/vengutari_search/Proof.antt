@@ -8,7 +8,7 @@ use lib.ListN.{length}
 use Rattle.jobs.specs.declared.Job.{Job}
 use Rattle.search.specs.Search.{searchAnswer, TableAfter, Certified}
 use Rattle.boundary.specs.Boundary.{modelOf, jobFrom}
-use Rattle.boundary.proofs.Vectors.{filled-whole}
+use Rattle.boundary.proofs.Buffers.{filled-whole}
 use Rattle.capi.specs.Searches.{searchLengths, numbersOf}
 use Rattle.capi.proofs.Lengths.{search-lengths}
 use borrow.Author.Needs.{needs}
