@@ -64,6 +64,38 @@ uint32_t vengutari_search(const uint8_t *store, size_t store_len, uint8_t n, uin
 /* Copies a beacon into the store from byte mark on; *value is the new mark. The store may have any length. Refusals 1, 10 and 11. */
 uint32_t vengutari_take_in(uint8_t *store, size_t store_len, size_t mark, const uint8_t *beacon, size_t beacon_len, uint64_t *value);
 
+/* Reads the job record in the first 72 bytes; what follows them is no part of it. numbers takes n, d, S, p, eps, t, the split budget and the
+ * rows r; corners takes the box and start the start vector. Any 72 bytes are a job; a search refuses what is out of range.
+ * Refusal 1 for fewer than 72 bytes; 255 where numbers_len is not 8, corners_len not 16 or start_len not 8. */
+uint32_t vengutari_read_job(const uint8_t *bytes, size_t bytes_len, uint64_t *numbers, size_t numbers_len, int16_t *corners,
+                            size_t corners_len, int16_t *start, size_t start_len);
+
+/* Writes a job record into the first 72 bytes, and keeps the rest. Refusal 10 for fewer than 72 bytes; 255 where corners_len is not 16 or
+ * start_len not 8. */
+uint32_t vengutari_write_job(uint8_t n, uint8_t d, uint8_t scale, uint8_t p, uint32_t eps, uint64_t t, uint32_t budget, uint32_t rows,
+                             const int16_t *corners, size_t corners_len, const int16_t *start, size_t start_len, uint8_t *bytes,
+                             size_t bytes_len);
+
+/* Reads an answer record of 40 bytes: vector takes its vector, and numbers takes C, L, the count, the kind, n, d and S.
+ * Refusal 9; 255 where vector_len is not 8 or numbers_len not 7. */
+uint32_t vengutari_read_answer(const uint8_t *bytes, size_t bytes_len, int16_t *vector, size_t vector_len, uint64_t *numbers,
+                               size_t numbers_len);
+
+/* Writes an answer record into the first 40 bytes, and keeps the rest. cost is C, bound is L, kind is 1 solved, 2 spent or 3 full.
+ * Refusals 9 and 10; 255 where vector_len is not 8. */
+uint32_t vengutari_write_answer(const int16_t *vector, size_t vector_len, uint64_t cost, uint64_t bound, uint32_t count, uint8_t kind,
+                                uint8_t n, uint8_t d, uint8_t scale, uint8_t *bytes, size_t bytes_len);
+
+/* Writes one line: patterns takes the bits of the four single-precision numbers w / 2^S, +0 after the d-th. The coordinates after the d-th
+ * are 0. Refusals 2 (d alone), 3 and 6; 255 where coordinates_len or patterns_len is not 4. */
+uint32_t vengutari_write_line(uint8_t d, uint8_t scale, const int16_t *coordinates, size_t coordinates_len, uint32_t *patterns,
+                              size_t patterns_len);
+
+/* Reads one line back: coordinates takes the four w. Refusals 2 (d alone), 3, and 12 for a pattern that no w has or, after the d-th, any
+ * but +0; 255 where coordinates_len or patterns_len is not 4. */
+uint32_t vengutari_read_line(uint8_t d, uint8_t scale, const uint32_t *patterns, size_t patterns_len, int16_t *coordinates,
+                             size_t coordinates_len);
+
 #ifdef __cplusplus
 }
 #endif

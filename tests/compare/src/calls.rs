@@ -2,23 +2,18 @@
 //! `WRONG_LENGTH`, and puts its results into lent memory, which a refusal leaves alone. Refusal 7 puts the
 //! record's number where the value goes.
 
-use oracle::{AnswerRecord, Job, Model, Vector};
+use crate::lent::Lent;
+use oracle::{AnswerRecord, Job, Model};
 
 /// The answer to a buffer of a length that the call cannot take.
 pub const WRONG_LENGTH: u32 = 255;
 
-/// The results of a search.
-#[derive(Clone, Debug, PartialEq, Eq)]
+/// What a search is lent for its results: the vector, then C, L, count, open boxes and peak, then the kind, or
+/// at refusal 7 the stray record's number.
 pub struct Found {
-    pub kind: u8,
-    pub vector: Vector,
-    pub c: u64,
-    pub l: u64,
-    pub count: u32,
-    pub open: u64,
-    pub peak: u64,
-    /// The stray record's number at refusal 7.
-    pub record: u64,
+    pub vector: Lent<i16>,
+    pub numbers: Lent<u64>,
+    pub value: u64,
 }
 
 pub trait Calls {
@@ -31,13 +26,24 @@ pub trait Calls {
     /// The value is the number of labels written.
     fn labels(&self, store: &[u8], model: &Model, vector: &[i16], labels: &mut [u8], value: &mut u64) -> u32;
     fn take_in(&self, store: &mut [u8], mark: usize, beacon: &[u8], value: &mut u64) -> u32;
-    fn search(&self, store: &[u8], job: &Job, table: &mut [i16], found: &mut Found) -> u32;
-    fn read_job(&self, bytes: &[u8], job: &mut Job) -> u32;
-    fn write_job(&self, job: &Job, bytes: &mut [u8]) -> u32;
-    fn read_answer(&self, bytes: &[u8], answer: &mut AnswerRecord) -> u32;
-    fn write_answer(&self, answer: &AnswerRecord, bytes: &mut [u8]) -> u32;
-    fn write_line(&self, d: u8, s: u8, coordinates: &[i16; 4], patterns: &mut [u32; 4]) -> u32;
-    fn read_line(&self, d: u8, s: u8, patterns: &[u32; 4], coordinates: &mut [i16; 4]) -> u32;
+    /// The box is in `corners` and the start vector in `start`; the job's own are not looked at.
+    fn search(
+        &self,
+        store: &[u8],
+        job: &Job,
+        corners: &[i16],
+        start: &[i16],
+        table: &mut [i16],
+        found: &mut Found,
+    ) -> u32;
+    /// The numbers are n, d, S, p, ε, t, budget and r.
+    fn read_job(&self, bytes: &[u8], numbers: &mut [u64], corners: &mut [i16], start: &mut [i16]) -> u32;
+    fn write_job(&self, job: &Job, corners: &[i16], start: &[i16], bytes: &mut [u8]) -> u32;
+    /// The numbers are C, L, count, kind, n, d and S.
+    fn read_answer(&self, bytes: &[u8], vector: &mut [i16], numbers: &mut [u64]) -> u32;
+    fn write_answer(&self, answer: &AnswerRecord, vector: &[i16], bytes: &mut [u8]) -> u32;
+    fn write_line(&self, d: u8, s: u8, coordinates: &[i16], patterns: &mut [u32]) -> u32;
+    fn read_line(&self, d: u8, s: u8, patterns: &[u32], coordinates: &mut [i16]) -> u32;
     /// The program fit: what it writes for this input.
     fn fit(&self, input: &[u8]) -> Vec<u8>;
 }

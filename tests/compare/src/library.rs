@@ -73,6 +73,98 @@ extern "C" {
         beacon_len: usize,
         value: *mut u64,
     ) -> u32;
+    #[cfg(feature = "search")]
+    fn vengutari_search(
+        store: *const u8,
+        store_len: usize,
+        n: u8,
+        d: u8,
+        s: u8,
+        p: u8,
+        epsilon: u32,
+        t: u64,
+        budget: u32,
+        corners: *const i16,
+        corners_len: usize,
+        start: *const i16,
+        start_len: usize,
+        table: *mut i16,
+        table_len: usize,
+        vector: *mut i16,
+        vector_len: usize,
+        numbers: *mut u64,
+        numbers_len: usize,
+        value: *mut u64,
+    ) -> u32;
+    #[cfg(feature = "read_job")]
+    fn vengutari_read_job(
+        bytes: *const u8,
+        bytes_len: usize,
+        numbers: *mut u64,
+        numbers_len: usize,
+        corners: *mut i16,
+        corners_len: usize,
+        start: *mut i16,
+        start_len: usize,
+    ) -> u32;
+    #[cfg(feature = "write_job")]
+    fn vengutari_write_job(
+        n: u8,
+        d: u8,
+        s: u8,
+        p: u8,
+        epsilon: u32,
+        t: u64,
+        budget: u32,
+        rows: u32,
+        corners: *const i16,
+        corners_len: usize,
+        start: *const i16,
+        start_len: usize,
+        bytes: *mut u8,
+        bytes_len: usize,
+    ) -> u32;
+    #[cfg(feature = "read_answer")]
+    fn vengutari_read_answer(
+        bytes: *const u8,
+        bytes_len: usize,
+        vector: *mut i16,
+        vector_len: usize,
+        numbers: *mut u64,
+        numbers_len: usize,
+    ) -> u32;
+    #[cfg(feature = "write_answer")]
+    fn vengutari_write_answer(
+        vector: *const i16,
+        vector_len: usize,
+        c: u64,
+        l: u64,
+        count: u32,
+        kind: u8,
+        n: u8,
+        d: u8,
+        s: u8,
+        bytes: *mut u8,
+        bytes_len: usize,
+    ) -> u32;
+    #[cfg(feature = "write_line")]
+    fn vengutari_write_line(
+        d: u8,
+        s: u8,
+        coordinates: *const i16,
+        coordinates_len: usize,
+        patterns: *mut u32,
+        patterns_len: usize,
+    ) -> u32;
+    #[cfg(feature = "read_line")]
+    fn vengutari_read_line(
+        d: u8,
+        s: u8,
+        patterns: *const u32,
+        patterns_len: usize,
+        coordinates: *mut i16,
+        coordinates_len: usize,
+    ) -> u32;
 }
 
 #[allow(dead_code)]
@@ -145,32 +237,136 @@ impl Calls for Library {
         )
     }
 
-    fn search(&self, store: &[u8], job: &Job, table: &mut [i16], found: &mut Found) -> u32 {
-        unreachable!("the library has no search yet")
+    fn search(
+        &self,
+        store: &[u8],
+        job: &Job,
+        corners: &[i16],
+        start: &[i16],
+        table: &mut [i16],
+        found: &mut Found,
+    ) -> u32 {
+        let Model { n, d, s, p, epsilon } = job.model;
+        let (vector, numbers) = (found.vector.part(), found.numbers.part());
+        exported!(
+            "search",
+            vengutari_search(
+                store.as_ptr(),
+                store.len(),
+                n,
+                d,
+                s,
+                p,
+                epsilon,
+                job.t,
+                job.budget,
+                corners.as_ptr(),
+                corners.len(),
+                start.as_ptr(),
+                start.len(),
+                table.as_mut_ptr(),
+                table.len(),
+                vector.as_mut_ptr(),
+                vector.len(),
+                numbers.as_mut_ptr(),
+                numbers.len(),
+                &mut found.value,
+            )
+        )
     }
 
-    fn read_job(&self, bytes: &[u8], job: &mut Job) -> u32 {
-        unreachable!("the library reads no job record yet")
+    fn read_job(&self, bytes: &[u8], numbers: &mut [u64], corners: &mut [i16], start: &mut [i16]) -> u32 {
+        exported!(
+            "read_job",
+            vengutari_read_job(
+                bytes.as_ptr(),
+                bytes.len(),
+                numbers.as_mut_ptr(),
+                numbers.len(),
+                corners.as_mut_ptr(),
+                corners.len(),
+                start.as_mut_ptr(),
+                start.len(),
+            )
+        )
     }
 
-    fn write_job(&self, job: &Job, bytes: &mut [u8]) -> u32 {
-        unreachable!("the library writes no job record yet")
+    fn write_job(&self, job: &Job, corners: &[i16], start: &[i16], bytes: &mut [u8]) -> u32 {
+        let Model { n, d, s, p, epsilon } = job.model;
+        exported!(
+            "write_job",
+            vengutari_write_job(
+                n,
+                d,
+                s,
+                p,
+                epsilon,
+                job.t,
+                job.budget,
+                job.rows,
+                corners.as_ptr(),
+                corners.len(),
+                start.as_ptr(),
+                start.len(),
+                bytes.as_mut_ptr(),
+                bytes.len(),
+            )
+        )
     }
 
-    fn read_answer(&self, bytes: &[u8], answer: &mut AnswerRecord) -> u32 {
-        unreachable!("the library reads no answer record yet")
+    fn read_answer(&self, bytes: &[u8], vector: &mut [i16], numbers: &mut [u64]) -> u32 {
+        exported!(
+            "read_answer",
+            vengutari_read_answer(
+                bytes.as_ptr(),
+                bytes.len(),
+                vector.as_mut_ptr(),
+                vector.len(),
+                numbers.as_mut_ptr(),
+                numbers.len(),
+            )
+        )
     }
 
-    fn write_answer(&self, answer: &AnswerRecord, bytes: &mut [u8]) -> u32 {
-        unreachable!("the library writes no answer record yet")
+    fn write_answer(&self, answer: &AnswerRecord, vector: &[i16], bytes: &mut [u8]) -> u32 {
+        let AnswerRecord { c, l, count, kind, n, d, s, .. } = *answer;
+        exported!(
+            "write_answer",
+            vengutari_write_answer(
+                vector.as_ptr(),
+                vector.len(),
+                c,
+                l,
+                count,
+                kind,
+                n,
+                d,
+                s,
+                bytes.as_mut_ptr(),
+                bytes.len(),
+            )
+        )
     }
 
-    fn write_line(&self, d: u8, s: u8, coordinates: &[i16; 4], patterns: &mut [u32; 4]) -> u32 {
-        unreachable!("the library writes no line yet")
+    fn write_line(&self, d: u8, s: u8, coordinates: &[i16], patterns: &mut [u32]) -> u32 {
+        exported!(
+            "write_line",
+            vengutari_write_line(
+                d,
+                s,
+                coordinates.as_ptr(),
+                coordinates.len(),
+                patterns.as_mut_ptr(),
+                patterns.len(),
+            )
+        )
     }
 
-    fn read_line(&self, d: u8, s: u8, patterns: &[u32; 4], coordinates: &mut [i16; 4]) -> u32 {
-        unreachable!("the library reads no line yet")
+    fn read_line(&self, d: u8, s: u8, patterns: &[u32], coordinates: &mut [i16]) -> u32 {
+        exported!(
+            "read_line",
+            vengutari_read_line(d, s, patterns.as_ptr(), patterns.len(), coordinates.as_mut_ptr(), coordinates.len(),)
+        )
     }
 
     fn fit(&self, input: &[u8]) -> Vec<u8> {

@@ -47,6 +47,14 @@ impl Random {
     pub fn numbers(&mut self, count: usize) -> Vec<i16> {
         (0..count).map(|_| self.next() as i16).collect()
     }
+
+    pub fn patterns(&mut self, count: usize) -> Vec<u32> {
+        (0..count).map(|_| self.next() as u32).collect()
+    }
+
+    pub fn words(&mut self, count: usize) -> Vec<u64> {
+        (0..count).map(|_| self.next()).collect()
+    }
 }
 
 #[cfg(test)]

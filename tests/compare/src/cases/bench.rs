@@ -1,8 +1,8 @@
 //! The paper's bench fits A to L, with the values as the paper has them.
 
-use super::Outcome;
-use crate::calls::Calls;
-use crate::lent::same;
+use super::{row_of, Outcome};
+use crate::calls::{Calls, Found};
+use crate::lent::{same, Lent};
 use crate::random::Random;
 use oracle::points::{store_of, Point};
 use oracle::{write_job, Box8, Job, Model};
@@ -107,6 +107,29 @@ pub fn i(calls: &dyn Calls, _: &mut Random) -> Outcome {
 pub fn j(calls: &dyn Calls, _: &mut Random) -> Outcome {
     let line = "solved cost=1 bound=1 splits=2 open=0 peak=2 w=6\n";
     fit_of(calls, &interval(7, 0, 0, 10, 4), &[1, 6, 6], line)
+}
+
+/// Fits G to J by the call of the search: the kind, then C, L, count, open boxes and peak, then w.
+pub fn searched(calls: &dyn Calls, _: &mut Random) -> Outcome {
+    for (job, y, kind, numbers, w) in [
+        (interval(3, 1, 2, 10, 4), [2, 2, 9], 1, [2, 2, 1, 0, 1], 2),
+        (interval(3, 1, 2, 0, 4), [2, 2, 9], 2, [6, 2, 0, 1, 1], 0),
+        (interval(7, 0, 0, 10, 1), [1, 6, 6], 3, [3, 0, 0, 1, 1], 0),
+        (interval(7, 0, 0, 10, 4), [1, 6, 6], 1, [1, 1, 2, 0, 2], 6),
+    ] {
+        let mut table = vec![9; 16 * job.rows as usize];
+        let mut found = Found {
+            vector: Lent::new(8, |count| vec![9; count]),
+            numbers: Lent::new(5, |count| vec![9; count]),
+            value: 9,
+        };
+        let points = store(&y.map(|y| (1, y)));
+        let code = calls.search(&points, &job, &row_of(&job.domain), &job.start, &mut table, &mut found);
+        same("search", (code, found.value), (0, kind))?;
+        found.numbers.holds("numbers", &numbers)?;
+        found.vector.holds("vector", &vector(&[w]))?;
+    }
+    Ok(())
 }
 
 pub fn k_written(calls: &dyn Calls, _: &mut Random) -> Outcome {

@@ -1,9 +1,9 @@
 //! Lines of single-precision coefficients, written and read.
 
-use super::{number, with_case, Outcome};
-use crate::calls::Calls;
+use super::{length_of, with_case, Outcome};
+use crate::calls::{Calls, WRONG_LENGTH};
 use crate::inputs::Size;
-use crate::lent::same;
+use crate::lent::{same, Lent};
 use crate::random::Random;
 use oracle::coefficients::pattern;
 
@@ -20,21 +20,46 @@ fn coordinates(random: &mut Random, d: u8) -> [i16; 4] {
     std::array::from_fn(|k| if k < d as usize || beyond { size.number(random) } else { 0 })
 }
 
+/// The lengths of the two buffers, four each, or now and then others.
+fn lengths(random: &mut Random) -> [usize; 2] {
+    if random.once_in(16) {
+        [4, 4].map(|right| length_of(random, right))
+    } else {
+        [4, 4]
+    }
+}
+
 /// Sixty-four lines with neighbouring first coordinates, so that a run of some hundred cases writes them all.
 pub fn write_line(calls: &dyn Calls, random: &mut Random) -> Outcome {
     let (d, s) = settings(random);
+    let lengths = lengths(random);
     let mut coordinates = coordinates(random, d);
     for _ in 0..64 {
         coordinates[0] = coordinates[0].wrapping_add(1);
-        let was: [u32; 4] = std::array::from_fn(|_| random.next() as u32);
-        let mut patterns = was;
-        let code = calls.write_line(d, s, &coordinates, &mut patterns);
-        let expected = oracle::write_line(d, s, &coordinates);
-        let outcome =
-            same("answer", code, number(&expected)).and(same("patterns", patterns, expected.unwrap_or(was)));
-        with_case(outcome, || format!("  d = {d}, S = {s}, coordinates {coordinates:?}"))?;
+        let mut given = coordinates.to_vec();
+        given.resize(lengths[0], 0);
+        let mut patterns = Lent::new(lengths[1], |count| random.patterns(count));
+        let code = calls.write_line(d, s, &given, patterns.part());
+        let expected = match lengths {
+            [4, 4] => oracle::write_line(d, s, &coordinates).map_err(|refusal| refusal.number() as u32),
+            _ => Err(WRONG_LENGTH),
+        };
+        let outcome = same_line(code, &patterns, &expected);
+        with_case(outcome, || format!("  d = {d}, S = {s}, coordinates {given:?}, lengths {lengths:?}"))?;
     }
     Ok(())
+}
+
+/// The answer, and the lent buffer that takes the line.
+fn same_line<T: Copy + PartialEq + std::fmt::Debug>(
+    code: u32,
+    lent: &Lent<T>,
+    expected: &Result<[T; 4], u32>,
+) -> Outcome {
+    match expected {
+        Ok(line) => same("answer", code, 0).and(lent.holds("line", line)),
+        Err(refusal) => same("answer", code, *refusal).and(lent.holds("line", lent.was())),
+    }
 }
 
 /// A pattern of a coordinate, one beside it, one bit from it, of another scale, or any.
@@ -59,10 +84,15 @@ pub fn read_line(calls: &dyn Calls, random: &mut Random) -> Outcome {
         let k = random.size(0, 3);
         patterns[k] = changed(random, patterns[k]);
     }
-    let was: [i16; 4] = std::array::from_fn(|_| random.next() as i16);
-    let mut read = was;
-    let code = calls.read_line(d, s, &patterns, &mut read);
-    let expected = oracle::read_line(d, s, &patterns);
-    let outcome = same("answer", code, number(&expected)).and(same("coordinates", read, expected.unwrap_or(was)));
-    with_case(outcome, || format!("  d = {d}, S = {s}, patterns {patterns:08X?}"))
+    let lengths = lengths(random);
+    let mut given = patterns.to_vec();
+    given.resize(lengths[0], 0);
+    let mut read = Lent::new(lengths[1], |count| random.numbers(count));
+    let code = calls.read_line(d, s, &given, read.part());
+    let expected = match lengths {
+        [4, 4] => oracle::read_line(d, s, &patterns).map_err(|refusal| refusal.number() as u32),
+        _ => Err(WRONG_LENGTH),
+    };
+    let outcome = same_line(code, &read, &expected);
+    with_case(outcome, || format!("  d = {d}, S = {s}, patterns {given:08X?}, lengths {lengths:?}"))
 }

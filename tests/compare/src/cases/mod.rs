@@ -12,7 +12,7 @@ use crate::calls::Calls;
 use crate::inputs::Input;
 use crate::lent::same;
 use crate::random::Random;
-use oracle::Refusal;
+use oracle::{Box8, Refusal};
 
 /// A case's end: nothing, or what differs and the whole case.
 pub type Outcome = Result<(), String>;
@@ -45,6 +45,7 @@ pub const GROUPS: &[Group] = &[
     group!("bench-H", "fit", 1, bench::h),
     group!("bench-I", "fit", 1, bench::i),
     group!("bench-J", "fit", 1, bench::j),
+    group!("bench-G-to-J-searched", "search", 1, bench::searched),
     group!("bench-K-written", "write_line", 1, bench::k_written),
     group!("bench-K-read", "read_line", 1, bench::k_read),
     group!("bench-L", "take_in", 1, bench::l),
@@ -89,6 +90,19 @@ fn expected_value(expected: &Result<u64, Refusal>, was: u64) -> u64 {
         Err(Refusal::Stray(record)) => *record as u64,
         Err(_) => was,
     }
+}
+
+/// The length that a buffer must have, or now and then another.
+fn length_of(random: &mut Random, right: usize) -> usize {
+    if random.once_in(4) {
+        random.pick(&[0, 1, right / 2, right - 1, right + 1, 2 * right])
+    } else {
+        right
+    }
+}
+
+fn row_of(domain: &Box8) -> Vec<i16> {
+    [domain.low, domain.high].concat()
 }
 
 fn hex(bytes: &[u8]) -> String {

@@ -1,11 +1,10 @@
 //! Loss, cost, bound, split and labels.
 
-use super::{number, same_answer, with_case, Outcome};
+use super::{number, row_of, same_answer, with_case, Outcome};
 use crate::calls::{Calls, WRONG_LENGTH};
 use crate::inputs::{any, Input};
 use crate::lent::{same, Lent};
 use crate::random::Random;
-use oracle::Box8;
 
 pub fn loss(calls: &dyn Calls, random: &mut Random) -> Outcome {
     let p = random.pick(&[0, 0, 1, 1, 2, 2, 2, 3, 255]);
@@ -33,10 +32,6 @@ fn other_length(random: &mut Random, numbers: &[i16]) -> Vec<i16> {
         other.resize(random.pick(&[0, 1, length / 2, length - 1, length + 1, 2 * length]), 0);
     }
     other
-}
-
-fn row_of(domain: &Box8) -> Vec<i16> {
-    [domain.low, domain.high].concat()
 }
 
 fn with_numbers(input: &Input, numbers: &[i16]) -> String {

@@ -1,41 +1,75 @@
 //! Job and answer records.
 
-use super::{hex, number, with_case, Outcome};
+use super::{hex, length_of, number, row_of, with_case, Outcome};
 use crate::calls::{Calls, WRONG_LENGTH};
 use crate::inputs::{self, Size};
 use crate::lent::{same, Lent};
 use crate::random::Random;
-use oracle::records::{answer_fields, ANSWER, COST_LIMIT, JOB};
-use oracle::AnswerRecord;
+use oracle::records::{ANSWER, COST_LIMIT, JOB};
+use oracle::{AnswerRecord, Job, Refusal};
 
-/// Any 72 bytes are a job; another number of bytes is none.
+/// The job of the first 72 bytes; fewer are refusal 1, which a buffer of a wrong length comes before.
 pub fn read_job(calls: &dyn Calls, random: &mut Random) -> Outcome {
     let mut bytes = match random.below(2) {
         0 => random.bytes(JOB),
         _ => oracle::write_job(&inputs::sound(random).job).to_vec(),
     };
-    if random.once_in(6) {
-        bytes.resize(random.pick(&[0, 40, 71, 73, 84]), 0);
+    if random.once_in(4) {
+        bytes.resize(random.pick(&[0, 40, 71, 73, 84]), 7);
     }
-    let was = inputs::sound(random).job;
-    let mut job = was;
-    let code = calls.read_job(&bytes, &mut job);
-    let outcome = match <&[u8; JOB]>::try_from(&bytes[..]) {
-        Ok(record) => same("answer", code, 0).and(same("job", job, oracle::read_job(record))),
-        Err(_) => same("answer", code, WRONG_LENGTH).and(same("job", job, was)),
+    let mut lengths = [8, 16, 8];
+    if random.once_in(6) {
+        lengths = lengths.map(|right| length_of(random, right));
+    }
+    let mut numbers = Lent::new(lengths[0], |count| random.words(count));
+    let mut corners = Lent::new(lengths[1], |count| random.numbers(count));
+    let mut start = Lent::new(lengths[2], |count| random.numbers(count));
+    let code = calls.read_job(&bytes, numbers.part(), corners.part(), start.part());
+    let after = match bytes.first_chunk::<JOB>() {
+        _ if lengths != [8, 16, 8] => Err(WRONG_LENGTH),
+        Some(record) => Ok(oracle::read_job(record)),
+        None => Err(Refusal::Length.number() as u32),
     };
-    with_case(outcome, || format!("  bytes: {}", hex(&bytes)))
+    let outcome = match &after {
+        Ok(Job { model, t, budget, rows, domain, start: first }) => {
+            let bytes = [model.n, model.d, model.s, model.p].map(u64::from);
+            let rest = [model.epsilon as u64, *t, *budget as u64, *rows as u64];
+            same("answer", code, 0)
+                .and(numbers.holds("numbers", &[bytes, rest].concat()))
+                .and(corners.holds("box", &row_of(domain)))
+                .and(start.holds("start", first))
+        }
+        Err(refusal) => same("answer", code, *refusal)
+            .and(numbers.holds("numbers", numbers.was()))
+            .and(corners.holds("box", corners.was()))
+            .and(start.holds("start", start.was())),
+    };
+    with_case(outcome, || format!("  bytes: {}\n  lengths {lengths:?}", hex(&bytes)))
 }
 
+/// The record in the first 72 bytes; fewer are refusal 10.
 pub fn write_job(calls: &dyn Calls, random: &mut Random) -> Outcome {
     let record: [u8; JOB] = random.bytes(JOB).try_into().unwrap();
     let job = oracle::read_job(&record);
-    let length = if random.once_in(6) { random.pick(&[0, 71, 73]) } else { JOB };
+    let (mut corners, mut start) = (row_of(&job.domain), job.start.to_vec());
+    if random.once_in(6) {
+        corners.resize(length_of(random, 16), 0);
+        start.resize(length_of(random, 8), 0);
+    }
+    let length = if random.once_in(3) { random.pick(&[0, 71, 73, 84]) } else { JOB };
     let mut lent = Lent::new(length, |count| random.bytes(count));
-    let code = calls.write_job(&job, lent.part());
-    let (answer, after) = if length == JOB { (0, record.to_vec()) } else { (WRONG_LENGTH, lent.was().to_vec()) };
+    let code = calls.write_job(&job, &corners, &start, lent.part());
+    let mut after = lent.was().to_vec();
+    let answer = if [corners.len(), start.len()] != [16, 8] {
+        WRONG_LENGTH
+    } else if length < JOB {
+        Refusal::Short.number() as u32
+    } else {
+        after[..JOB].copy_from_slice(&record);
+        0
+    };
     let outcome = same("answer", code, answer).and(lent.holds("record", &after));
-    with_case(outcome, || format!("  {job:?}\n  bytes lent: {length}"))
+    with_case(outcome, || format!("  {job:?}\n  corners {corners:?}, start {start:?}, bytes lent: {length}"))
 }
 
 /// An answer, sound or with one or two fields out of range or at its limit.
@@ -82,13 +116,20 @@ fn spoil(random: &mut Random, answer: &mut AnswerRecord, used: usize) {
 
 pub fn write_answer(calls: &dyn Calls, random: &mut Random) -> Outcome {
     let answer = answer(random);
+    let mut vector = answer.vector.to_vec();
+    if random.once_in(8) {
+        vector.resize(length_of(random, 8), 0);
+    }
     let length = random.pick(&[40, 40, 40, 41, 44, 80, 39, 0, 1]);
     let mut lent = Lent::new(length, |count| random.bytes(count));
-    let code = calls.write_answer(&answer, lent.part());
+    let code = calls.write_answer(&answer, &vector, lent.part());
     let mut after = lent.was().to_vec();
-    let expected = oracle::write_answer(&answer, &mut after);
-    let outcome = same("answer", code, number(&expected)).and(lent.holds("record", &after));
-    with_case(outcome, || format!("  {answer:?}\n  bytes lent: {length}"))
+    let expected = match vector.len() {
+        8 => number(&oracle::write_answer(&answer, &mut after)),
+        _ => WRONG_LENGTH,
+    };
+    let outcome = same("answer", code, expected).and(lent.holds("record", &after));
+    with_case(outcome, || format!("  {answer:?}\n  vector as given: {vector:?}, bytes lent: {length}"))
 }
 
 pub fn read_answer(calls: &dyn Calls, random: &mut Random) -> Outcome {
@@ -99,12 +140,28 @@ pub fn read_answer(calls: &dyn Calls, random: &mut Random) -> Outcome {
         1 => bytes = random.bytes(ANSWER),
         _ => {}
     }
-    let was = answer_fields(&random.bytes(ANSWER));
-    let mut read = was;
-    let code = calls.read_answer(&bytes, &mut read);
-    let expected = oracle::read_answer(&bytes);
-    let outcome = same("answer", code, number(&expected)).and(same("fields", read, expected.unwrap_or(was)));
-    with_case(outcome, || format!("  bytes: {}", hex(&bytes)))
+    let mut lengths = [8, 7];
+    if random.once_in(8) {
+        lengths = lengths.map(|right| length_of(random, right));
+    }
+    let mut vector = Lent::new(lengths[0], |count| random.numbers(count));
+    let mut numbers = Lent::new(lengths[1], |count| random.words(count));
+    let code = calls.read_answer(&bytes, vector.part(), numbers.part());
+    let expected = match lengths {
+        [8, 7] => oracle::read_answer(&bytes).map_err(|refusal| refusal.number() as u32),
+        _ => Err(WRONG_LENGTH),
+    };
+    let outcome = match &expected {
+        Ok(AnswerRecord { vector: found, c, l, count, kind, n, d, s }) => {
+            let bytes = [*kind, *n, *d, *s].map(u64::from);
+            let told = [&[*c, *l, *count as u64][..], &bytes].concat();
+            same("answer", code, 0).and(vector.holds("vector", found)).and(numbers.holds("numbers", &told))
+        }
+        Err(refusal) => same("answer", code, *refusal)
+            .and(vector.holds("vector", vector.was()))
+            .and(numbers.holds("numbers", numbers.was())),
+    };
+    with_case(outcome, || format!("  bytes: {}\n  lengths {lengths:?}", hex(&bytes)))
 }
 
 /// The bytes of a record whose fields may be out of range, which no writer writes.

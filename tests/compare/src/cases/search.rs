@@ -1,7 +1,7 @@
 //! The search: small boxes against all of their vectors, all searches against the oracle step for step.
 
-use super::{number, with_case, Outcome};
-use crate::calls::{Calls, Found};
+use super::{length_of, number, row_of, with_case, Outcome};
+use crate::calls::{Calls, Found, WRONG_LENGTH};
 use crate::inputs::{self, Input};
 use crate::lent::{same, Lent};
 use crate::random::Random;
@@ -42,7 +42,7 @@ pub fn wide(calls: &dyn Calls, random: &mut Random) -> Outcome {
     with_case(run.compare(), || run.to_string())
 }
 
-/// Damaged jobs and tables that are too short.
+/// Damaged jobs, tables that are too short and buffers of other lengths.
 pub fn damaged(calls: &dyn Calls, random: &mut Random) -> Outcome {
     let mut input = if random.once_in(2) { inputs::small(random, 50) } else { inputs::sound(random) };
     input.job.budget = random.below(8) as u32;
@@ -55,6 +55,9 @@ pub fn damaged(calls: &dyn Calls, random: &mut Random) -> Outcome {
         _ => random.size(16, 100),
     };
     let mut run = Run::new(random, input, length);
+    if random.once_in(8) {
+        run.other_lengths(random);
+    }
     run.call(calls);
     with_case(run.compare(), || run.to_string())
 }
@@ -62,8 +65,10 @@ pub fn damaged(calls: &dyn Calls, random: &mut Random) -> Outcome {
 /// One call of the search with what it was lent.
 struct Run {
     input: Input,
+    corners: Vec<i16>,
+    start: Vec<i16>,
     table: Lent<i16>,
-    was: Found,
+    was: u64,
     found: Found,
     code: u32,
 }
@@ -71,38 +76,54 @@ struct Run {
 impl Run {
     fn new(random: &mut Random, input: Input, length: usize) -> Run {
         let table = Lent::new(length, |count| random.numbers(count));
-        let was = Found {
-            kind: random.next() as u8,
-            vector: std::array::from_fn(|_| random.next() as i16),
-            c: random.next(),
-            l: random.next(),
-            count: random.next() as u32,
-            open: random.next(),
-            peak: random.next(),
-            record: random.next(),
+        let was = random.next();
+        let found = Found {
+            vector: Lent::new(8, |count| random.numbers(count)),
+            numbers: Lent::new(5, |count| random.words(count)),
+            value: was,
         };
-        Run { input, table, found: was.clone(), was, code: 0 }
+        let (corners, start) = (row_of(&input.job.domain), input.job.start.to_vec());
+        Run { input, corners, start, table, was, found, code: 0 }
+    }
+
+    /// Some of the four buffers have other lengths.
+    fn other_lengths(&mut self, random: &mut Random) {
+        self.corners.resize(length_of(random, 16), 0);
+        self.start.resize(length_of(random, 8), 0);
+        let vector = length_of(random, 8);
+        self.found.vector = Lent::new(vector, |count| random.numbers(count));
+        let numbers = length_of(random, 5);
+        self.found.numbers = Lent::new(numbers, |count| random.words(count));
+    }
+
+    fn lengths_right(&self) -> bool {
+        let lent = [self.found.vector.was().len(), self.found.numbers.was().len()];
+        [self.corners.len(), self.start.len()] == [16, 8] && lent == [8, 5]
     }
 
     fn call(&mut self, calls: &dyn Calls) {
-        self.code = calls.search(&self.input.store, &self.input.job, self.table.part(), &mut self.found);
+        let job = &self.input.job;
+        let table = self.table.part();
+        self.code = calls.search(&self.input.store, job, &self.corners, &self.start, table, &mut self.found);
     }
 
     /// What is promised of a search, by all vectors of the box: the lower bound, that C is reached, when
     /// it is solved, and that budget and rows suffice.
     fn promises(&self, volume: u64, rows: usize) -> Outcome {
         same("answer", self.code, 0)?;
-        let (job, found) = (&self.input.job, &self.found);
+        let job = &self.input.job;
+        let vector: [i16; 8] = self.found.vector.now().try_into().unwrap();
+        let [c, l, count, open, peak] = self.found.numbers.now().try_into().unwrap();
         let points = points_of(&self.input.store);
         let least = job.domain.grid().iter().map(|vector| job.model.cost_of(&points, vector)).min().unwrap();
-        let solved = found.kind == Kind::Solved as u8;
-        same("vector in the box", job.domain.contains(&found.vector), true)?;
-        same("C", found.c, job.model.cost_of(&points, &found.vector))?;
-        same("L is at most the least cost", found.l <= least, true)?;
-        same("L is at most C", found.l <= found.c, true)?;
-        same("solved exactly when C - L <= t", solved, found.c - found.l <= job.t)?;
-        same("count is at most V - 1", (found.count as u64) < volume, true)?;
-        same("open is at most peak, peak at most r", found.open <= found.peak && found.peak <= rows as u64, true)?;
+        let solved = self.found.value == Kind::Solved as u64;
+        same("vector in the box", job.domain.contains(&vector), true)?;
+        same("C", c, job.model.cost_of(&points, &vector))?;
+        same("L is at most the least cost", l <= least, true)?;
+        same("L is at most C", l <= c, true)?;
+        same("solved exactly when C - L <= t", solved, c - l <= job.t)?;
+        same("count is at most V - 1", count < volume, true)?;
+        same("open is at most peak, peak at most r", open <= peak && peak <= rows as u64, true)?;
         if job.budget as u64 >= volume - 1 && 2 * rows as u64 >= volume {
             same("solved, as budget and rows suffice", solved, true)?;
         }
@@ -111,20 +132,34 @@ impl Run {
 
     /// The answer and every lent element by the oracle; only rows from open up to peak are free.
     fn compare(&self) -> Outcome {
+        if !self.lengths_right() {
+            same("answer", self.code, WRONG_LENGTH)?;
+            return self.holds(self.table.was(), self.found.vector.was(), self.found.numbers.was(), self.was);
+        }
         let expected = oracle::search(&self.input.job, &self.input.store, self.table.was().len());
         same("answer", self.code, number(&expected))?;
         let mut table = self.table.was().to_vec();
+        let (mut vector, mut numbers) = (self.found.vector.was().to_vec(), self.found.numbers.was().to_vec());
+        let mut value = self.was;
         match expected {
             Ok(answer) => {
-                same("answer of the search", &self.found, &found_of(&answer, &self.was))?;
+                vector = answer.vector.to_vec();
+                let open = answer.open.len() as u64;
+                numbers = vec![answer.c, answer.l, answer.count as u64, open, answer.peak as u64];
+                value = answer.kind as u64;
                 self.put_rows(&answer, &mut table);
             }
-            Err(Refusal::Stray(record)) => {
-                same("results", &self.found, &Found { record: record as u64, ..self.was.clone() })?;
-            }
-            Err(_) => same("results", &self.found, &self.was)?,
+            Err(Refusal::Stray(record)) => value = record as u64,
+            Err(_) => {}
         }
-        self.table.holds("table", &table)
+        self.holds(&table, &vector, &numbers, value)
+    }
+
+    fn holds(&self, table: &[i16], vector: &[i16], numbers: &[u64], value: u64) -> Outcome {
+        same("value", self.found.value, value)?;
+        self.found.vector.holds("vector", vector)?;
+        self.found.numbers.holds("numbers", numbers)?;
+        self.table.holds("table", table)
     }
 
     fn put_rows(&self, answer: &Answer, table: &mut [i16]) {
@@ -137,23 +172,17 @@ impl Run {
     }
 }
 
-fn found_of(answer: &Answer, was: &Found) -> Found {
-    Found {
-        kind: answer.kind as u8,
-        vector: answer.vector,
-        c: answer.c,
-        l: answer.l,
-        count: answer.count,
-        open: answer.open.len() as u64,
-        peak: answer.peak as u64,
-        record: was.record,
-    }
-}
-
 impl std::fmt::Display for Run {
     fn fmt(&self, f: &mut std::fmt::Formatter) -> std::fmt::Result {
         let expected = oracle::search(&self.input.job, &self.input.store, self.table.was().len());
         write!(f, "{}\n  table of {} numbers\n", self.input, self.table.was().len())?;
-        write!(f, "  product: answer {}, {:?}\n  oracle: {expected:?}", self.code, self.found)
+        write!(f, "  corners {:?}, start {:?}\n", self.corners, self.start)?;
+        let (vector, numbers) = (self.found.vector.now(), self.found.numbers.now());
+        write!(
+            f,
+            "  product: answer {}, value {}, vector {vector:?}, numbers {numbers:?}\n",
+            self.code, self.found.value
+        )?;
+        write!(f, "  oracle: {expected:?}")
     }
 }

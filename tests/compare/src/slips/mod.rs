@@ -55,6 +55,8 @@ enum Slip {
     // Records, lines and fit.
     JobFieldsSwapped,
     JobLittleEndian,
+    LongJobRefused,
+    JobClearsTheRest,
     AnswerLittleEndian,
     AnswerLimitIsPowerOfTwo,
     AnswerLOverC,
@@ -105,14 +107,18 @@ const SLIPS: &[(&str, &[Slip])] = &[
             RowsPastPeakWritten,
             RowsNotWritten,
             RowsReversed,
+            WrongLengthTaken,
         ],
     ),
-    ("read_job", &[JobFieldsSwapped, JobLittleEndian]),
-    ("write_job", &[JobFieldsSwapped]),
-    ("write_answer", &[AnswerLittleEndian, AnswerLimitIsPowerOfTwo, AnswerLOverC, AnswerShortBeforeCheck]),
-    ("read_answer", &[AnswerUnusedKept]),
-    ("read_line", &[NegativeZeroRead, OffGridRounded, LastWUnread, UnusedPatternRead]),
-    ("write_line", &[UnusedCoordinateWritten]),
+    ("read_job", &[JobFieldsSwapped, JobLittleEndian, LongJobRefused, WrongLengthTaken]),
+    ("write_job", &[JobFieldsSwapped, JobClearsTheRest, WrongLengthTaken]),
+    (
+        "write_answer",
+        &[AnswerLittleEndian, AnswerLimitIsPowerOfTwo, AnswerLOverC, AnswerShortBeforeCheck, WrongLengthTaken],
+    ),
+    ("read_answer", &[AnswerUnusedKept, WrongLengthTaken]),
+    ("read_line", &[NegativeZeroRead, OffGridRounded, LastWUnread, UnusedPatternRead, WrongLengthTaken]),
+    ("write_line", &[UnusedCoordinateWritten, WrongLengthTaken]),
     ("fit", &[FitWithoutLineEnd, FitWithRecord, FitAllCoordinates]),
 ];
 

@@ -2,11 +2,17 @@
 
 use super::stand_in::StandIn;
 use super::Slip::*;
-use crate::calls::Found;
 use oracle::boxes::check_box;
 use oracle::points::{check_length, Point};
 use oracle::search::check_job;
 use oracle::{Box8, Job, Kind, Model, Refusal, Vector};
+
+/// What a search answers; the numbers are C, L, count, open boxes and peak.
+pub struct Told {
+    pub kind: Kind,
+    pub vector: Vector,
+    pub numbers: [u64; 5],
+}
 
 impl StandIn {
     pub fn cut(&self, domain: &Box8) -> (Box8, Box8) {
@@ -35,7 +41,7 @@ impl StandIn {
     }
 
     /// The search with its slips; as the product may, it works in place of the table's first rows.
-    pub fn run(&self, job: &Job, points: &[Point], table: &mut [i16]) -> Found {
+    pub fn run(&self, job: &Job, points: &[Point], table: &mut [i16]) -> Told {
         let rows = if self.slips(PartialRowUsed) { table.len().div_ceil(16) } else { table.len() / 16 };
         let cost = |vector: &Vector| job.model.cost_of(points, vector);
         let bound = |domain: &Box8| self.bound_of(&job.model, points, domain);
@@ -91,16 +97,11 @@ impl StandIn {
             peak = peak.max(list.len());
         };
         self.put_rows(&list, peak, table);
-        Found {
-            kind: kind as u8,
-            vector: best,
-            c,
-            l: if self.slips(BoundIsZero) { 0 } else { l.min(c) },
-            count: count + self.slips(CountOneMore) as u32,
-            open: list.len() as u64,
-            peak: if self.slips(PeakIsOpen) { list.len() } else { peak } as u64,
-            record: 0,
-        }
+        let l = if self.slips(BoundIsZero) { 0 } else { l.min(c) };
+        let count = count as u64 + self.slips(CountOneMore) as u64;
+        let open = list.len() as u64;
+        let peak = if self.slips(PeakIsOpen) { open } else { peak as u64 };
+        Told { kind, vector: best, numbers: [c, l, count, open, peak] }
     }
 
     fn put_rows(&self, list: &[Box8], peak: usize, table: &mut [i16]) {

@@ -31,7 +31,24 @@ fn settle(result: Result<u64, Refusal>, value: &mut u64) -> u32 {
     }
 }
 
+/// The front of a buffer is written, as far as it goes.
+fn put<T: Copy>(out: &mut [T], from: &[T]) {
+    for (to, &element) in out.iter_mut().zip(from) {
+        *to = element;
+    }
+}
+
+/// Four elements, filled up by zeros.
+fn four<T: Copy + Default>(from: &[T]) -> [T; 4] {
+    std::array::from_fn(|k| from.get(k).copied().unwrap_or_default())
+}
+
 impl StandIn {
+    /// Whether each buffer has its right length; with a slip every length is taken.
+    fn takes(&self, lengths: &[(usize, usize)]) -> bool {
+        self.slips(WrongLengthTaken) || lengths.iter().all(|(length, right)| length == right)
+    }
+
     pub fn slips(&self, slip: Slip) -> bool {
         self.slip == slip
     }
@@ -158,60 +175,102 @@ impl Calls for StandIn {
         settle(oracle::take_in(store, mark, beacon).map(|mark| mark as u64), value)
     }
 
-    fn search(&self, store: &[u8], job: &Job, table: &mut [i16], found: &mut Found) -> u32 {
+    fn search(
+        &self,
+        store: &[u8],
+        job: &Job,
+        corners: &[i16],
+        start: &[i16],
+        table: &mut [i16],
+        found: &mut Found,
+    ) -> u32 {
+        let (vector, numbers) = (found.vector.part(), found.numbers.part());
+        if !self.takes(&[(corners.len(), 16), (start.len(), 8), (vector.len(), 8), (numbers.len(), 5)]) {
+            return WRONG_LENGTH;
+        }
+        let (Some(domain), Some(start)) = (self.row(corners), self.eight(start)) else {
+            return WRONG_LENGTH;
+        };
+        let job = &Job { domain, start, ..*job };
         match self.check_search(job, store, table.len()) {
             Ok(points) => {
-                *found = Found { record: found.record, ..self.run(job, &points, table) };
+                let told = self.run(job, &points, table);
+                put(vector, &told.vector);
+                put(numbers, &told.numbers);
+                found.value = told.kind as u64;
                 0
             }
-            Err(refusal) => refused(refusal, &mut found.record),
+            Err(refusal) => refused(refusal, &mut found.value),
         }
     }
 
-    fn read_job(&self, bytes: &[u8], job: &mut Job) -> u32 {
-        let Ok(record) = bytes.try_into() else {
+    fn read_job(&self, bytes: &[u8], numbers: &mut [u64], corners: &mut [i16], start: &mut [i16]) -> u32 {
+        if !self.takes(&[(numbers.len(), 8), (corners.len(), 16), (start.len(), 8)]) {
             return WRONG_LENGTH;
+        }
+        let Some(record) = bytes.first_chunk() else {
+            return Refusal::Length.number() as u32;
         };
-        *job = oracle::read_job(record);
+        if self.slips(LongJobRefused) && bytes.len() > 72 {
+            return Refusal::Length.number() as u32;
+        }
+        let mut job = oracle::read_job(record);
         match self.slip {
             JobFieldsSwapped => (job.budget, job.rows) = (job.rows, job.budget),
             JobLittleEndian => job.t = job.t.swap_bytes(),
             _ => {}
         }
+        let Model { n, d, s, p, epsilon } = job.model;
+        let rest = [epsilon as u64, job.t, job.budget as u64, job.rows as u64];
+        put(numbers, &[[n, d, s, p].map(u64::from), rest].concat());
+        put(corners, &[job.domain.low, job.domain.high].concat());
+        put(start, &job.start);
         0
     }
 
-    fn write_job(&self, job: &Job, bytes: &mut [u8]) -> u32 {
-        if bytes.len() != 72 {
+    fn write_job(&self, job: &Job, corners: &[i16], start: &[i16], bytes: &mut [u8]) -> u32 {
+        if !self.takes(&[(corners.len(), 16), (start.len(), 8)]) {
             return WRONG_LENGTH;
+        }
+        if bytes.len() < 72 {
+            return Refusal::Short.number() as u32;
         }
         let mut taken = *job;
         if self.slips(JobFieldsSwapped) {
             (taken.budget, taken.rows) = (job.rows, job.budget);
         }
-        bytes.copy_from_slice(&oracle::write_job(&taken));
+        bytes[..72].copy_from_slice(&oracle::write_job(&taken));
+        if self.slips(JobClearsTheRest) {
+            bytes[72..].fill(0);
+        }
         0
     }
 
-    fn read_answer(&self, bytes: &[u8], answer: &mut AnswerRecord) -> u32 {
-        match oracle::read_answer(bytes) {
-            Ok(read) => {
-                *answer = read;
-                0
-            }
+    fn read_answer(&self, bytes: &[u8], vector: &mut [i16], numbers: &mut [u64]) -> u32 {
+        if !self.takes(&[(vector.len(), 8), (numbers.len(), 7)]) {
+            return WRONG_LENGTH;
+        }
+        let read = match oracle::read_answer(bytes) {
             Err(_) if self.slips(AnswerUnusedKept) && bytes.len() == 40 => {
                 let read = answer_fields(bytes);
-                if check_answer(&AnswerRecord { vector: [0; 8], ..read }).is_err() {
-                    return 9;
-                }
-                *answer = read;
+                check_answer(&AnswerRecord { vector: [0; 8], ..read }).map(|()| read)
+            }
+            read => read,
+        };
+        match read {
+            Ok(AnswerRecord { vector: found, c, l, count, kind, n, d, s }) => {
+                put(vector, &found);
+                put(numbers, &[&[c, l, count as u64][..], &[kind, n, d, s].map(u64::from)].concat());
                 0
             }
             Err(refusal) => refusal.number() as u32,
         }
     }
 
-    fn write_answer(&self, answer: &AnswerRecord, bytes: &mut [u8]) -> u32 {
+    fn write_answer(&self, answer: &AnswerRecord, vector: &[i16], bytes: &mut [u8]) -> u32 {
+        if !self.takes(&[(vector.len(), 8)]) {
+            return WRONG_LENGTH;
+        }
         if self.slips(AnswerShortBeforeCheck) && bytes.len() < 40 {
             return 10;
         }
@@ -234,22 +293,28 @@ impl Calls for StandIn {
         }
     }
 
-    fn write_line(&self, d: u8, s: u8, coordinates: &[i16; 4], patterns: &mut [u32; 4]) -> u32 {
-        let mut taken = *coordinates;
+    fn write_line(&self, d: u8, s: u8, coordinates: &[i16], patterns: &mut [u32]) -> u32 {
+        if !self.takes(&[(coordinates.len(), 4), (patterns.len(), 4)]) {
+            return WRONG_LENGTH;
+        }
+        let mut taken = four(coordinates);
         if self.slips(UnusedCoordinateWritten) {
             taken[d.min(4) as usize..].fill(0);
         }
         match oracle::write_line(d, s, &taken) {
             Ok(written) => {
-                *patterns = written;
+                put(patterns, &written);
                 0
             }
             Err(refusal) => refusal.number() as u32,
         }
     }
 
-    fn read_line(&self, d: u8, s: u8, patterns: &[u32; 4], coordinates: &mut [i16; 4]) -> u32 {
-        let mut taken = *patterns;
+    fn read_line(&self, d: u8, s: u8, patterns: &[u32], coordinates: &mut [i16]) -> u32 {
+        if !self.takes(&[(patterns.len(), 4), (coordinates.len(), 4)]) {
+            return WRONG_LENGTH;
+        }
+        let mut taken: [u32; 4] = four(patterns);
         for (k, bits) in taken.iter_mut().enumerate() {
             match self.slip {
                 NegativeZeroRead if *bits == 0x8000_0000 => *bits = 0,
@@ -261,7 +326,7 @@ impl Calls for StandIn {
         }
         match oracle::read_line(d, s, &taken) {
             Ok(read) => {
-                *coordinates = read;
+                put(coordinates, &read);
                 0
             }
             Err(refusal) => refusal.number() as u32,
