@@ -113,43 +113,43 @@ pub fn job_of(m: Model, t: u64, budget: u32, rows: u32, corners: &[i16], start: 
 }
 
 // Fills a buffer of coordinates.
-pub fn fill_coordinates(out: &mut [i16], from: &[i16])
-    ensures { λ _. ⌜ now (out .exit) ≡ filled (now (out .entry)) (now (from .entry)) ⌝ }
+pub fn fill_coordinates(out: &mut [i16], w: &[i16])
+    ensures { λ _. ⌜ now (out .exit) ≡ filled (now (out .entry)) (now (w .entry)) ⌝ }
 {
-    if out.len() != from.len() {
+    if out.len() != w.len() {
         return;
     }
     let mut k: usize = 0;
-    while k < from.len() {
-        out[k] = from[k];
+    while k < w.len() {
+        out[k] = w[k];
         k += 1;
     }
 }
 
 // Fills a buffer of numbers.
-pub fn fill_numbers(out: &mut [u64], from: &[u64])
-    ensures { λ _. ⌜ now (out .exit) ≡ filled (now (out .entry)) (now (from .entry)) ⌝ }
+pub fn fill_numbers(out: &mut [u64], told: &[u64])
+    ensures { λ _. ⌜ now (out .exit) ≡ filled (now (out .entry)) (now (told .entry)) ⌝ }
 {
-    if out.len() != from.len() {
+    if out.len() != told.len() {
         return;
     }
     let mut k: usize = 0;
-    while k < from.len() {
-        out[k] = from[k];
+    while k < told.len() {
+        out[k] = told[k];
         k += 1;
     }
 }
 
 // Fills a buffer of patterns.
-pub fn fill_patterns(out: &mut [u32], from: &[u32])
-    ensures { λ _. ⌜ now (out .exit) ≡ filled (now (out .entry)) (now (from .entry)) ⌝ }
+pub fn fill_patterns(out: &mut [u32], bits: &[u32])
+    ensures { λ _. ⌜ now (out .exit) ≡ filled (now (out .entry)) (now (bits .entry)) ⌝ }
 {
-    if out.len() != from.len() {
+    if out.len() != bits.len() {
         return;
     }
     let mut k: usize = 0;
-    while k < from.len() {
-        out[k] = from[k];
+    while k < bits.len() {
+        out[k] = bits[k];
         k += 1;
     }
 }

@@ -11,17 +11,17 @@ use Rattle.boundary.proofs.fill_patterns.Statement.{statement}
 use Rattle.boundary.proofs.fill_patterns.Tie as tie
 
 abbrev Inv-loop : tie.InvT-loop
-Inv-loop out₀ from k₀ out k = (k ≤ length from) × (out ≡ laid out₀ from k) × (length out ≡ length out₀) × (length out₀ ≡ length from)
+Inv-loop out₀ bits k₀ out k = (k ≤ length bits) × (out ≡ laid out₀ bits k) × (length out ≡ length out₀) × (length out₀ ≡ length bits)
 
 abbrev μ-loop : tie.MeasureT-loop
-μ-loop out₀ from k₀ out k = length from - k
+μ-loop out₀ bits k₀ out k = length bits - k
 
 returns : tie.Need-returns Inv-loop μ-loop
-returns c = rw (ne-eqb (length (c .before .args .out .now)) (length (c .before .args .from .now)) (c .if1 .taken))
+returns c = rw (ne-eqb (length (c .before .args .out .now)) (length (c .before .args .bits .now)) (c .if1 .taken))
 
 loop-holds : tie.Need-loop-holds Inv-loop μ-loop
 loop-holds c =
-    let same : length (c .before .args .out .now) ≡ length (c .before .args .from .now) = search needs in
+    let same : length (c .before .args .out .now) ≡ length (c .before .args .bits .now) = search needs in
     (omega arith, refl, refl, same)
 
 mul-out : tie.Need-mul-out Inv-loop μ-loop
@@ -48,9 +48,9 @@ loop-again c =
     let a = l .before .before .args in
     let k = l .loop .k in
     let inside : k < length (a .out .now) = omega arith in
-    let more : k < length (a .from .now) = omega arith in (
+    let more : k < length (a .bits .now) = omega arith in (
       omega arith,
-      rw (l .loop .inv .1, add-one) (laid-more (a .out .now) (a .from .now) k 0 inside more),
+      rw (l .loop .inv .1, add-one) (laid-more (a .out .now) (a .bits .now) k 0 inside more),
       simp length-set (l .loop .inv .2),
       l .loop .inv .3,
     )
@@ -62,8 +62,8 @@ returns-2 : tie.Need-returns-2 Inv-loop μ-loop
 returns-2 c =
     let a = c .before .before .before .args in
     let same = c .before .loop .inv .3 in
-    let e : c .before .loop .k ≡ length (a .from .now) = omega arith in
-    rw (c .before .loop .inv .1, e, laid-whole (a .out .now) (a .from .now) same, eq-eqb (length (a .out .now)) (length (a .from .now)) same)
+    let e : c .before .loop .k ≡ length (a .bits .now) = omega arith in
+    rw (c .before .loop .inv .1, e, laid-whole (a .out .now) (a .bits .now) same, eq-eqb (length (a .out .now)) (length (a .bits .now)) same)
 
 pub fill-patterns-spec : {M : Type 1} → statement M
 fill-patterns-spec =
