@@ -25,23 +25,56 @@ fn loss(p: u8, eps: u64, size: u64) -> u64 {
     }
 }
 
+/// The least |e| among the lines of a vector.
+#[inline(always)]
+fn nearest(record: &[u8], d: usize, power: i64, v: &[i16]) -> u64 {
+    let y = field(record, 4) * power;
+    let mut least = u64::MAX;
+    for line in v.chunks_exact(d) {
+        let mut e = y;
+        for (k, w) in line.iter().enumerate() {
+            e -= i64::from(*w) * field(record, k);
+        }
+        least = least.min(e.unsigned_abs());
+    }
+    least
+}
+
+/// The same with the least |e| of each line over a box.
+#[inline(always)]
+fn nearest_over(record: &[u8], d: usize, power: i64, low: &[i16], high: &[i16]) -> u64 {
+    let y = field(record, 4) * power;
+    let mut least = u64::MAX;
+    for (lows, highs) in low.chunks_exact(d).zip(high.chunks_exact(d)) {
+        let mut emin = y;
+        let mut emax = y;
+        for (k, (l, h)) in lows.iter().zip(highs).enumerate() {
+            let x = field(record, k);
+            let a = i64::from(*l) * x;
+            let b = i64::from(*h) * x;
+            emin -= a.max(b);
+            emax -= a.min(b);
+        }
+        let size = if emin > 0 {
+            emin as u64
+        } else if emax < 0 {
+            emax.unsigned_abs()
+        } else {
+            0
+        };
+        least = least.min(size);
+    }
+    least
+}
+
 /// The cost of a vector.
 #[inline(never)]
 pub fn cost(store: &[u8], m: Model, v: &[i16; 8]) -> u64 {
+    let v = &v[..m.n * m.d];
     let power = 1i64 << m.scale;
-    let eps = u64::from(m.eps);
     let mut sum = 0;
     for record in store.chunks_exact(12) {
-        let y = field(record, 4) * power;
-        let mut least = u64::MAX;
-        for line in v[..m.n * m.d].chunks_exact(m.d) {
-            let mut e = y;
-            for (k, w) in line.iter().enumerate() {
-                e -= i64::from(*w) * field(record, k);
-            }
-            least = least.min(e.unsigned_abs());
-        }
-        sum += loss(m.p, eps, least);
+        sum += loss(m.p, u64::from(m.eps), nearest(record, m.d, power, v));
     }
     sum
 }
@@ -49,36 +82,49 @@ pub fn cost(store: &[u8], m: Model, v: &[i16; 8]) -> u64 {
 /// The bound of a box.
 #[inline(never)]
 pub fn bound(store: &[u8], m: Model, low: &[i16; 8], high: &[i16; 8]) -> u64 {
+    let (low, high) = (&low[..m.n * m.d], &high[..m.n * m.d]);
     let power = 1i64 << m.scale;
-    let eps = u64::from(m.eps);
-    let used = m.n * m.d;
     let mut sum = 0;
     for record in store.chunks_exact(12) {
-        let y = field(record, 4) * power;
-        let mut least = u64::MAX;
-        for (lows, highs) in low[..used]
-            .chunks_exact(m.d)
-            .zip(high[..used].chunks_exact(m.d))
-        {
-            let mut emin = y;
-            let mut emax = y;
-            for (k, (l, h)) in lows.iter().zip(highs).enumerate() {
-                let x = field(record, k);
-                let a = i64::from(*l) * x;
-                let b = i64::from(*h) * x;
-                emin -= a.max(b);
-                emax -= a.min(b);
-            }
-            let size = if emin > 0 {
-                emin as u64
-            } else if emax < 0 {
-                emax.unsigned_abs()
-            } else {
-                0
-            };
-            least = least.min(size);
-        }
-        sum += loss(m.p, eps, least);
+        sum += loss(
+            m.p,
+            u64::from(m.eps),
+            nearest_over(record, m.d, power, low, high),
+        );
     }
     sum
+}
+
+/// The cost of a vector, or `cap` if that is less: the rest of the store is not read then.
+#[inline(never)]
+pub fn cost_up_to(store: &[u8], m: Model, v: &[i16; 8], cap: u64) -> u64 {
+    let v = &v[..m.n * m.d];
+    let power = 1i64 << m.scale;
+    let mut sum = 0;
+    for record in store.chunks_exact(12) {
+        if sum >= cap {
+            return cap;
+        }
+        sum += loss(m.p, u64::from(m.eps), nearest(record, m.d, power, v));
+    }
+    sum.min(cap)
+}
+
+/// The bound of a box, or `cap` if that is less.
+#[inline(never)]
+pub fn bound_up_to(store: &[u8], m: Model, low: &[i16; 8], high: &[i16; 8], cap: u64) -> u64 {
+    let (low, high) = (&low[..m.n * m.d], &high[..m.n * m.d]);
+    let power = 1i64 << m.scale;
+    let mut sum = 0;
+    for record in store.chunks_exact(12) {
+        if sum >= cap {
+            return cap;
+        }
+        sum += loss(
+            m.p,
+            u64::from(m.eps),
+            nearest_over(record, m.d, power, low, high),
+        );
+    }
+    sum.min(cap)
 }

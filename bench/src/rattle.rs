@@ -1,6 +1,7 @@
 //! The proved code behind safe functions. Nothing checks these declarations against the source: they follow
 //! crates/bench_kernels/src/lib.rt and include/vengutari.h.
 use crate::plain::Model;
+use crate::search::{Answer, Job, Kind};
 
 extern "C" {
     fn bench_cost_up_to(
@@ -49,6 +50,28 @@ extern "C" {
         eps: u32,
         corners: *const i16,
         corners_len: usize,
+        value: *mut u64,
+    ) -> u32;
+    fn vengutari_search(
+        store: *const u8,
+        store_len: usize,
+        n: u8,
+        d: u8,
+        scale: u8,
+        p: u8,
+        eps: u32,
+        t: u64,
+        budget: u32,
+        corners: *const i16,
+        corners_len: usize,
+        start: *const i16,
+        start_len: usize,
+        table: *mut i16,
+        table_len: usize,
+        vector: *mut i16,
+        vector_len: usize,
+        numbers: *mut u64,
+        numbers_len: usize,
         value: *mut u64,
     ) -> u32;
 }
@@ -131,4 +154,51 @@ pub fn bound_call(store: &[u8], m: Model, corners: &[i16; 16]) -> (u32, u64) {
         )
     };
     (code, value)
+}
+
+/// A whole search.
+pub fn search(job: &Job, table: &mut [i16]) -> Answer {
+    let m = job.model;
+    let mut corners = [0; 16];
+    corners[..8].copy_from_slice(&job.domain.low);
+    corners[8..].copy_from_slice(&job.domain.high);
+    let mut vector = [0; 8];
+    let mut numbers = [0; 5];
+    let mut kind = 0;
+    // As above; what is lent to be written is lent for the call alone and does not overlap.
+    let code = unsafe {
+        vengutari_search(
+            job.store.as_ptr(),
+            job.store.len(),
+            m.n as u8,
+            m.d as u8,
+            m.scale as u8,
+            m.p,
+            m.eps,
+            job.t,
+            job.budget,
+            corners.as_ptr(),
+            corners.len(),
+            job.start.as_ptr(),
+            job.start.len(),
+            table.as_mut_ptr(),
+            table.len(),
+            vector.as_mut_ptr(),
+            vector.len(),
+            numbers.as_mut_ptr(),
+            numbers.len(),
+            &mut kind,
+        )
+    };
+    assert_eq!(code, 0);
+    let [cost, bound, count, open, peak] = numbers;
+    Answer {
+        kind: [Kind::Solved, Kind::Spent, Kind::Full][kind as usize - 1],
+        vector,
+        cost,
+        bound,
+        count: count as u32,
+        open: open as usize,
+        peak: peak as usize,
+    }
 }

@@ -1,0 +1,131 @@
+//! One evaluation of a cost and of a bound on 4,096 points, proved code against the same loops in plain Rust.
+use crate::plain::{self, Model};
+use crate::random::Random;
+use crate::rattle;
+use std::hint::black_box;
+use std::time::Instant;
+
+const POINTS: usize = 4096;
+const SHAPES: [(usize, usize); 9] = [
+    (1, 1),
+    (1, 2),
+    (1, 3),
+    (1, 4),
+    (2, 1),
+    (2, 2),
+    (2, 4),
+    (4, 1),
+    (4, 2),
+];
+const SCALE: u32 = 7;
+const EPS: u32 = 40_000;
+
+/// What an evaluation is handed.
+struct Case {
+    model: Model,
+    store: Vec<u8>,
+    low: [i16; 8],
+    high: [i16; 8],
+    corners: [i16; 16],
+}
+
+fn case(n: usize, d: usize, p: u8) -> Case {
+    let mut random = Random::new(12345);
+    let mut store = Vec::with_capacity(12 * POINTS);
+    for frame in 0..POINTS {
+        for k in 0..4 {
+            let x = if k < d {
+                random.between(-1000, 1000)
+            } else {
+                0
+            };
+            store.extend_from_slice(&x.to_be_bytes());
+        }
+        let y = random.between(-1000, 1000);
+        store.extend_from_slice(&y.to_be_bytes());
+        store.extend_from_slice(&(frame as u16).to_be_bytes());
+    }
+    let mut low = [0; 8];
+    let mut high = [0; 8];
+    for k in 0..n * d {
+        low[k] = random.between(-200, 199);
+        high[k] = low[k] + random.between(0, 99);
+    }
+    let mut corners = [0; 16];
+    corners[..8].copy_from_slice(&low);
+    corners[8..].copy_from_slice(&high);
+    let model = Model {
+        n,
+        d,
+        scale: SCALE,
+        p,
+        eps: EPS,
+    };
+    Case {
+        model,
+        store,
+        low,
+        high,
+        corners,
+    }
+}
+
+/// Both sides and the whole calls agree before anything is timed.
+fn compare(c: &Case) {
+    let cost = plain::cost(&c.store, c.model, &c.low);
+    let bound = plain::bound(&c.store, c.model, &c.low, &c.high);
+    assert_eq!(rattle::cost(&c.store, c.model, &c.corners), cost);
+    assert_eq!(rattle::bound(&c.store, c.model, &c.corners), bound);
+    assert_eq!(rattle::cost_call(&c.store, c.model, &c.low), (0, cost));
+    assert_eq!(
+        rattle::bound_call(&c.store, c.model, &c.corners),
+        (0, bound)
+    );
+}
+
+/// The smaller of `least` and the time that `f` takes, in nanoseconds.
+fn timed(least: f64, f: impl FnOnce() -> u64) -> f64 {
+    let start = Instant::now();
+    black_box(f());
+    least.min(start.elapsed().as_nanos() as f64)
+}
+
+/// Prints times and ratios, the least of so many interleaved rounds.
+pub fn table(rounds: usize) {
+    println!("{POINTS} points, least of {rounds} rounds, microseconds for one evaluation");
+    println!("                     cost                          bound");
+    println!("n d p      Rust    Rattle   ratio        Rust    Rattle   ratio");
+    let mut worst = [0f64; 2];
+    for (n, d) in SHAPES {
+        for p in 0..3 {
+            let c = case(n, d, p);
+            compare(&c);
+            let mut least = [f64::INFINITY; 4];
+            for _ in 0..rounds {
+                let m = black_box(c.model);
+                least[0] = timed(least[0], || plain::cost(&c.store, m, &c.low));
+                least[1] = timed(least[1], || rattle::cost(&c.store, m, &c.corners));
+                least[2] = timed(least[2], || plain::bound(&c.store, m, &c.low, &c.high));
+                least[3] = timed(least[3], || rattle::bound(&c.store, m, &c.corners));
+            }
+            let [a, b, e, f] = least.map(|t| t / 1000.0);
+            println!(
+                "{n} {d} {p}  {a:8.1}  {b:8.1}  {:6.2}    {e:8.1}  {f:8.1}  {:6.2}",
+                b / a,
+                f / e
+            );
+            worst = [worst[0].max(b / a), worst[1].max(f / e)];
+        }
+    }
+    println!("largest ratio: cost {:.2}, bound {:.2}", worst[0], worst[1]);
+}
+
+/// One evaluation of each, for counting instructions.
+pub fn once(n: usize, d: usize, p: u8) {
+    let c = case(n, d, p);
+    let m = black_box(c.model);
+    black_box(plain::cost(&c.store, m, &c.low));
+    black_box(rattle::cost(&c.store, m, &c.corners));
+    black_box(plain::bound(&c.store, m, &c.low, &c.high));
+    black_box(rattle::bound(&c.store, m, &c.corners));
+}

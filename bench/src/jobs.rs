@@ -1,0 +1,139 @@
+//! The jobs that the searches are timed on: points of hidden lines with noise and outliers, the same in each run.
+use crate::plain::Model;
+use crate::random::Random;
+use crate::search::{Domain, Job};
+
+/// What a job is made from. Each side of its box goes from -side to side; noise and ε are in units of y, outliers in percent.
+pub struct Shape {
+    pub n: usize,
+    pub d: usize,
+    pub p: u8,
+    pub points: usize,
+    pub side: i16,
+    pub noise: i16,
+    pub eps: u32,
+    pub outliers: i16,
+    pub budget: u32,
+    pub rows: usize,
+}
+
+const fn lines(n: usize, d: usize, p: u8, points: usize) -> Shape {
+    Shape {
+        n,
+        d,
+        p,
+        points,
+        side: 1000,
+        noise: 10,
+        eps: 10,
+        outliers: 20,
+        budget: 400,
+        rows: 2048,
+    }
+}
+
+/// The same in a longer box, with more noise and more outliers.
+const fn rough(shape: Shape) -> Shape {
+    Shape {
+        side: 32_000,
+        noise: 400,
+        eps: 300,
+        outliers: 70,
+        ..shape
+    }
+}
+
+/// The same with more noise.
+const fn noisy(shape: Shape) -> Shape {
+    Shape {
+        noise: 100,
+        eps: 60,
+        ..shape
+    }
+}
+
+const fn budget(budget: u32, shape: Shape) -> Shape {
+    Shape { budget, ..shape }
+}
+
+const fn rows(rows: usize, shape: Shape) -> Shape {
+    Shape { rows, ..shape }
+}
+
+pub static SHAPES: [Shape; 12] = [
+    rough(lines(1, 1, 1, 1024)),
+    rough(lines(1, 1, 2, 512)),
+    noisy(lines(1, 2, 0, 256)),
+    budget(300, noisy(lines(1, 2, 1, 512))),
+    budget(150, noisy(lines(1, 2, 2, 1024))),
+    noisy(lines(2, 1, 0, 256)),
+    budget(300, noisy(lines(2, 1, 1, 512))),
+    rows(200, noisy(lines(2, 1, 2, 256))),
+    lines(2, 2, 0, 64),
+    budget(300, lines(2, 2, 2, 128)),
+    lines(1, 4, 1, 128),
+    budget(200, lines(4, 2, 1, 128)),
+];
+
+const SCALE: u32 = 7;
+/// The last x where there are several, so that a line has an offset.
+const OFFSET: i16 = 100;
+
+impl Shape {
+    fn store(&self) -> Vec<u8> {
+        let mut random = Random::new(4711);
+        let hidden: Vec<i64> = (0..self.n * self.d)
+            .map(|_| i64::from(random.between(-self.side, self.side)))
+            .collect();
+        let lines: Vec<&[i64]> = hidden.chunks_exact(self.d).collect();
+        let mut store = Vec::with_capacity(12 * self.points);
+        for frame in 0..self.points {
+            let line = lines[frame % self.n];
+            let mut x = [0; 4];
+            for value in &mut x[..self.d] {
+                *value = random.between(-100, 100);
+            }
+            if self.d > 1 {
+                x[self.d - 1] = OFFSET;
+            }
+            let dot: i64 = line.iter().zip(x).map(|(w, x)| w * i64::from(x)).sum();
+            let noise = random.between(-self.noise, self.noise);
+            let far = random.between(-5000, 5000);
+            let y = if random.between(0, 99) < self.outliers {
+                far
+            } else {
+                (dot >> SCALE) as i16 + noise
+            };
+            for field in x {
+                store.extend_from_slice(&field.to_be_bytes());
+            }
+            store.extend_from_slice(&y.to_be_bytes());
+            store.extend_from_slice(&(frame as u16).to_be_bytes());
+        }
+        store
+    }
+
+    pub fn job(&self) -> Job {
+        let mut domain = Domain {
+            low: [0; 8],
+            high: [0; 8],
+        };
+        domain.low[..self.n * self.d].fill(-self.side);
+        domain.high[..self.n * self.d].fill(self.side);
+        Job {
+            model: Model {
+                n: self.n,
+                d: self.d,
+                scale: SCALE,
+                p: self.p,
+                eps: self.eps << SCALE,
+            },
+            t: 0,
+            budget: self.budget,
+            rows: self.rows,
+            domain,
+            start: [0; 8],
+            store: self.store(),
+        }
+    }
+}

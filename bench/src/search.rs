@@ -1,0 +1,87 @@
+//! What both plain searches share: a job, an answer, the best vector and the cut of a box.
+use crate::plain::{bound_up_to, cost_up_to, Model};
+
+/// A box.
+#[derive(Clone, Copy, Debug, PartialEq, Eq)]
+pub struct Domain {
+    pub low: [i16; 8],
+    pub high: [i16; 8],
+}
+
+pub struct Job {
+    pub model: Model,
+    pub t: u64,
+    pub budget: u32,
+    pub rows: usize,
+    pub domain: Domain,
+    pub start: [i16; 8],
+    pub store: Vec<u8>,
+}
+
+#[derive(Clone, Copy, Debug, PartialEq, Eq)]
+pub enum Kind {
+    Solved,
+    Spent,
+    Full,
+}
+
+#[derive(Clone, Copy, Debug, PartialEq, Eq)]
+pub struct Answer {
+    pub kind: Kind,
+    pub vector: [i16; 8],
+    pub cost: u64,
+    pub bound: u64,
+    pub count: u32,
+    pub open: usize,
+    pub peak: usize,
+}
+
+/// The best vector and C.
+#[derive(Clone, Copy)]
+pub struct Best {
+    pub vector: [i16; 8],
+    pub cost: u64,
+}
+
+impl Job {
+    /// The start vector is the first best one.
+    pub fn start(&self) -> Best {
+        Best {
+            vector: self.start,
+            cost: cost_up_to(&self.store, self.model, &self.start, u64::MAX),
+        }
+    }
+
+    /// A vector becomes best only if it is cheaper.
+    pub fn tried(&self, best: Best, vector: [i16; 8]) -> Best {
+        let cost = cost_up_to(&self.store, self.model, &vector, best.cost);
+        if cost < best.cost {
+            Best { vector, cost }
+        } else {
+            best
+        }
+    }
+
+    pub fn bound_up_to(&self, domain: &Domain, cap: u64) -> u64 {
+        bound_up_to(&self.store, self.model, &domain.low, &domain.high, cap)
+    }
+}
+
+impl Domain {
+    /// Cuts the longest side, the lowest coordinate among equals, at its middle rounded down.
+    pub fn cut(&self) -> (Domain, Domain) {
+        let side = |k: usize| i32::from(self.high[k]) - i32::from(self.low[k]);
+        let mut longest = 0;
+        for k in 1..8 {
+            if side(k) > side(longest) {
+                longest = k;
+            }
+        }
+        let ends = i32::from(self.low[longest]) + i32::from(self.high[longest]);
+        let middle = (ends >> 1) as i16;
+        let (mut left, mut right) = (*self, *self);
+        left.high[longest] = middle;
+        right.low[longest] = middle + 1;
+        (left, right)
+    }
+}
