@@ -2,14 +2,16 @@
 use mathlib.Core.Path.{_≡_, refl, ap, _∙_}
 use mathlib.Core.Bool.{cond}
 use Prim.Native.Nat.{ℕ, zero, suc, _+_, _*_, _≤_, _<_, min}
-use native.Mathlib.Nat.{mul-le-mul-right, add-mul, min-eq-left, min-eq-right}
+use native.Mathlib.Nat.{mul-le-mul, mul-le-mul-right, add-mul, min-eq-left, min-eq-right}
 use native.Mathlib.Numerals.{add-one}
 use native.Mathlib.Omega.{arith, min-cases}
+use borrow.Author.Tests.{lt-ltb}
 use lib.Dec.{ltb}
 use Rattle.integers.proofs.Tests.{by-cond}
 use Rattle.loss.specs.Loss.{lossOf}
 use Rattle.loss.proofs.Laws.{loss-mono}
 use Rattle.model.specs.Cost.{least, firstLeast}
+use Rattle.model.specs.Ready.{leastFrom}
 
 -- one line more
 pub least-more : (f : ℕ → ℕ) (j : ℕ) → 1 ≤ j → least f (j + 1) ≡ min (least f j) (f j)
@@ -50,6 +52,46 @@ loss-of-least p ε f (suc (suc n)) h =
     ∙ min-cases (least f (suc n)) (f (suc n)) (min (lossOf p ε (least f (suc n))) (lossOf p ε (f (suc n))) ≡ lossOf p ε (min (least f (suc n)) (f (suc n))))
     (λ k e. rw e (min-eq-left (loss-mono p ε k)))
     (λ k e. rw e (min-eq-right (loss-mono p ε k)))
+
+-- the least with a first value to start from
+pub from-more : (most : ℕ) (f : ℕ → ℕ) (j : ℕ) → leastFrom most f (j + 1) ≡ min (leastFrom most f j) (f j)
+unfolding leastFrom
+from-more most f j = rw add-one
+
+pub from-le : (most : ℕ) (f : ℕ → ℕ) (n : ℕ) → leastFrom most f n ≤ most
+unfolding leastFrom
+from-le most f zero = omega arith
+from-le most f (suc n) = omega (arith, from-le most f n)
+
+from-least : (most : ℕ) (f : ℕ → ℕ) (n : ℕ) → 1 ≤ n → leastFrom most f n ≡ min most (least f n)
+unfolding leastFrom least
+from-least most f zero h = absurd (omega arith)
+from-least most f (suc zero) h = refl
+from-least most f (suc (suc n)) h = omega (arith, from-least most f (suc n) (omega arith))
+
+-- past ε the loss stays
+loss-past : (p ε a : ℕ) → ε + 1 ≤ a → lossOf p ε (ε + 1) ≡ lossOf p ε a
+unfolding lossOf
+loss-past zero ε a h =
+    let here : ε < ε + 1 = omega arith in
+    let there : ε < a = omega arith in
+    rw (lt-ltb _ _ here, lt-ltb _ _ there)
+loss-past (suc zero) ε a h = omega arith
+loss-past (suc (suc zero)) ε a h =
+    let here : ε ≤ ε + 1 = omega arith in
+    let there : ε ≤ a = omega arith in
+    omega (arith, mul-le-mul here here, mul-le-mul there there)
+loss-past (suc (suc (suc p))) ε a h = refl
+
+loss-cut : (p ε a : ℕ) → lossOf p ε (min (ε + 1) a) ≡ lossOf p ε a
+loss-cut p ε a =
+    min-cases (ε + 1) a (lossOf p ε (min (ε + 1) a) ≡ lossOf p ε a)
+    (λ k e. rw e (loss-past p ε a k))
+    (λ k e. rw e)
+
+-- so sizes past ε + 1 need not be told apart
+pub loss-from : (p ε : ℕ) (f : ℕ → ℕ) (n : ℕ) → 1 ≤ n → lossOf p ε (leastFrom (ε + 1) f n) ≡ lossOf p ε (least f n)
+loss-from p ε f n h = ap (lossOf p ε) (from-least (ε + 1) f n h) ∙ loss-cut p ε (least f n)
 
 -- a line's coordinates end within the vector
 pub line-room : (j n d room : ℕ) → j < n → n * d ≤ room → j * d + d ≤ room

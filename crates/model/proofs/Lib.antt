@@ -1,5 +1,8 @@
 pub mod Least
+pub mod Dots
+pub mod Spans
 pub mod Sums
+pub mod Losses
 pub mod Sizes
 pub mod Filling
 pub mod Passed

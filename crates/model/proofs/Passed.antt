@@ -34,13 +34,14 @@ module _ (bytes : ℕ) (m : Model) where
   unfolding checkStore
   store-few e = within-parts 1 bytes 49152 (and-parts (within 1 bytes 49152) (eqb (bytes % 12) 0) (passed (within 1 bytes 49152 && eqb (bytes % 12) 0) Length e) .0) .1
 
-  shape-within : checkShape (m .n) (m .d) ≡ Pass → (1 ≤ m .n) × (m .n ≤ 4) × (m .d ≤ 4) × (m .n * m .d ≤ 8)
+  shape-within : checkShape (m .n) (m .d) ≡ Pass → (1 ≤ m .n) × (m .n ≤ 4) × (1 ≤ m .d) × (m .d ≤ 4) × (m .n * m .d ≤ 8)
   unfolding checkShape
   shape-within e =
       let p = and-parts (within 1 (m .n) 4 && within 1 (m .d) 4) (leb (m .n * m .d) 8) (passed (within 1 (m .n) 4 && within 1 (m .d) 4 && leb (m .n * m .d) 8) Shape e) in
       let q = and-parts (within 1 (m .n) 4) (within 1 (m .d) 4) (p .0) in
       let n = within-parts 1 (m .n) 4 (q .0) in
-      (n .0, n .1, within-parts 1 (m .d) 4 (q .1) .1, leb→le (m .n * m .d) 8 (p .1))
+      let d = within-parts 1 (m .d) 4 (q .1) in
+      (n .0, n .1, d .0, d .1, leb→le (m .n * m .d) 8 (p .1))
 
   scale-below : checkScale (m .scale) ≡ Pass → m .scale < 16
   unfolding checkScale
@@ -65,8 +66,9 @@ ready store m e =
       few = store-few (length store) m (first-passed (checkStore (length store)) (checkShape (m .n) (m .d) ∷ scale-loss) e);
       lines = shape .0;
       most = shape .1;
-      used = shape .2;
-      room = shape .3;
+      some = shape .2;
+      used = shape .3;
+      room = shape .4;
       scaled = scale-below (length store) m (first-passed (checkScale (m .scale)) (checkLoss (m .p) (m .eps) ∷ []) e₃);
       cut = threshold-cut (length store) m (first-passed (checkLoss (m .p) (m .eps)) [] e₄);
     }

@@ -1,5 +1,5 @@
 -- Sums of losses over the first points of a store: one point more, their size, and where a cap is reached. Assumes nothing.
-use mathlib.Core.Path.{_≡_, refl, sym, ap, _∙_}
+use mathlib.Core.Path.{_≡_, refl, sym, ap, _∙_, subst₂}
 use mathlib.Core.List.{List, [], _∷_, _++_}
 use Prim.Native.Nat.{ℕ, zero, suc, _+_, _*_, _-_, _/_, _≤_, _<_, min}
 use native.Mathlib.Nat.{add-zero, add-suc, min-eq-left, min-eq-right}
@@ -12,6 +12,7 @@ use Rattle.points.specs.declared.Point.{Point}
 use Rattle.points.specs.Points.{pointAt, firstPoints, pointsOf}
 use Rattle.points.proofs.Laws.{points-more, points-length}
 use Rattle.model.specs.Cost.{least, totalLoss}
+use Rattle.model.specs.Ready.{sumOf, lossesFrom}
 use Rattle.model.proofs.Least.{loss-of-least}
 
 module _ (m : Model) (size : Point → ℕ → ℕ) where
@@ -59,7 +60,7 @@ module _ (m : Model) (size : Point → ℕ → ℕ) where
     none-summed = record { few = omega arith; total = refl; small = omega arith }
 
     -- one record more: the loss of its least size
-    pub one-summed : {i sum : ℕ} (loss : ℕ) → 1 ≤ m .n → m .eps ≤ 16777215 → i < length s / 12 → loss ≡ lossOf (m .p) (m .eps) (least (size (pointAt s i)) (m .n)) → Summed i sum → Summed (i + 1) (sum + loss)
+    one-summed : {i sum : ℕ} (loss : ℕ) → 1 ≤ m .n → m .eps ≤ 16777215 → i < length s / 12 → loss ≡ lossOf (m .p) (m .eps) (least (size (pointAt s i)) (m .n)) → Summed i sum → Summed (i + 1) (sum + loss)
     one-summed {i} {sum} loss lines cut h e g =
         let a = least (size (pointAt s i)) (m .n) in
         record {
@@ -67,6 +68,16 @@ module _ (m : Model) (size : Point → ℕ → ℕ) where
           total = omega (arith, g .total, e, total-more i, loss-of-least (m .p) (m .eps) (size (pointAt s i)) (m .n) lines);
           small = omega (arith, g .small, e, loss-le (m .p) (m .eps) a cut);
         }
+
+    -- a block of records more
+    pub block-summed : {i sum : ℕ} (n : ℕ) → 1 ≤ m .n → m .eps ≤ 16777215 → i + n ≤ length s / 12 → Summed i sum → Summed (i + n) (sum + lossesFrom m size s i n)
+    unfolding sumOf
+    block-summed {i} {sum} zero lines cut h g = rw (add-zero, add-zero) g
+    block-summed {i} {sum} (suc n) lines cut h g =
+        let loss = lossOf (m .p) (m .eps) (least (size (pointAt s (i + n))) (m .n)) in
+        let e : i + n + 1 ≡ i + suc n = omega arith in
+        let f : sum + lossesFrom m size s i n + loss ≡ sum + (lossesFrom m size s i n + loss) = omega arith in
+        subst₂ Summed e f (one-summed loss lines cut (omega arith) refl (block-summed n lines cut (omega arith) g))
 
     module _ {i sum : ℕ} (g : Summed i sum) (cap : ℕ) where
       -- where the cap is reached the rest of the store does not matter

@@ -1,17 +1,24 @@
--- What the loops behind the calls are handed and say: a model that was checked, and sizes in terms of the store's bytes.
-use Prim.Native.Nat.{ℕ, _*_, _≤_, _<_}
+-- What the loops behind the calls are handed and say: a model that was checked, sizes of a point, and blocks of points.
+use mathlib.Core.Bool.{cond}
 use mathlib.Core.List.{List}
+use mathlib.Core.Path.{_≡_}
+use Prim.Native.Nat.{ℕ, zero, suc, _+_, _*_, _≤_, _<_, min}
 use lib.IntN.{ℤ, pos, natAbs, _-ℤ_, _*ℤ_}
+use lib.ListN.{getD}
+use lib.Signed.{ltZ}
 use Rattle.boxes.specs.declared.Box.{Box}
 use Rattle.jobs.specs.declared.Model.{Model}
-use Rattle.points.specs.Points.{pointAt, xs}
-use Rattle.model.specs.Cost.{dot, dotMax, dotMin, nearestTo0}
+use Rattle.loss.specs.Loss.{lossOf}
+use Rattle.points.specs.declared.Point.{Point}
+use Rattle.points.specs.Points.{unsignedAt, signedAt, pointAt, xs}
+use Rattle.model.specs.Cost.{dot, dotMax, dotMin, nearestTo0, least}
 
 -- checks 1 to 4 passed, as far as the loops need it
 pub record Ready (bytes : ℕ) (m : Model) : Type 0 where
   pub few : bytes ≤ 49152
   pub lines : 1 ≤ m .n
   pub most : m .n ≤ 4
+  pub some : 1 ≤ m .d
   pub used : m .d ≤ 4
   pub room : m .n * m .d ≤ 8
   pub scaled : m .scale < 16
@@ -20,10 +27,43 @@ pub record Ready (bytes : ℕ) (m : Model) : Type 0 where
 abbrev pub boxOf : List ℤ → List ℤ → Box
 boxOf low high = record { low = low; high = high }
 
--- |e| of record i and the line at place b, and its least size over a box
-abbrev pub sizeOf : List ℕ → ℕ → List ℤ → ℕ → ℕ → ℕ → ℕ
-sizeOf s i v b d power = natAbs (pointAt s i .y *ℤ pos power -ℤ dot v b (xs (pointAt s i)) d)
+-- the point whose record begins at byte o
+abbrev pub recordAt : List ℕ → ℕ → Point
+recordAt s o =
+    record {
+      x1 = signedAt s o;
+      x2 = signedAt s (o + 2);
+      x3 = signedAt s (o + 4);
+      x4 = signedAt s (o + 6);
+      y = signedAt s (o + 8);
+      frame = unsignedAt s (o + 10);
+    }
 
-abbrev pub nearOf : List ℕ → ℕ → Box → ℕ → ℕ → ℕ → ℕ
-nearOf s i B b d power =
-    nearestTo0 (pointAt s i .y *ℤ pos power -ℤ dotMax B b (xs (pointAt s i)) d) (pointAt s i .y *ℤ pos power -ℤ dotMin B b (xs (pointAt s i)) d)
+-- |e| of a point and the line at place b, and its least size over a box
+abbrev pub sizeOf : Point → List ℤ → ℕ → ℕ → ℕ → ℕ
+sizeOf q v b d power = natAbs (q .y *ℤ pos power -ℤ dot v b (xs q) d)
+
+abbrev pub nearOf : Point → Box → ℕ → ℕ → ℕ → ℕ
+nearOf q B b d power = nearestTo0 (q .y *ℤ pos power -ℤ dotMax B b (xs q) d) (q .y *ℤ pos power -ℤ dotMin B b (xs q) d)
+
+-- a number, or 0 if it is below 0
+unfoldable pub positive : ℤ → ℕ
+positive z = cond (ltZ z (pos 0)) 0 (natAbs z)
+
+-- the least of `most` and f 0, …, f (n − 1)
+unfoldable pub leastFrom : ℕ → (ℕ → ℕ) → ℕ → ℕ
+leastFrom most f zero = most
+leastFrom most f (suc n) = min (leastFrom most f n) (f n)
+
+-- f 0 + … + f (n − 1)
+unfoldable pub sumOf : (ℕ → ℕ) → ℕ → ℕ
+sumOf f zero = 0
+sumOf f (suc n) = sumOf f n + f n
+
+-- the list begins with f 0, …, f (n − 1)
+abbrev pub Begins : List ℕ → (ℕ → ℕ) → ℕ → Type 0
+Begins zs f n = (k : ℕ) → k < n → getD zs k 0 ≡ f k
+
+-- the losses of n points from record i on, each of its least size
+abbrev pub lossesFrom : Model → (Point → ℕ → ℕ) → List ℕ → ℕ → ℕ → ℕ
+lossesFrom m size s i n = sumOf (λ k. lossOf (m .p) (m .eps) (least (size (pointAt s (i + k))) (m .n))) n

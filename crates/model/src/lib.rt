@@ -1,5 +1,7 @@
 // The cost of a vector, the bound of a box and the labels of the points, over a store of point records.
+mod blocks;
 mod range;
+mod record;
 mod residual;
 
 use boxes::Box;

@@ -1,21 +1,17 @@
-// The hot loops of cost and labels: sizes of residuals, read straight from the store's bytes.
+// The hot loops of cost and labels: sizes of residuals.
+use crate::blocks::block_of;
+use crate::blocks::loss_sum;
+use crate::record::read_record;
 use jobs::Model;
+use points::Point;
 ghost use mathlib.Core.Path.{_≡_};
 ghost use mathlib.Core.List.{_++_, map};
 ghost use Prim.Native.Nat.{_+_, _*_, _^_, _≤_, _<_, min};
-ghost use lib.IntN.{pos, natAbs, _-ℤ_, _*ℤ_};
+ghost use lib.IntN.{pos, natAbs, _*ℤ_};
 ghost use lib.ListN.{length, drop};
-ghost use Rattle.points.specs.Points.{signedAt, pointAt, pointsOf, xs};
+ghost use Rattle.points.specs.Points.{pointAt, pointsOf, xs};
 ghost use Rattle.model.specs.Cost.{dot, sizeAt, least, firstLeast, cost, label};
-ghost use Rattle.model.specs.Ready.{Ready, sizeOf};
-
-// The signed 16-bit number at byte o.
-pub fn field(s: &[u8], o: usize) -> i16
-    requires { ⌜ o + 1 < length (now s) ⌝ }
-    ensures { λ r. ⌜ r ≡ signedAt (now (s .entry)) o ⌝ }
-{
-    points::signed16(s[o], s[o + 1])
-}
+ghost use Rattle.model.specs.Ready.{Ready, sizeOf, leastFrom, Begins, lossesFrom};
 
 pub fn times(a: i16, b: i16) -> i64
     ensures product { λ r. ⌜ r ≡ a *ℤ b ⌝ }
@@ -24,36 +20,141 @@ pub fn times(a: i16, b: i16) -> i64
     (a as i64) * (b as i64)
 }
 
-// y of record i, times 2^S.
-pub fn scaled(s: &[u8], i: usize, power: u16) -> i64
-    requires { ⌜ i * 12 + 12 ≤ length (now s) ⌝ }
-    ensures product { λ r. ⌜ r ≡ pointAt (now (s .entry)) i .y *ℤ pos power ⌝ }
+// y times 2^S.
+pub fn scaled(y: i16, power: u16) -> i64
+    ensures product { λ r. ⌜ r ≡ y *ℤ pos power ⌝ }
     ensures small { λ r. ⌜ natAbs r ≤ 2147483648 ⌝ }
 {
-    (field(s, i * 12 + 8) as i64) * (power as i64)
+    (y as i64) * (power as i64)
 }
 
-// Σ w × x of record i and the line whose coordinates begin at place b.
-pub fn dot_record(s: &[u8], i: usize, v: &[i16], b: usize, d: usize) -> i64
-    requires { ⌜ (i * 12 + 12 ≤ length (now s)) × (b + d ≤ length (now v)) × (d ≤ 4) ⌝ }
-    ensures value { λ r. ⌜ r ≡ dot (now (v .entry)) b (xs (pointAt (now (s .entry)) i)) d ⌝ }
+// Σ w × x of a point and the line whose coordinates begin at place b.
+pub fn dot_point(q: Point, v: &[i16], b: usize, d: usize) -> i64
+    requires { ⌜ (b + d ≤ length (now v)) × (1 ≤ d) × (d ≤ 4) ⌝ }
+    ensures value { λ r. ⌜ r ≡ dot (now (v .entry)) b (xs q) d ⌝ }
     ensures small { λ r. ⌜ natAbs r ≤ 4294967296 ⌝ }
 {
-    let mut sum: i64 = 0;
-    let mut k: usize = 0;
-    while k < d {
-        sum = sum + times(v[b + k], field(s, i * 12 + k * 2));
-        k += 1;
+    let one = times(v[b], q.x1);
+    if d == 1 {
+        return one;
     }
-    sum
+    let two = one + times(v[b + 1], q.x2);
+    if d == 2 {
+        return two;
+    }
+    let three = two + times(v[b + 2], q.x3);
+    if d == 3 {
+        return three;
+    }
+    three + times(v[b + 3], q.x4)
 }
 
-// |e| of record i and that line.
-pub fn size_record(s: &[u8], i: usize, v: &[i16], b: usize, d: usize, power: u16) -> u64
-    requires { ⌜ (i * 12 + 12 ≤ length (now s)) × (b + d ≤ length (now v)) × (d ≤ 4) ⌝ }
-    ensures { λ r. ⌜ r ≡ sizeOf (now (s .entry)) i (now (v .entry)) b d power ⌝ }
+// |e| of a point and that line.
+pub fn size_point(q: Point, v: &[i16], b: usize, d: usize, power: u16) -> u64
+    requires { ⌜ (b + d ≤ length (now v)) × (1 ≤ d) × (d ≤ 4) ⌝ }
+    ensures { λ r. ⌜ r ≡ sizeOf q (now (v .entry)) b d power ⌝ }
 {
-    loss::size(scaled(s, i, power) - dot_record(s, i, v, b, d))
+    loss::size(scaled(q.y, power) - dot_point(q, v, b, d))
+}
+
+// The least |e| among the lines, or ε + 1 if that is less: a size past ε costs no more than ε + 1.
+pub fn least_size(q: Point, v: &[i16], n: usize, d: usize, power: u16, eps: u32) -> u64
+    requires { ⌜ (n * d ≤ length (now v)) × (1 ≤ d) × (d ≤ 4) ⌝ }
+    ensures { λ r. ⌜ r ≡ leastFrom (eps + 1) (λ j. sizeOf q (now (v .entry)) (j * d) d power) n ⌝ }
+{
+    let mut size = eps as u64 + 1;
+    let mut j: usize = 0;
+    while j < n {
+        size = loss::least(size, size_point(q, v, j * d, d, power));
+        j += 1;
+    }
+    size
+}
+
+// That size for each point of a block.
+pub fn write_sizes(
+    s: &[u8],
+    i: usize,
+    count: usize,
+    v: &[i16],
+    n: usize,
+    d: usize,
+    power: u16,
+    eps: u32,
+    out: &mut [u32],
+)
+    requires { ⌜ ((i + count) * 12 ≤ length (now s)) × (n * d ≤ length (now v)) × (1 ≤ d) × (d ≤ 4) × (count ≤ length (now out)) × (eps ≤ 16777215) ⌝ }
+    ensures { λ _. ⌜ Begins (now (out .exit)) (λ k. leastFrom (eps + 1) (λ j. sizeOf (pointAt (now (s .entry)) (i + k)) (now (v .entry)) (j * d) d power) n) count ⌝ }
+{
+    let mut o = i * 12;
+    let mut k: usize = 0;
+    while k < count {
+        out[k] = least_size(read_record(s, o), v, n, d, power, eps) as u32;
+        o += 12;
+        k += 1;
+    }
+}
+
+// A loop of its own for d = 1 and for d = 2, which the compiler makes without the fields that are not used.
+pub fn sizes_by_d(
+    s: &[u8],
+    i: usize,
+    count: usize,
+    v: &[i16],
+    n: usize,
+    d: usize,
+    power: u16,
+    eps: u32,
+    out: &mut [u32],
+)
+    requires { ⌜ ((i + count) * 12 ≤ length (now s)) × (n * d ≤ length (now v)) × (1 ≤ d) × (d ≤ 4) × (count ≤ length (now out)) × (eps ≤ 16777215) ⌝ }
+    ensures { λ _. ⌜ Begins (now (out .exit)) (λ k. leastFrom (eps + 1) (λ j. sizeOf (pointAt (now (s .entry)) (i + k)) (now (v .entry)) (j * d) d power) n) count ⌝ }
+{
+    match d {
+        1 => write_sizes(s, i, count, v, n, 1, power, eps, out),
+        2 => write_sizes(s, i, count, v, n, 2, power, eps, out),
+        _ => write_sizes(s, i, count, v, n, d, power, eps, out),
+    }
+}
+
+// The losses of a block's points.
+pub fn cost_block(s: &[u8], i: usize, count: usize, m: Model, v: &[i16], power: u16) -> u64
+    requires { ⌜ Ready (length (now s)) m × (8 ≤ length (now v)) × ((i + count) * 12 ≤ length (now s)) × (count ≤ 64) × (power ≡ 2 ^ m .scale) ⌝ }
+    ensures { λ r. ⌜ r ≡ lossesFrom m (sizeAt m (now (v .entry))) (now (s .entry)) i count ⌝ }
+{
+    let mut sizes: [u32; 64] = [0; 64];
+    sizes_by_d(
+        s,
+        i,
+        count,
+        v,
+        m.n as usize,
+        m.d as usize,
+        power,
+        m.eps,
+        &mut sizes,
+    );
+    loss_sum(m.p, m.eps, &sizes, count)
+}
+
+// The sum over the records of the loss of the nearest line's |e|, up to a cap: past it the rest of the store is not read.
+pub fn cost_sum(s: &[u8], m: Model, v: &[i16], cap: u64) -> u64
+    requires { ⌜ Ready (length (now s)) m × (8 ≤ length (now v)) ⌝ }
+    ensures { λ r. ⌜ r ≡ min (cost m (pointsOf (now (s .entry))) (now (v .entry))) cap ⌝ }
+{
+    let power = scale::power(m.scale);
+    let count = s.len() / 12;
+    let mut sum: u64 = 0;
+    let mut i: usize = 0;
+    while i < count {
+        if cap <= sum {
+            return cap;
+        }
+        let k = block_of(count - i);
+        sum = sum + cost_block(s, i, k, m, v, power);
+        i += k;
+    }
+    loss::least(sum, cap)
 }
 
 // The line nearest to a point, the first among equals, and its |e|.
@@ -62,16 +163,16 @@ pub struct Nearest {
     pub size: u64,
 }
 
-pub fn nearest_line(s: &[u8], i: usize, v: &[i16], n: usize, d: usize, power: u16) -> Nearest
-    requires { ⌜ (i * 12 + 12 ≤ length (now s)) × (n * d ≤ length (now v)) × (1 ≤ n) × (d ≤ 4) ⌝ }
-    ensures line { λ r. ⌜ r .line ≡ firstLeast (λ j. sizeOf (now (s .entry)) i (now (v .entry)) (j * d) d power) n ⌝ }
-    ensures size { λ r. ⌜ r .size ≡ least (λ j. sizeOf (now (s .entry)) i (now (v .entry)) (j * d) d power) n ⌝ }
+pub fn nearest_line(q: Point, v: &[i16], n: usize, d: usize, power: u16) -> Nearest
+    requires { ⌜ (n * d ≤ length (now v)) × (1 ≤ n) × (1 ≤ d) × (d ≤ 4) ⌝ }
+    ensures line { λ r. ⌜ r .line ≡ firstLeast (λ j. sizeOf q (now (v .entry)) (j * d) d power) n ⌝ }
+    ensures size { λ r. ⌜ r .size ≡ least (λ j. sizeOf q (now (v .entry)) (j * d) d power) n ⌝ }
 {
     let mut line: usize = 0;
-    let mut size = size_record(s, i, v, 0, d, power);
+    let mut size = size_point(q, v, 0, d, power);
     let mut j: usize = 1;
     while j < n {
-        let other = size_record(s, i, v, j * d, d, power);
+        let other = size_point(q, v, j * d, d, power);
         if other < size {
             size = other;
             line = j;
@@ -81,34 +182,12 @@ pub fn nearest_line(s: &[u8], i: usize, v: &[i16], n: usize, d: usize, power: u1
     Nearest { line, size }
 }
 
-// The sum over the records of the loss of the nearest line's |e|, up to a cap: past it the rest of the store is not read.
-pub fn cost_sum(s: &[u8], m: Model, v: &[i16], cap: u64) -> u64
-    requires { ⌜ Ready (length (now s)) m × (8 ≤ length (now v)) ⌝ }
-    ensures { λ r. ⌜ r ≡ min (cost m (pointsOf (now (s .entry))) (now (v .entry))) cap ⌝ }
-{
-    let n = m.n as usize;
-    let d = m.d as usize;
-    let power = scale::power(m.scale);
-    let count = s.len() / 12;
-    let mut sum: u64 = 0;
-    let mut i: usize = 0;
-    while i < count {
-        if cap <= sum {
-            return cap;
-        }
-        let near = nearest_line(s, i, v, n, d, power);
-        sum = sum + loss::loss_of(m.p, m.eps, near.size);
-        i += 1;
-    }
-    loss::least(sum, cap)
-}
-
 // The label of record i.
 pub fn label_record(s: &[u8], i: usize, m: Model, v: &[i16], power: u16) -> u8
     requires { ⌜ Ready (length (now s)) m × (8 ≤ length (now v)) × (i * 12 + 12 ≤ length (now s)) × (power ≡ 2 ^ m .scale) ⌝ }
     ensures { λ r. ⌜ r ≡ label m (now (v .entry)) (pointAt (now (s .entry)) i) ⌝ }
 {
-    let near = nearest_line(s, i, v, m.n as usize, m.d as usize, power);
+    let near = nearest_line(read_record(s, i * 12), v, m.n as usize, m.d as usize, power);
     if near.size <= m.eps as u64 {
         (near.line + 1) as u8
     } else {

@@ -1,80 +1,78 @@
 -- The invariant: `sum` is the total over the first i records. The measure is the records left.
 use borrow.Author.Needs.{needs}
-use mathlib.Core.Path.{_≡_, ap, _∙_}
-use Prim.Native.Nat.{ℕ, _*_, _-_, _/_, _^_, _≤_, _<_}
+use mathlib.Core.Path.{_≡_, sym, ap, _∙_, subst}
+use Prim.Native.Nat.{ℕ, _+_, _*_, _-_, _/_, _^_, _≤_, _<_, min}
 use native.Mathlib.Omega.{arith}
 use lib.ListN.{length}
-use Rattle.loss.specs.Loss.{lossOf}
-use Rattle.loss.proofs.Laws.{loss-le}
-use Rattle.points.specs.Points.{pointAt}
-use Rattle.model.specs.Cost.{least, leastSize, bound}
+use Rattle.model.specs.Cost.{leastSize, bound}
 use Rattle.model.specs.Ready.{boxOf}
-use Rattle.model.proofs.Sizes.{power-of, sizes-over}
-use Rattle.model.proofs.Sums.{Summed, none-summed, one-summed, cap-reached, all-summed}
+use Rattle.model.proofs.Sizes.{power-of}
+use Rattle.model.proofs.Sums.{Summed, none-summed, block-summed, cap-reached, all-summed}
 use Rattle.model.proofs.range.bound_sum.Statement.{statement}
 use Rattle.model.proofs.range.bound_sum.Tie as tie
 
 abbrev Inv-loop : tie.InvT-loop
-Inv-loop s m low high cap n d power count sum₀ i₀ sum i = Summed m (leastSize m (boxOf low high)) s i sum × (power ≡ 2 ^ m .scale)
+Inv-loop s m low high cap power count sum₀ i₀ sum i = Summed m (leastSize m (boxOf low high)) s i sum × (power ≡ 2 ^ m .scale)
 
 abbrev μ-loop : tie.MeasureT-loop
-μ-loop s m low high cap n d power count sum₀ i₀ sum i = length s / 12 - i
-
-cast-n : tie.Need-cast-n Inv-loop μ-loop
-cast-n c = search needs
-
-cast-d : tie.Need-cast-d Inv-loop μ-loop
-cast-d c = search needs
+μ-loop s m low high cap power count sum₀ i₀ sum i = length s / 12 - i
 
 power-requires : tie.Need-power-requires Inv-loop μ-loop
 power-requires c κs = search needs
 
 loop-holds : tie.Need-loop-holds Inv-loop μ-loop
 loop-holds c =
-    let s = c .before .before .before .before in
+    let s = c .before .before in
     (none-summed (s .args .m) (leastSize (s .args .m) (boxOf (s .args .low .now) (s .args .high .now))) (s .args .s .now), power-of (s .args .m .scale) (c .power .result) (s .pre .0 .scaled) (c .power .ensures))
 
 returns : tie.Need-returns Inv-loop μ-loop
 unfolding bound
 returns c =
     let p = c .before .before in
-    let a = p .before .before .before .before .before .args in
+    let a = p .before .before .before .args in
     cap-reached (a .m) (leastSize (a .m) (boxOf (a .low .now) (a .high .now))) (a .s .now) (p .loop .inv .0) (a .cap) (c .if1 .taken)
 
-least-over-lines-requires : tie.Need-least-over-lines-requires Inv-loop μ-loop
-least-over-lines-requires c κs =
-    let p = c .before .before in
-    let s = p .before .before .before .before .before in
-    (omega arith, omega (arith, s .pre .0 .room, s .pre .1), omega (arith, s .pre .0 .room, s .pre .2), s .pre .0 .lines, s .pre .0 .used)
+sub-block-of : tie.Need-sub-block-of Inv-loop μ-loop
+sub-block-of c = omega arith
 
-loss-of-requires : tie.Need-loss-of-requires Inv-loop μ-loop
-loss-of-requires c κs = search needs
+block-of-requires : tie.Need-block-of-requires Inv-loop μ-loop
+block-of-requires c κs = search needs
+
+bound-block-requires : tie.Need-bound-block-requires Inv-loop μ-loop
+bound-block-requires c κs =
+    let p = c .before .before .before in
+    let s = p .before .before .before in
+    (s .pre .0, s .pre .1, s .pre .2, omega (arith, c .block-of .ensures), omega (arith, c .block-of .ensures), p .loop .inv .1)
+
+-- the sum with the next block
+next : (c : tie.After-bound-block Inv-loop μ-loop) →
+    let p = c .before .before .before .before in
+    let a = p .before .before .before .args in
+    Summed (a .m) (leastSize (a .m) (boxOf (a .low .now) (a .high .now))) (a .s .now) (p .loop .i + c .before .block-of .result) (p .loop .sum + c .bound-block .result)
+next c =
+    let p = c .before .before .before .before in
+    let s = p .before .before .before in
+    let a = s .args in
+    let k = c .before .block-of in
+    let size = leastSize (a .m) (boxOf (a .low .now) (a .high .now)) in
+    subst (λ (z : ℕ). Summed (a .m) size (a .s .now) (p .loop .i + k .result) (p .loop .sum + z)) (sym (c .bound-block .ensures))
+    (block-summed (a .m) size (a .s .now) (k .result) (s .pre .0 .lines) (s .pre .0 .cut) (omega (arith, k .ensures)) (p .loop .inv .0))
 
 add-sum : tie.Need-add-sum Inv-loop μ-loop
 add-sum c =
-    let p = c .before .before .before .before in
-    let s = p .before .before .before .before .before in
-    record { fits = omega (arith, p .loop .inv .0 .small, p .loop .inv .0 .few, s .pre .0 .few, c .loss-of .ensures, loss-le (s .args .m .p) (s .args .m .eps) (c .before .least-over-lines .result) (s .pre .0 .cut)) }
+    let s = c .before .before .before .before .before .before .before in
+    record { fits = omega (arith, next c .small, next c .few, s .pre .0 .few) }
 
 add-i : tie.Need-add-i Inv-loop μ-loop
-add-i c = record { fits = omega arith }
+add-i c =
+    let s = c .before .before .before .before .before .before .before in
+    record { fits = omega (arith, next c .few, s .pre .0 .few) }
 
 loop-less : tie.Need-loop-less Inv-loop μ-loop
-loop-less c = omega arith
+loop-less c = omega (arith, c .before .block-of .ensures)
 
 loop-again : tie.Need-loop-again Inv-loop μ-loop
-loop-again c =
-    let p = c .before .before .before .before in
-    let s = p .before .before .before .before .before in
-    let a = s .args in
-    let i = p .loop .i in
-    let near = c .before .least-over-lines in
-    let e : near .result ≡ least (leastSize (a .m) (boxOf (a .low .now) (a .high .now)) (pointAt (a .s .now) i)) (a .m .n) =
-    near .ensures ∙ ap (λ (f : ℕ → ℕ). least f (a .m .n)) (sizes-over (a .m) (a .s .now) i (p .before .power .result) (p .loop .inv .1) (boxOf (a .low .now) (a .high .now)))
-    in (
-      one-summed (a .m) (leastSize (a .m) (boxOf (a .low .now) (a .high .now))) (a .s .now) (c .loss-of .result) (s .pre .0 .lines) (s .pre .0 .cut) (c .before .before .before .loop-test .taken) (c .loss-of .ensures ∙ ap (lossOf (a .m .p) (a .m .eps)) e) (p .loop .inv .0),
-      p .loop .inv .1,
-    )
+loop-again c = (next c, c .before .before .before .before .loop .inv .1)
 
 least-requires : tie.Need-least-requires Inv-loop μ-loop
 least-requires c κs = search needs
@@ -83,7 +81,7 @@ returns-2 : tie.Need-returns-2 Inv-loop μ-loop
 unfolding bound
 returns-2 c =
     let p = c .before .before in
-    let a = p .before .before .before .before .before .args in
+    let a = p .before .before .before .args in
     c .least .ensures ∙ all-summed (a .m) (leastSize (a .m) (boxOf (a .low .now) (a .high .now))) (a .s .now) (p .loop .inv .0) (a .cap) (c .before .loop-test .left)
 
 pub bound-sum-spec : {M : Type 1} → statement M
@@ -92,13 +90,12 @@ bound-sum-spec =
     (tie.spec
     Inv-loop
     μ-loop
-    cast-n
-    cast-d
     power-requires
     loop-holds
     returns
-    least-over-lines-requires
-    loss-of-requires
+    sub-block-of
+    block-of-requires
+    bound-block-requires
     add-sum
     add-i
     loop-less

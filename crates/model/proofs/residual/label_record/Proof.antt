@@ -2,15 +2,23 @@
 use borrow.Author.Needs.{needs}
 use borrow.Author.Tests.{le-leb, lt-leb}
 use mathlib.Core.Path.{_≡_, sym, ap, _∙_}
-use Prim.Native.Nat.{ℕ, suc, _+_, _≤_, _<_}
+use Prim.Native.Nat.{ℕ, suc, _+_, _*_, _≤_, _<_}
 use native.Mathlib.Numerals.{add-one}
 use native.Mathlib.Omega.{arith}
+use Rattle.points.specs.declared.Point.{Point}
 use Rattle.points.specs.Points.{pointAt}
 use Rattle.model.specs.Cost.{least, firstLeast, sizeAt, label}
+use Rattle.model.specs.Ready.{sizeOf}
 use Rattle.model.proofs.Least.{first-least-below}
-use Rattle.model.proofs.Sizes.{sizes-at}
+use Rattle.model.proofs.Sizes.{record-at, sizes-at}
 use Rattle.model.proofs.residual.label_record.Statement.{statement}
 use Rattle.model.proofs.residual.label_record.Tie as tie
+
+mul-read-record : tie.Need-mul-read-record
+mul-read-record c = search needs
+
+read-record-requires : tie.Need-read-record-requires
+read-record-requires c κs = search needs
 
 cast-nearest-line : tie.Need-cast-nearest-line
 cast-nearest-line c = search needs
@@ -27,20 +35,30 @@ cast-if1 c = search needs
 -- what the nearest line is, in the definition's words
 module _ (c : tie.After-nearest-line) where
   abbrev start : tie.Start
-  start = c .before .before .before .before
+  start = c .before .before .before .before .before
+
+  -- the point that was read
+  point : c .before .before .before .read-record .result ≡ pointAt (start .args .s .now) (start .args .i)
+  point = c .before .before .before .read-record .ensures ∙ record-at (start .args .s .now) (start .args .i)
 
   abbrev sizes : ℕ → ℕ
   sizes = sizeAt (start .args .m) (start .args .v .now) (pointAt (start .args .s .now) (start .args .i))
 
+  sizes-are : _≡_ {A = ℕ → ℕ} (λ j. sizeOf (c .before .before .before .read-record .result) (start .args .v .now) (j * start .args .m .d) (start .args .m .d) (start .args .power)) sizes
+  sizes-are =
+      let a = start .args in
+      ap {B = ℕ → ℕ} (λ (q : Point) j. sizeOf q (a .v .now) (j * a .m .d) (a .m .d) (a .power)) point
+      ∙ sizes-at (a .m) (pointAt (a .s .now) (a .i)) (a .power) (start .pre .3) (a .v .now)
+
   line-is : c .nearest-line .result .line ≡ firstLeast sizes (start .args .m .n)
   line-is =
       let a = start .args in
-      c .nearest-line .ensures .0 ∙ ap (λ (f : ℕ → ℕ). firstLeast f (a .m .n)) (sizes-at (a .m) (a .s .now) (a .i) (a .power) (start .pre .3) (a .v .now))
+      c .nearest-line .ensures .0 ∙ ap (λ (f : ℕ → ℕ). firstLeast f (a .m .n)) sizes-are
 
   size-is : c .nearest-line .result .size ≡ least sizes (start .args .m .n)
   size-is =
       let a = start .args in
-      c .nearest-line .ensures .1 ∙ ap (λ (f : ℕ → ℕ). least f (a .m .n)) (sizes-at (a .m) (a .s .now) (a .i) (a .power) (start .pre .3) (a .v .now))
+      c .nearest-line .ensures .1 ∙ ap (λ (f : ℕ → ℕ). least f (a .m .n)) sizes-are
 
   line-small : c .nearest-line .result .line < 4
   line-small = omega (arith, line-is, first-least-below sizes (start .args .m .n) (start .pre .0 .lines), start .pre .0 .most)
@@ -69,6 +87,8 @@ pub label-record-spec : {M : Type 1} → statement M
 label-record-spec =
     tie.close
     (tie.spec
+    mul-read-record
+    read-record-requires
     cast-nearest-line
     cast-nearest-line-2
     nearest-line-requires

@@ -9,6 +9,7 @@ use native.Mathlib.Nat.{zero-mul}
 use native.Mathlib.Omega.{arith}
 use lib.IntN.{ℤ}
 use lib.ListN.{length}
+use Rattle.points.specs.declared.Point.{Point}
 use Rattle.model.specs.Cost.{least, firstLeast}
 use Rattle.model.specs.Ready.{sizeOf}
 use Rattle.model.proofs.Least.{least-more, first-least-more, line-room}
@@ -16,8 +17,8 @@ use Rattle.model.proofs.residual.nearest_line.Statement.{statement}
 use Rattle.model.proofs.residual.nearest_line.Tie as tie
 
 -- |e| of each line
-abbrev sizes : List ℕ → ℕ → List ℤ → ℕ → ℕ → ℕ → ℕ
-sizes s i v d power j = sizeOf s i v (j * d) d power
+abbrev sizes : Point → List ℤ → ℕ → ℕ → ℕ → ℕ
+sizes q v d power j = sizeOf q v (j * d) d power
 
 record Found (f : ℕ → ℕ) (n j line size : ℕ) : Type 0 where
   some : 1 ≤ j
@@ -47,42 +48,42 @@ module _ {f : ℕ → ℕ} {n j line size : ℕ} (g : Found f n j line size) (h 
       }
 
 abbrev Inv-loop : tie.InvT-loop
-Inv-loop s i v n d power line₀ size₀ j₀ line size j = Found (sizes s i v d power) n j line size
+Inv-loop q v n d power line₀ size₀ j₀ line size j = Found (sizes q v d power) n j line size
 
 abbrev μ-loop : tie.MeasureT-loop
-μ-loop s i v n d power line₀ size₀ j₀ line size j = n - j
+μ-loop q v n d power line₀ size₀ j₀ line size j = n - j
 
-size-record-requires : tie.Need-size-record-requires Inv-loop μ-loop
-size-record-requires c κs =
-    let a = c .before .args in
-    let r = line-room 0 (a .n) (a .d) (length (a .v .now)) (c .before .pre .2) (c .before .pre .1) in
-    (c .before .pre .0, omega (arith, zero-mul (a .d)), c .before .pre .3)
+size-point-requires : tie.Need-size-point-requires Inv-loop μ-loop
+size-point-requires c κs =
+    let a = c .args in
+    let r = line-room 0 (a .n) (a .d) (length (a .v .now)) (c .pre .1) (c .pre .0) in
+    (omega (arith, zero-mul (a .d)), c .pre .2, c .pre .3)
 
 loop-holds : tie.Need-loop-holds Inv-loop μ-loop
 unfolding least firstLeast
 loop-holds c =
-    let a = c .before .before .args in
+    let a = c .before .args in
     record {
       some = omega arith;
-      within = c .before .before .pre .2;
+      within = c .before .pre .1;
       is-first = refl;
-      is-least = c .size-record .ensures ∙ ap (λ (b : ℕ). sizeOf (a .s .now) (a .i) (a .v .now) b (a .d) (a .power)) (sym (zero-mul (a .d)));
+      is-least = c .size-point .ensures ∙ ap (λ (b : ℕ). sizeOf (a .q) (a .v .now) b (a .d) (a .power)) (sym (zero-mul (a .d)));
     }
 
 room : (c : tie.In-loop Inv-loop μ-loop) →
-    let a = c .before .before .before .before .args in
+    let a = c .before .before .before .args in
     c .before .loop .j * a .d + a .d ≤ length (a .v .now)
 room c =
-    let s = c .before .before .before .before in
-    line-room (c .before .loop .j) (s .args .n) (s .args .d) (length (s .args .v .now)) (c .loop-test .taken) (s .pre .1)
+    let s = c .before .before .before in
+    line-room (c .before .loop .j) (s .args .n) (s .args .d) (length (s .args .v .now)) (c .loop-test .taken) (s .pre .0)
 
-mul-size-record : tie.Need-mul-size-record Inv-loop μ-loop
-mul-size-record c = record { fits = omega (arith, room c, c .before .before .before .before .good) }
+mul-size-point : tie.Need-mul-size-point Inv-loop μ-loop
+mul-size-point c = record { fits = omega (arith, room c, c .before .before .before .good) }
 
-size-record-requires-2 : tie.Need-size-record-requires-2 Inv-loop μ-loop
-size-record-requires-2 c κs =
-    let s = c .before .before .before .before in
-    (s .pre .0, room c, s .pre .3)
+size-point-requires-2 : tie.Need-size-point-requires-2 Inv-loop μ-loop
+size-point-requires-2 c κs =
+    let s = c .before .before .before in
+    (room c, s .pre .2, s .pre .3)
 
 add-j : tie.Need-add-j Inv-loop μ-loop
 add-j c = search needs
@@ -93,7 +94,7 @@ loop-less c = search needs
 loop-again : tie.Need-loop-again Inv-loop μ-loop
 loop-again c =
     let p = c .before .before .before in
-    let other = c .before .size-record2 in
+    let other = c .before .size-point2 in
     let taken = c .before .before .loop-test .taken in
     ⊎-elim
     (λ w. rw (w .1, w .2) (closer (p .loop .inv) taken (other .result) (other .ensures) (w .0 .taken)))
@@ -103,8 +104,9 @@ loop-again c =
 returns : tie.Need-returns Inv-loop μ-loop
 returns c =
     let p = c .before in
-    let e : p .loop .j ≡ p .before .before .before .args .n = omega (arith, p .loop .inv .within) in
-    let f = sizes (p .before .before .before .args .s .now) (p .before .before .before .args .i) (p .before .before .before .args .v .now) (p .before .before .before .args .d) (p .before .before .before .args .power) in
+    let a = p .before .before .args in
+    let e : p .loop .j ≡ a .n = omega (arith, p .loop .inv .within) in
+    let f = sizes (a .q) (a .v .now) (a .d) (a .power) in
     (p .loop .inv .is-first ∙ ap (firstLeast f) e, p .loop .inv .is-least ∙ ap (least f) e)
 
 pub nearest-line-spec : {M : Type 1} → statement M
@@ -113,10 +115,10 @@ nearest-line-spec =
     (tie.spec
     Inv-loop
     μ-loop
-    size-record-requires
+    size-point-requires
     loop-holds
-    mul-size-record
-    size-record-requires-2
+    mul-size-point
+    size-point-requires-2
     add-j
     loop-less
     loop-again

@@ -1,6 +1,6 @@
 -- A product of a 16-bit signed and a 16-bit unsigned number fits 64 bits.
 use borrow.Author.Needs.{needs}
-use mathlib.Core.Path.{_≡_, _∙_, ap}
+use mathlib.Core.Path.{_≡_, refl}
 use Prim.Native.Nat.{ℕ, _^_, _≤_, _<_}
 use native.Mathlib.Nat.{mul-le-mul}
 use native.Mathlib.Omega.{arith}
@@ -9,18 +9,8 @@ use mir.Syntax.{w16, w64}
 use mir.Val.{SFits}
 use mir.Facts.{toZ-ofZ, toZ-pos, sfits-widen}
 use Rattle.integers.proofs.Parts.{size-sfits, abs-mul, abs-fits}
-use Rattle.points.specs.Points.{pointAt}
 use Rattle.model.proofs.residual.scaled.Statement.{statement}
 use Rattle.model.proofs.residual.scaled.Tie as tie
-
-mul-field : tie.Need-mul-field
-mul-field c = search needs
-
-add-field : tie.Need-add-field
-add-field c = search needs
-
-field-requires : tie.Need-field-requires
-field-requires c κs = search needs
 
 module _ (y : ℤ) (fy : SFits w16 y) (n : ℕ) (h : n < 2 ^ 16) where
   small : natAbs (y *ℤ pos n) ≤ 2147483648
@@ -32,31 +22,26 @@ module _ (y : ℤ) (fy : SFits w16 y) (n : ℕ) (h : n < 2 ^ 16) where
   fits = size-sfits w64 (y *ℤ pos n) (omega (arith, small))
 
 cast-result : tie.Need-cast-result
-cast-result c =
-    let f : SFits w16 (c .field .result) = record { sfits = c .field .ok } in
-    rw (toZ-ofZ f) (sfits-widen tt f)
+cast-result c = rw (toZ-ofZ (c .fits .y)) (sfits-widen tt (c .fits .y))
 
 cast-result-2 : tie.Need-cast-result-2
 cast-result-2 c = search needs
 
 mul-result : tie.Need-mul-result
 mul-result c =
-    let f : SFits w16 (c .field .result) = record { sfits = c .field .ok } in
-    let g : SFits w64 (c .field .result) = sfits-widen tt f in
-    let h : c .before .before .args .power < 2 ^ 63 = omega arith in
-    simp (toZ-ofZ, toZ-pos w64 h) (fits (c .field .result) f (c .before .before .args .power) (search needs))
+    let f = c .fits .y in
+    let g : SFits w64 (c .args .y) = sfits-widen tt f in
+    let h : c .args .power < 2 ^ 63 = omega arith in
+    simp (toZ-ofZ, toZ-pos w64 h) (fits (c .args .y) f (c .args .power) (search needs))
 
 returns : tie.Need-returns
-unfolding pointAt
 returns c =
-    let f : SFits w16 (c .field .result) = record { sfits = c .field .ok } in
-    let g : SFits w64 (c .field .result) = sfits-widen tt f in
-    let n = c .before .before .args .power in
+    let f = c .fits .y in
+    let g : SFits w64 (c .args .y) = sfits-widen tt f in
+    let n = c .args .power in
     let h : n < 2 ^ 63 = omega arith in
-    let k = fits (c .field .result) f n (search needs) in
-    simp (toZ-ofZ, toZ-pos w64 h) (ap (λ (y : ℤ). y *ℤ pos n) (c .field .ensures), small (c .field .result) f n (search needs))
+    let k = fits (c .args .y) f n (search needs) in
+    simp (toZ-ofZ, toZ-pos w64 h) (refl, small (c .args .y) f n (search needs))
 
 pub scaled-spec : {M : Type 1} → statement M
-scaled-spec =
-    tie.close
-    (tie.spec mul-field add-field field-requires cast-result cast-result-2 mul-result returns)
+scaled-spec = tie.close (tie.spec cast-result cast-result-2 mul-result returns)
