@@ -1,8 +1,8 @@
 -- The bound of a box is at most the cost of each of its vectors, and equal for a box of one vector; residuals are small. Assumes nothing.
-use mathlib.Core.Path.{_≡_, refl, sym, ap, _∙_}
+use mathlib.Core.Path.{_≡_, refl, ap, _∙_}
 use mathlib.Core.Bool.{cond}
 use mathlib.Core.List.{List, [], _∷_}
-use Prim.Native.Nat.{ℕ, zero, suc, _+_, _*_, _^_, _≤_, _<_}
+use Prim.Native.Nat.{ℕ, zero, suc, _+_, _*_, _^_, _≤_}
 use native.Mathlib.Nat.{mul-le-mul}
 use native.Mathlib.Omega.{arith}
 use lib.IntN.{ℤ, pos, natAbs, _+ℤ_, _-ℤ_, _*ℤ_}
@@ -12,17 +12,17 @@ use Rattle.integers.proofs.Tests.{by-test}
 use Rattle.integers.proofs.Parts.{apart, abs-parts, abs-add, abs-sub, abs-mul, le-parts, ltZ-true, ltZ-false, pos-up, pos-dn}
 use Rattle.integers.proofs.Order.{max-same, min-same, product-le-max, min-le-product, add-mono, sub-mono}
 use Rattle.boxes.specs.declared.Box.{Box}
-use Rattle.boxes.specs.Boxes.{InBox, volume}
+use Rattle.boxes.specs.Boxes.{InBox}
 use Rattle.boxes.proofs.Volume.{between-at, high-low}
 use Rattle.jobs.specs.declared.Model.{Model}
 use Rattle.loss.specs.Loss.{lossOf}
 use Rattle.loss.proofs.Laws.{loss-mono}
 use Rattle.points.specs.declared.Point.{Point}
 use Rattle.points.specs.Points.{xs}
-use Rattle.model.specs.Cost.{at, dot, dotMax, dotMin, residual, sizeAt, eMin, eMax, nearestTo0, leastSize, least, totalLoss, cost, bound}
+use Rattle.model.specs.Cost.{at, dot, dotMax, dotMin, residual, sizeAt, eMin, eMax, nearestTo0, leastSize, totalLoss, cost, bound}
 use Rattle.model.specs.Laws.{BoundLaws, LeastLoss, Small, SmallResidual}
 use Rattle.model.specs.Ready.{boxOf}
-use Rattle.model.proofs.Least.{least-mono, least-same, loss-of-least}
+use Rattle.model.proofs.Least.{least-mono, loss-of-least}
 
 -- the least size between two ends is at most the size of each number between them
 nearest-le : (a b e : ℤ) → a ≤ℤ e → e ≤ℤ b → nearestTo0 a b ≤ natAbs e

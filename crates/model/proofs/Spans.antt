@@ -2,7 +2,7 @@
 use mathlib.Core.Path.{_≡_, refl, sym, ap, _∙_}
 use mathlib.Core.Bool.{cond}
 use mathlib.Core.List.{List}
-use Prim.Native.Nat.{ℕ, zero, suc, _+_, _*_, _≤_, _<_, min, max}
+use Prim.Native.Nat.{ℕ, zero, suc, _+_, _*_, _≤_, min, max}
 use native.Mathlib.Numerals.{add-one}
 use native.Mathlib.Omega.{arith}
 use lib.IntN.{ℤ, pos, natAbs, _+ℤ_, _-ℤ_, _*ℤ_}
@@ -12,7 +12,7 @@ use mir.Val.{SFits, toZ, ofZ}
 use mir.Facts.{toZ-ofZ}
 use Rattle.integers.specs.Integers.{maxZ, minZ}
 use Rattle.integers.proofs.Order.{≤ℤ-trans, add-mono, max-left, min-left}
-use Rattle.integers.proofs.Parts.{up, dn, apart, abs-parts, sub-parts, le-parts, leZ-true, leZ-false, ltZ-true, ltZ-false, pos-up, pos-dn}
+use Rattle.integers.proofs.Parts.{up, apart, abs-parts, sub-parts, le-parts, leZ-true, leZ-false, ltZ-true, ltZ-false, pos-up, pos-dn}
 use Rattle.integers.proofs.Tests.{by-test}
 use Rattle.boxes.specs.declared.Box.{Box}
 use Rattle.model.specs.Cost.{at, dotMax, dotMin, nearestTo0}

@@ -1,4 +1,4 @@
-// The losses of a block of points, by their sizes: one short loop, which the compiler turns into vector instructions.
+// Blocks of points: their sizes are written first, and then summed up by one short loop, which the compiler turns into vector instructions.
 ghost use mathlib.Core.Path.{_≡_};
 ghost use Prim.Native.Nat.{_≤_, min};
 ghost use lib.ListN.{getD};
@@ -18,6 +18,7 @@ fn wide(a: u32) -> u64
     a as u64
 }
 
+// The losses of the first `count` sizes. p is the same for all of them, so the compiler picks the loss before the loop.
 pub fn loss_sum(p: u8, eps: u32, sizes: &[u32; 64], count: usize) -> u64
     requires { ⌜ (count ≤ 64) × (eps ≤ 16777215) ⌝ }
     ensures { λ r. ⌜ r ≡ sumOf (λ k. lossOf p eps (getD (now (sizes .entry)) k 0)) count ⌝ }

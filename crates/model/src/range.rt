@@ -48,6 +48,7 @@ pub fn widened(t: Ends, low: &[i16], high: &[i16], k: usize, x: i16) -> Ends
     }
 }
 
+// Those ends, of a point and the line whose coordinates begin at place b.
 pub fn dot_ends(q: Point, low: &[i16], high: &[i16], b: usize, d: usize) -> Ends
     requires { ⌜ (b + d ≤ length (now low)) × (b + d ≤ length (now high)) × (1 ≤ d) × (d ≤ 4) ⌝ }
     ensures largest { λ r. ⌜ r .largest ≡ dotMax (boxOf (now (low .entry)) (now (high .entry))) b (xs q) d ⌝ }

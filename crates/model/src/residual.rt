@@ -7,10 +7,10 @@ use points::Point;
 ghost use mathlib.Core.Path.{_≡_};
 ghost use mathlib.Core.List.{_++_, map};
 ghost use Prim.Native.Nat.{_+_, _*_, _^_, _≤_, _<_, min};
-ghost use lib.IntN.{pos, natAbs, _*ℤ_};
+ghost use lib.IntN.{pos, natAbs, _+ℤ_, _*ℤ_};
 ghost use lib.ListN.{length, drop};
 ghost use Rattle.points.specs.Points.{pointAt, pointsOf, xs};
-ghost use Rattle.model.specs.Cost.{dot, sizeAt, least, firstLeast, cost, label};
+ghost use Rattle.model.specs.Cost.{at, dot, sizeAt, least, firstLeast, cost, label};
 ghost use Rattle.model.specs.Ready.{Ready, sizeOf, leastFrom, Begins, lossesFrom};
 
 pub fn times(a: i16, b: i16) -> i64
@@ -28,25 +28,34 @@ pub fn scaled(y: i16, power: u16) -> i64
     (y as i64) * (power as i64)
 }
 
+// One product more, of x and the coordinate at place k.
+pub fn added(t: i64, v: &[i16], k: usize, x: i16) -> i64
+    requires { ⌜ (k < length (now v)) × (natAbs t ≤ 3221225472) ⌝ }
+    ensures value { λ r. ⌜ r ≡ t +ℤ at (now (v .entry)) k *ℤ x ⌝ }
+    ensures small { λ r. ⌜ natAbs r ≤ natAbs t + 1073741824 ⌝ }
+{
+    t + times(v[k], x)
+}
+
 // Σ w × x of a point and the line whose coordinates begin at place b.
 pub fn dot_point(q: Point, v: &[i16], b: usize, d: usize) -> i64
     requires { ⌜ (b + d ≤ length (now v)) × (1 ≤ d) × (d ≤ 4) ⌝ }
     ensures value { λ r. ⌜ r ≡ dot (now (v .entry)) b (xs q) d ⌝ }
     ensures small { λ r. ⌜ natAbs r ≤ 4294967296 ⌝ }
 {
-    let one = times(v[b], q.x1);
+    let one = added(0, v, b, q.x1);
     if d == 1 {
         return one;
     }
-    let two = one + times(v[b + 1], q.x2);
+    let two = added(one, v, b + 1, q.x2);
     if d == 2 {
         return two;
     }
-    let three = two + times(v[b + 2], q.x3);
+    let three = added(two, v, b + 2, q.x3);
     if d == 3 {
         return three;
     }
-    three + times(v[b + 3], q.x4)
+    added(three, v, b + 3, q.x4)
 }
 
 // |e| of a point and that line.

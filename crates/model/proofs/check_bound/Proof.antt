@@ -1,7 +1,7 @@
 -- Checks in groups are the checks in order.
 use borrow.Author.Needs.{needs}
 use mathlib.Core.List.{[], _∷_}
-use mathlib.Core.Path.{_≡_, _∙_}
+use mathlib.Core.Path.{_∙_}
 use Rattle.codes.specs.Codes.{inOrder}
 use Rattle.codes.proofs.Laws.{in-order-group}
 use Rattle.boxes.specs.Boxes.{checkBox}

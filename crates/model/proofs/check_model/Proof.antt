@@ -1,6 +1,6 @@
 -- Checks in two pairs are the four in order.
 use borrow.Author.Needs.{needs}
-use mathlib.Core.Path.{_≡_, sym, ap, _∙_}
+use mathlib.Core.Path.{_∙_}
 use mathlib.Core.List.{[], _∷_}
 use lib.ListN.{length}
 use Rattle.codes.specs.Codes.{inOrder}

@@ -1,10 +1,10 @@
 -- The invariant: `sum` is the losses of the first k sizes, each at most 16,777,215². The measure is what is left of the block.
 use borrow.Author.Needs.{needs}
-use mathlib.Core.Path.{_≡_, refl, sym, ap, _∙_}
+use mathlib.Core.Path.{_≡_, refl, ap, _∙_}
 use mathlib.Core.List.{List}
-use Prim.Native.Nat.{ℕ, _+_, _*_, _-_, _≤_, _<_}
+use Prim.Native.Nat.{ℕ, _*_, _-_, _≤_}
 use native.Mathlib.Omega.{arith}
-use lib.ListN.{length, getD}
+use lib.ListN.{getD}
 use Rattle.loss.specs.Loss.{lossOf}
 use Rattle.loss.proofs.Laws.{loss-le}
 use Rattle.model.specs.Ready.{sumOf}

@@ -4,13 +4,12 @@ use mathlib.Core.Path.{_≡_, _∙_, ap}
 use Prim.Native.Nat.{_+_, _<_, _^_}
 use native.Mathlib.Omega.{arith}
 use lib.IntN.{ℤ, pos, natAbs, _-ℤ_, _*ℤ_}
-use lib.Signed.{_≤ℤ_}
 use mir.Syntax.{w16, w64}
 use mir.Facts.{toZ-ofZ}
 use Rattle.integers.specs.Integers.{maxZ}
 use Rattle.integers.proofs.Machine.{difference-fits, read-difference}
 use Rattle.points.specs.Points.{xs}
-use Rattle.model.specs.Cost.{dotMax, dotMin, nearestTo0}
+use Rattle.model.specs.Cost.{dotMax, dotMin}
 use Rattle.model.specs.Ready.{boxOf, positive}
 use Rattle.model.proofs.Spans.{positive-max, min-le-max}
 use Rattle.model.proofs.range.distance.Statement.{statement}

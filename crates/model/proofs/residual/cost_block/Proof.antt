@@ -1,6 +1,6 @@
 -- The losses of the sizes that were written are those of the block's points.
 use borrow.Author.Needs.{needs}
-use mathlib.Core.Path.{_≡_, ap, _∙_}
+use mathlib.Core.Path.{ap, _∙_}
 use Prim.Native.Nat.{ℕ, _+_}
 use Rattle.points.specs.Points.{pointAt}
 use Rattle.model.specs.Cost.{sizeAt}

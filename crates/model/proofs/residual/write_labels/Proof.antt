@@ -1,9 +1,9 @@
 -- The invariant: the first i bytes are the labels of the first i points, and the rest is as it was. The measure is the records left.
 use borrow.Author.Needs.{needs}
-use mathlib.Core.Path.{_≡_, sym, ap, _∙_}
-use Prim.Native.Nat.{ℕ, _+_, _*_, _-_, _/_, _^_, _≤_, _<_}
+use mathlib.Core.Path.{_≡_}
+use Prim.Native.Nat.{_-_, _/_, _^_, _<_}
 use native.Mathlib.Omega.{arith}
-use lib.ListN.{length, length-set}
+use lib.ListN.{length}
 use Rattle.points.specs.Points.{pointsOf}
 use Rattle.points.proofs.Laws.{points-length}
 use Rattle.model.specs.Cost.{label}

@@ -1,11 +1,9 @@
 -- The invariant: the first k numbers are found of the first k points (`Written`). The measure is what is left of the block.
-use borrow.Author.Needs.{needs}
 use mathlib.Core.Path.{_≡_}
 use mathlib.Core.List.{List}
-use Prim.Native.Nat.{ℕ, _+_, _*_, _-_, _≤_, _<_}
+use Prim.Native.Nat.{ℕ, _+_, _*_, _-_, _≤_}
 use native.Mathlib.Omega.{arith}
 use lib.IntN.{ℤ}
-use lib.ListN.{length}
 use Rattle.points.specs.declared.Point.{Point}
 use Rattle.model.specs.Ready.{sizeOf, leastFrom}
 use Rattle.model.proofs.Least.{from-le}
