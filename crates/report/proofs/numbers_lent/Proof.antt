@@ -1,0 +1,20 @@
+-- By the test of the rows.
+use borrow.Author.Tests.{le-leb, lt-leb}
+use borrow.Author.Needs.{needs}
+use Rattle.report.specs.Inside.{numbersLent}
+use Rattle.report.proofs.numbers_lent.Statement.{statement}
+use Rattle.report.proofs.numbers_lent.Tie as tie
+
+mul-result : tie.Need-mul-result
+mul-result c = search needs
+
+returns : tie.Need-returns
+unfolding numbersLent
+returns c = rw (le-leb _ _ (c .if1 .taken))
+
+returns-2 : tie.Need-returns-2
+unfolding numbersLent
+returns-2 c = rw (lt-leb _ _ (c .if1 .left))
+
+pub numbers-lent-spec : {M : Type 1} → statement M
+numbers-lent-spec = tie.close (tie.spec mul-result returns returns-2)

@@ -1,0 +1,48 @@
+-- The search of the front of the table.
+use mathlib.Core.Path.{sym}
+use Prim.Native.Nat.{_≤_}
+use native.Mathlib.Omega.{arith}
+use lib.ListN.{length}
+use lib.Seq.{length-take-le}
+use Rattle.report.proofs.Fitting.{lent-few, lent-back}
+use borrow.Author.Needs.{needs}
+use Rattle.report.proofs.search_rows.Statement.{statement}
+use Rattle.report.proofs.search_rows.Tie as tie
+
+numbers-lent-requires : tie.Need-numbers-lent-requires
+numbers-lent-requires c κs = search needs
+
+few : (c : tie.After-numbers-lent) → c .numbers-lent .result ≤ length (c .before .before .args .table .now)
+few c =
+    let s = c .before .before in
+    omega (arith, lent-few (s .args .job .rows), c .numbers-lent .ensures, s .pre)
+
+slice-relend-prefix-search : tie.Need-slice-relend-prefix-search
+slice-relend-prefix-search c = few c
+
+slice-aggregate-search : tie.Need-slice-aggregate-search
+slice-aggregate-search c = sym (length-take-le (c .before .numbers-lent .result) (c .before .before .before .args .table .now) (few (c .before)))
+
+search-requires : tie.Need-search-requires
+search-requires c κs = search needs
+
+same-length : tie.Need-same-length
+same-length c = search needs
+
+returns : tie.Need-returns
+returns c =
+    let q = c .before in
+    let n = q .before .before in
+    let a = n .before .before .args in
+    lent-back (a .store .now) (a .job) (a .table .now) (q .search .last .1 .1 .0) (q .search .result) (n .numbers-lent .result) (n .numbers-lent .ensures) (few n) (q .search .ensures)
+
+pub search-rows-spec : {M : Type 1} → statement M
+search-rows-spec =
+    tie.close
+    (tie.spec
+    numbers-lent-requires
+    slice-relend-prefix-search
+    slice-aggregate-search
+    search-requires
+    same-length
+    returns)

@@ -1,0 +1,62 @@
+-- What the program named fit makes of its input: "a job record and then a store", "with a table of at most 2,048 rows".
+use mathlib.Core.List.{List, [], _∷_, _++_}
+use mathlib.Core.Path.{_≡_}
+use Prim.Native.Nat.{ℕ, _*_}
+use lib.Dec.{leb}
+use lib.IntN.{ℤ}
+use lib.ListN.{length, take, drop}
+use Rattle.boxes.specs.Boxes.{checkBox, checkStart}
+use Rattle.codes.specs.Codes.{passIf, inOrder, within}
+use Rattle.codes.specs.declared.Check.{Check}
+use Rattle.codes.specs.declared.Check.the-variants.{Pass, Refuse}
+use Rattle.codes.specs.declared.Refusal.{Refusal}
+use Rattle.model.specs.Calls.{checkModel}
+use Rattle.points.specs.Points.{pointsOf, checkStray}
+use Rattle.records.specs.Jobs.{jobOf}
+use Rattle.search.specs.Search.{answerUnlessRefused, searched, TableAfter, Certified}
+use Rattle.search.specs.declared.Answer.{Answer}
+use Rattle.report.specs.Line.{line}
+
+-- what follows the job record
+abbrev pub storeOf : List ℕ → List ℕ
+storeOf input = drop 72 input
+
+-- "A search and fit make 1 to 8"; 1: also "input of fit under 72 bytes"; 8: "in fit, r not 1 to 2,048"
+unfoldable pub checkFit : List ℕ → Check
+checkFit input =
+    let job = jobOf input in
+    let m = job .model in
+    inOrder
+    (passIf (leb 72 (length input)) Refusal.Length
+    ∷ checkModel (storeOf input) m
+    ∷ checkBox (m .n) (m .d) (job .domain)
+    ∷ checkStart (job .domain) (job .start)
+    ∷ checkStray (m .d) (pointsOf (storeOf input))
+    ∷ passIf (within 1 (job .rows) 2048) Refusal.Table
+    ∷ [])
+
+-- the numbers of the job's r rows
+abbrev pub numbersOf : List ℕ → ℕ
+numbersOf input = 16 * (jobOf input) .rows
+
+-- the search of the job, in its r rows of the table
+unfoldable pub fitAnswer : List ℕ → List ℤ → Answer
+fitAnswer input table = answerUnlessRefused (checkFit input) (searched (storeOf input) (jobOf input) (take (numbersOf input) table))
+
+-- the line that fit writes
+unfoldable pub fitLine : List ℕ → List ℤ → List ℕ
+fitLine input table = line ((jobOf input) .model) (fitAnswer input table)
+
+-- the line, and then what was there before
+unfoldable pub written : List ℕ → List ℕ → List ℕ
+written text out = text ++ drop (length text) out
+
+-- The table afterwards: at a refusal as it was, else as the search leaves the job's rows; the other rows are kept.
+pub record TableKept (input : List ℕ) (table after : List ℤ) : Type 0 where
+  pub untouched : (why : Refusal) → checkFit input ≡ Refuse why → after ≡ table
+  pub rows : checkFit input ≡ Pass → TableAfter (storeOf input) (jobOf input) (take (numbersOf input) table) (take (numbersOf input) after)
+  pub rest : checkFit input ≡ Pass → drop (numbersOf input) after ≡ drop (numbersOf input) table
+
+-- what demand 3 asks of the answer to an accepted job
+abbrev pub FitCertified : List ℕ → List ℤ → Type 0
+FitCertified input table = checkFit input ≡ Pass → Certified (storeOf input) (jobOf input) (take (numbersOf input) table)
