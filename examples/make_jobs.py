@@ -2,7 +2,8 @@
 """Makes the examples: inputs of the program fit (NAME.job) and the same points as CSV files (NAME.csv).
 
 Each example hides two modes, y = w . x / 2^S, in noise and outliers. What fit prints for NAME.job stands in
-NAME.out. The points come from a fixed seed, so that every run writes the same files.
+NAME.out. The points come from a fixed seed, so that every run writes the same files. The bench fits G to J of the
+paper go into the folder fits.
 
   make_jobs.py [FOLDER]    writes them beside this script, or into FOLDER
 """
@@ -32,6 +33,15 @@ EXAMPLES = {
         "start": [0, 0, 0, 0, -1, 0, 0, 0],
         "hidden": [2, -1, 3, 1, -3, 2, 0, -2],
     },
+}
+
+
+# The bench fits G to J: one line, d = 1, x = 1, S = 0, start 0, t = 0.
+FITS = {
+    "G": {"y": [2, 2, 9], "high": 3, "p": 1, "epsilon": 2, "budget": 10, "rows": 4},
+    "H": {"y": [2, 2, 9], "high": 3, "p": 1, "epsilon": 2, "budget": 0, "rows": 4},
+    "I": {"y": [1, 6, 6], "high": 7, "p": 0, "epsilon": 0, "budget": 10, "rows": 1},
+    "J": {"y": [1, 6, 6], "high": 7, "p": 0, "epsilon": 0, "budget": 10, "rows": 4},
 }
 
 
@@ -84,12 +94,20 @@ def csv_of(points):
     return "\n".join([header] + [",".join(map(str, point)) for point in points]) + "\n"
 
 
+def fit_of(fit):
+    job = {**fit, "n": 1, "d": 1, "S": 0, "t": 0, "low": [0], "high": [fit["high"]], "start": [0]}
+    return job_of(job) + store_of([(1, y) for y in fit["y"]])
+
+
 def main():
     folder = pathlib.Path(sys.argv[1] if len(sys.argv) > 1 else pathlib.Path(__file__).parent)
     for name, example in EXAMPLES.items():
         points = points_of(example)
         (folder / f"{name}.job").write_bytes(job_of(example) + store_of(points))
         (folder / f"{name}.csv").write_bytes(csv_of(points).encode())
+    (folder / "fits").mkdir(exist_ok=True)
+    for name, fit in FITS.items():
+        (folder / "fits" / f"{name}.job").write_bytes(fit_of(fit))
 
 
 if __name__ == "__main__":

@@ -1,41 +1,32 @@
 -- The search that is lent the job's rows is the one of the definition: its checks, its answer and its table. Assumes nothing.
-use mathlib.Core.List.{List, [], _∷_, _++_}
+use mathlib.Core.List.{List, _++_}
 use mathlib.Core.Logic.{⊎-elim}
 use mathlib.Core.Path.{_≡_, refl, sym, ap, _∙_}
 use borrow.Author.Tests.{le-leb, lt-leb}
-use Prim.Native.Nat.{ℕ, _-_, _*_, _≤_, _<_}
-use native.Mathlib.Nat.{one-le-mul}
+use Prim.Native.Nat.{ℕ, _-_, _*_, _≤_, _<_, min}
+use native.Mathlib.Nat.{le-of-lt, min-eq-left}
 use native.Mathlib.Omega.{arith}
 use lib.Dec.{leb}
 use lib.IntN.{ℤ}
-use lib.ListN.{length, take, drop, take-append-drop, length-drop}
+use lib.ListN.{length, take, drop, take-append-drop, length-drop, drop-of-length-le}
 use lib.Seq.{length-take-le, take-all, take-at, drop-at}
 use Rattle.integers.proofs.Tests.{le-or-lt}
-use Rattle.boxes.proofs.Checks.{shape-passed}
-use Rattle.boxes.specs.Shape.{checkShape}
-use Rattle.certificate.specs.Search as Search
-use Rattle.certificate.specs.Search.{solved, spent, full}
-use Rattle.codes.proofs.Checks.{refused-not-passed, first-passed, others-passed}
-use Rattle.codes.specs.Codes.{inOrder, numberOf, within}
+use Rattle.codes.proofs.Checks.{refused-not-passed}
+use Rattle.codes.specs.Codes.{inOrder, within}
 use Rattle.codes.specs.declared.Check.{Check}
 use Rattle.codes.specs.declared.Check.the-variants.{Pass, Refuse}
 use Rattle.codes.specs.declared.Refusal.{Refusal}
 use Rattle.jobs.specs.declared.Job.{Job}
-use Rattle.jobs.specs.declared.Model.{Model}
-use Rattle.loss.specs.Loss.{checkLoss}
 use Rattle.model.specs.Calls.{checkModel}
 use Rattle.points.specs.Points.{checkStore}
 use Rattle.records.specs.Jobs.{jobOf, readJob}
 use Rattle.records.specs.declared.JobRead.{JobRead}
-use Rattle.scale.specs.Scale.{checkScale}
 use Rattle.search.proofs.Accepted.{accepted}
-use Rattle.search.specs.Search.{kindOf, checkSearch, answerUnlessRefused, searchAnswer, TableAfter, Certified}
+use Rattle.search.specs.Search.{checkSearch, searchAnswer, TableAfter, Certified}
 use Rattle.search.specs.declared.Answer.{Answer}
-use Rattle.report.specs.Inside.{Put, Searched, Shown, numbersLent}
-use Rattle.report.specs.Line.{field, fields, line, worded}
-use Rattle.report.specs.Report.{FitCertified, TableKept, checkFit, fitAnswer, fitLine, numbersOf, storeOf, written}
-use Rattle.report.specs.Text.{byte}
-use Rattle.report.proofs.Putting.{at-front}
+use Rattle.text.specs.Line.{line, written}
+use Rattle.report.specs.Inside.{Searched, numbersLent}
+use Rattle.report.specs.Report.{FitCertified, TableKept, checkFit, fitAnswer, fitLine, storeOf}
 
 -- no more numbers are lent than a table of 2,048 rows has
 pub lent-few : (r : ℕ) → numbersLent r ≤ 32768
@@ -84,147 +75,102 @@ lent-back store job table part a n e few q =
       certificate = rw (← e) (q .1 .1);
     }
 
--- what reading the job record says
-pub record Read (input : List ℕ) (job : Job) : Type 0 where
-  pub long : 72 ≤ length input
-  pub is : job ≡ jobOf input
-
-module _ (input : List ℕ) where
-  by-length : {A : Type 0} → (72 ≤ length input → A) → (length input < 72 → A) → A
-  by-length f g = ⊎-elim f g (le-or-lt 72 (length input))
-
-  module _ (r : JobRead) (e : r ≡ readJob input) where
-    pub read-passes : r .check ≡ Pass → Read input (r .job)
-    unfolding readJob
-    read-passes p =
-        let passes : readJob input .check ≡ Pass = sym (ap (λ (x : JobRead). x .check) e) ∙ p in
-        by-length
-        (λ whole. record { long = whole; is = ap (λ (x : JobRead). x .job) e ∙ rw (le-leb 72 (length input) whole) refl })
-        (λ short. refused-not-passed Refusal.Length (rw (lt-leb 72 (length input) short) at passes))
-
-    pub read-refuses : (why : Refusal) → r .check ≡ Refuse why → checkFit input ≡ Refuse why
-    unfolding readJob checkFit inOrder
-    read-refuses why p =
-        let refuses : readJob input .check ≡ Refuse why = sym (ap (λ (x : JobRead). x .check) e) ∙ p in
-        by-length
-        (λ whole. refused-not-passed why (sym (rw (le-leb 72 (length input) whole) at refuses)))
-        (λ short. rw (lt-leb 72 (length input) short) (rw (lt-leb 72 (length input) short) at refuses))
-
-  -- without a search nothing is touched
-  refused-table : (why : Refusal) (table : List ℤ) → checkFit input ≡ Refuse why → TableKept input table table × FitCertified input table
-  refused-table why table e = (
-    record {
-      untouched = λ w h. refl;
-      rows = λ h. refused-not-passed why (sym e ∙ h);
-      rest = λ h. refused-not-passed why (sym e ∙ h);
-    },
-    λ h. refused-not-passed why (sym e ∙ h),
-  )
-
--- a job that passes has coordinates to show
-module _ (store : List ℕ) (m : Model) where
-  shape : checkModel store m ≡ Pass → (1 ≤ m .n * m .d) × (m .n * m .d ≤ 8)
-  unfolding checkModel
-  shape e =
-      let others = checkScale (m .scale) ∷ checkLoss (m .p) (m .eps) ∷ [] in
-      let e₂ = others-passed (checkStore (length store)) (checkShape (m .n) (m .d) ∷ others) e in
-      let q = shape-passed (m .n) (m .d) (first-passed (checkShape (m .n) (m .d)) others e₂) in
-      (one-le-mul (q .some-lines) (q .some-used), q .few-coordinates)
-
-shown-kind : (k : Search.Kind) (used : ℕ) → (1 ≤ used) × (used ≤ 8) → Shown (kindOf k) used
-shown-kind solved used h = h
-shown-kind spent used h = h
-shown-kind full used h = h
-
-shown-answer : (c : Check) (r : Search.Answer) (used : ℕ) → (c ≡ Pass → (1 ≤ used) × (used ≤ 8)) → Shown ((answerUnlessRefused c r) .kind) used
-shown-answer Pass r used h = shown-kind (r .kind) used (h refl)
-shown-answer (Refuse why) r used h = tt
-
-pub shown : (store : List ℕ) (job : Job) (table : List ℤ) → Shown ((searchAnswer store job table) .kind) (job .model .n * job .model .d)
-unfolding searchAnswer
-shown store job table =
-    shown-answer (checkSearch store job (length table)) _ (job .model .n * job .model .d)
-    (λ e. shape store (job .model) (accepted store job (length table) e .checked))
-
-module _ (input : List ℕ) (table : List ℤ) (whole : 72 ≤ length input) (long : length table ≡ 32768) where
-  abbrev job : Job
-  job = jobOf input
-
-  abbrev lent : ℕ
-  lent = numbersLent (job .rows)
-
-  lent-long : length (take lent table) ≡ lent
-  lent-long = length-take-le lent table (omega (arith, lent-few (job .rows)))
-
-  same-checks : checkFit input ≡ checkSearch (storeOf input) job (length (take lent table))
-  unfolding checkFit checkSearch inOrder
-  same-checks = rw (le-leb 72 (length input) whole, lent-long, lent-row (job .rows)) refl
-
+module _ (input : List ℕ) (table : List ℤ) (long : length table ≡ 32768) where
   abbrev Promised : Answer → List ℤ → Type 0
   Promised a after = (a ≡ fitAnswer input table) × (TableKept input table after × FitCertified input table)
 
-  module _ (a : Answer) (after : List ℤ) (s : Searched (storeOf input) job table a after) where
-    accepted-fit : checkFit input ≡ Pass → Promised a after
+  by-length : {A : Type 0} → (72 ≤ length input → A) → (length input < 72 → A) → A
+  by-length f g = ⊎-elim f g (le-or-lt 72 (length input))
+
+  -- an input that is too short has no store
+  short-refused : length input < 72 → checkFit input ≡ Refuse Refusal.Length
+  unfolding checkFit inOrder
+  short-refused short = rw (lt-leb 72 (length input) short) refl
+
+  empty-refused : (job : Job) (numbers : ℕ) → length input < 72 → checkSearch (storeOf input) job numbers ≡ Refuse Refusal.Length
+  unfolding checkSearch checkModel checkStore inOrder
+  empty-refused job numbers short = rw (drop-of-length-le input {i = 72} (le-of-lt short)) refl
+
+  module _ (job : Job) (a : Answer) (after : List ℤ) (s : Searched (storeOf input) job table a after) where
+    abbrev lent : ℕ
+    lent = numbersLent (job .rows)
+
+    lent-long : length (take lent table) ≡ lent
+    lent-long = length-take-le lent table (omega (arith, lent-few (job .rows)))
+
+    same-checks : 72 ≤ length input → job ≡ jobOf input → checkFit input ≡ checkSearch (storeOf input) job (length (take lent table))
+    unfolding checkFit checkSearch inOrder
+    same-checks whole read = rw (le-leb 72 (length input) whole, lent-long, lent-row (job .rows), ← read) refl
+
+    refused-fit : (why : Refusal) → checkFit input ≡ Refuse why → checkSearch (storeOf input) job (length (take lent table)) ≡ Refuse why → Promised a after
     unfolding fitAnswer searchAnswer
-    accepted-fit e =
-        let pass = sym same-checks ∙ e in
+    refused-fit why e refuses =
+        let same : after ≡ table = sym (take-append-drop lent after) ∙ rw (s .rows .untouched why refuses, s .rest) (take-append-drop lent table) in (
+          s .told ∙ rw (refuses, e) refl,
+          (
+            record {
+              untouched = λ w h. same;
+              rows = λ h. refused-not-passed why (sym e ∙ h);
+              rest = λ h. refused-not-passed why (sym e ∙ h);
+            },
+            λ h. refused-not-passed why (sym e ∙ h),
+          ),
+        )
+
+    accepted-fit : job ≡ jobOf input → checkFit input ≡ Pass → checkSearch (storeOf input) job (length (take lent table)) ≡ Pass → Promised a after
+    unfolding fitAnswer searchAnswer
+    accepted-fit read e pass =
         let some = accepted (storeOf input) job (length (take lent table)) pass .rows in
-        let all : lent ≡ numbersOf input = lent-all (job .rows) (omega (arith, lent-long, some)) in (
+        let all : lent ≡ 16 * job .rows = lent-all (job .rows) (omega (arith, lent-long, some)) in
+        rw (← read) (
           s .told ∙ rw (pass, e, all) refl,
           (
             record {
               untouched = λ why h. refused-not-passed why (sym h ∙ e);
-              rows = λ h. rw all at (s .rows);
-              rest = λ h. rw all at (s .rest);
+              rows = λ h. rw (← read, ← all) (s .rows);
+              rest = λ h. rw (← read, ← all) (s .rest);
             },
-            λ h. rw all at (s .certificate),
+            λ h. rw (← all) (s .certificate),
           ),
         )
 
-    refused-fit : (why : Refusal) → checkFit input ≡ Refuse why → Promised a after
-    unfolding fitAnswer searchAnswer
-    refused-fit why e =
-        let refuses = sym same-checks ∙ e in
-        let same : after ≡ table = sym (take-append-drop lent after) ∙ rw (s .rows .untouched why refuses, s .rest) (take-append-drop lent table) in (
-          s .told ∙ rw (refuses, e) refl,
-          rw same (refused-table input why table e),
-        )
+    by-check : (c : Check) → checkFit input ≡ c → 72 ≤ length input → job ≡ jobOf input → Promised a after
+    by-check Pass e whole read = accepted-fit read e (sym (same-checks whole read) ∙ e)
+    by-check (Refuse why) e whole read = refused-fit why e (sym (same-checks whole read) ∙ e)
 
-    promised : Promised a after
-    promised = by-check (checkFit input) refl
-      where
-        by-check : (c : Check) → checkFit input ≡ c → Promised a after
-        by-check Pass e = accepted-fit e
-        by-check (Refuse why) e = refused-fit why e
+    promised : (72 ≤ length input → job ≡ jobOf input) → Promised a after
+    promised read =
+        by-length
+        (λ whole. by-check (checkFit input) refl whole (read whole))
+        (λ short. refused-fit Refusal.Length (short-refused short) (empty-refused job (length (take lent table)) short))
 
--- what follows the job record, as it is lent
-pub store-part : (input : List ℕ) → take (length input - 72) (drop 72 input) ≡ storeOf input
-store-part input = take-all (length input - 72) (drop 72 input) (omega (arith, length-drop 72 input))
+    same-line : (72 ≤ length input → job ≡ jobOf input) → a ≡ fitAnswer input table → line (job .model) a ≡ fitLine input table
+    unfolding fitLine fitAnswer line
+    same-line read e =
+        by-length
+        (λ whole. rw (e, read whole) refl)
+        (λ short. rw (e, short-refused short) refl)
 
--- what a report says of its answer, the buffer and the table afterwards
-abbrev pub Reported : List ℕ → List ℤ → List ℕ → ℕ → List ℕ → List ℤ → Type 0
-Reported input table out n text after =
-    (n ≡ length (fitLine input table)) × ((text ≡ written (fitLine input table) out) × (TableKept input table after × FitCertified input table))
+    -- what a report says
+    pub reported :
+        (out text : List ℕ) (n : ℕ) →
+        (72 ≤ length input → job ≡ jobOf input) →
+        (n ≡ length (line (job .model) a)) × (text ≡ written (line (job .model) a) out) →
+        (n ≡ length (fitLine input table)) × ((text ≡ written (fitLine input table) out) × (TableKept input table after × FitCertified input table))
+    reported out text n read q =
+        let p = promised read in
+        let is = same-line read (p .0) in
+        (q .0 ∙ ap length is, (q .1 ∙ ap (λ (l : List ℕ). written l out) is, p .1))
 
-module _ (input : List ℕ) (table after : List ℤ) (out text : List ℕ) (n : ℕ) where
-  pub searched-line :
-      (job : Job) (a : Answer) →
-      Read input job →
-      length table ≡ 32768 →
-      Searched (storeOf input) job table a after →
-      Put out 0 (worded (a .kind) (fields (job .model .n * job .model .d) a) ++ byte 10) n text →
-      Reported input table out n text after
-  unfolding fitLine line written
-  searched-line job a read long s put =
-      let p = promised input table (read .long) long a after (rw (read .is) at s) in
-      let q : Put out 0 (fitLine input table) n text = rw (← read .is, ← p .0) put in
-      let front = at-front q in
-      (front .0, (front .1, p .1))
+-- the job record is there, and what follows it is the store
+pub record-read : (input : List ℕ) (r : JobRead) → r ≡ readJob input → 72 ≤ length input → r .job ≡ jobOf input
+unfolding readJob
+record-read input r e whole = ap (λ (x : JobRead). x .job) e ∙ rw (le-leb 72 (length input) whole) refl
 
-  pub refused-line :
-      (why : Refusal) → checkFit input ≡ Refuse why → after ≡ table → Put out 0 (field "refused " (numberOf why) ++ byte 10) n text → Reported input table out n text after
-  unfolding fitLine line fitAnswer written
-  refused-line why e same put =
-      let q : Put out 0 (fitLine input table) n text = rw e put in
-      let front = at-front q in
-      (front .0, (front .1, rw same (refused-table input why table e)))
+pub store-part : (input : List ℕ) (start : ℕ) → start ≡ min 72 (length input) → take (length input - start) (drop start input) ≡ storeOf input
+store-part input start e =
+    take-all (length input - start) (drop start input) (omega (arith, length-drop start input))
+    ∙ ⊎-elim
+    (λ whole. ap (λ (k : ℕ). drop k input) (e ∙ min-eq-left whole))
+    (λ short. drop-of-length-le input {i = start} (omega (arith, e)) ∙ sym (drop-of-length-le input (le-of-lt short)))
+    (le-or-lt 72 (length input))

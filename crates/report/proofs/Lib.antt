@@ -1,4 +1,1 @@
-pub mod Putting
-pub mod Decimal
-pub mod Joining
 pub mod Fitting

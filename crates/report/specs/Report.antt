@@ -1,5 +1,5 @@
 -- What the program named fit makes of its input: "a job record and then a store", "with a table of at most 2,048 rows".
-use mathlib.Core.List.{List, [], _∷_, _++_}
+use mathlib.Core.List.{List, [], _∷_}
 use mathlib.Core.Path.{_≡_}
 use Prim.Native.Nat.{ℕ, _*_}
 use lib.Dec.{leb}
@@ -15,7 +15,7 @@ use Rattle.points.specs.Points.{pointsOf, checkStray}
 use Rattle.records.specs.Jobs.{jobOf}
 use Rattle.search.specs.Search.{answerUnlessRefused, searched, TableAfter, Certified}
 use Rattle.search.specs.declared.Answer.{Answer}
-use Rattle.report.specs.Line.{line}
+use Rattle.text.specs.Line.{line}
 
 -- what follows the job record
 abbrev pub storeOf : List ℕ → List ℕ
@@ -46,10 +46,6 @@ fitAnswer input table = answerUnlessRefused (checkFit input) (searched (storeOf 
 -- the line that fit writes
 unfoldable pub fitLine : List ℕ → List ℤ → List ℕ
 fitLine input table = line ((jobOf input) .model) (fitAnswer input table)
-
--- the line, and then what was there before
-unfoldable pub written : List ℕ → List ℕ → List ℕ
-written text out = text ++ drop (length text) out
 
 -- The table afterwards: at a refusal as it was, else as the search leaves the job's rows; the other rows are kept.
 pub record TableKept (input : List ℕ) (table after : List ℤ) : Type 0 where

@@ -1,19 +1,12 @@
 // All of the program fit on slices: the line of a job record and a store.
-mod line;
-mod text;
-
-use crate::line::put_line;
-use crate::line::put_refusal;
-use codes::Check;
 use jobs::Job;
 use search::Answer;
 ghost use mathlib.Core.Path.{_≡_};
-ghost use Prim.Native.Nat.{_*_, _≤_};
-ghost use mathlib.Core.Bool.{cond};
-ghost use lib.Dec.{leb};
+ghost use Prim.Native.Nat.{min};
 ghost use lib.ListN.{length};
 ghost use Rattle.report.specs.Inside.{Searched, numbersLent};
-ghost use Rattle.report.specs.Report.{FitCertified, TableKept, fitLine, written};
+ghost use Rattle.report.specs.Report.{FitCertified, TableKept, fitLine};
+ghost use Rattle.text.specs.Line.{written};
 
 // How many numbers of the table a search in r rows is lent: none if r is over 2,048, so that check 8 refuses it, as it does for 0 rows.
 fn numbers_lent(rows: u32) -> usize
@@ -35,7 +28,14 @@ fn search_rows(store: &[u8], job: Job, table: &mut [i16]) -> Answer
     search::search(store, job, &mut table[..n])
 }
 
-// The line of a job record and a store, at the front of a buffer that is long enough for every line: answers how long it is.
+// Where the store begins: behind the job record, or at the end of a shorter input, whose store is empty then and refused by 1.
+fn store_start(bytes: usize) -> usize
+    ensures { λ r. ⌜ r ≡ min 72 bytes ⌝ }
+{
+    if bytes < 72 { bytes } else { 72 }
+}
+
+// The line of a job record and a store, at the front of a buffer that every line fits into: answers how long it is.
 pub fn report(input: &[u8], table: &mut [i16; 32768], out: &mut [u8; 200]) -> usize
     ensures length { λ r. ⌜ r ≡ length (fitLine (now (input .entry)) (now (table .entry))) ⌝ }
     ensures line { λ _. ⌜ now (out .exit) ≡ written (fitLine (now (input .entry)) (now (table .entry))) (now (out .entry)) ⌝ }
@@ -43,14 +43,9 @@ pub fn report(input: &[u8], table: &mut [i16; 32768], out: &mut [u8; 200]) -> us
     ensures certificate { λ _. ⌜ FitCertified (now (input .entry)) (now (table .entry)) ⌝ }
 {
     let read = records::read_job(input);
-    let check = read.check;
-    match check {
-        Check::Pass => {
-            let job = read.job;
-            let m = job.model;
-            let answer = search_rows(&input[72..], job, table);
-            put_line(out, answer, (m.n as usize) * (m.d as usize))
-        }
-        Check::Refuse(why) => put_refusal(out, why),
-    }
+    let job = read.job;
+    let m = job.model;
+    let start = store_start(input.len());
+    let answer = search_rows(&input[start..], job, table);
+    text::line(m, answer, out)
 }

@@ -1,0 +1,65 @@
+-- What is written is the line that was put there.
+use mathlib.Core.Path.{sym}
+use Prim.Native.Nat.{_≤_}
+use lib.ListN.{length}
+use lib.Seq.{length-take-le}
+use Rattle.text.proofs.Putting.{written-long}
+use borrow.Author.Needs.{needs}
+use Rattle.fit.proofs.main.Statement.{statement}
+use Rattle.fit.proofs.main.Tie as tie
+
+input-space-requires : tie.Need-input-space-requires
+input-space-requires c κs = search needs
+
+table-space-requires : tie.Need-table-space-requires
+table-space-requires c κs = search needs
+
+line-space-requires : tie.Need-line-space-requires
+line-space-requires c κs = search needs
+
+slice-aggregate-read-full : tie.Need-slice-aggregate-read-full
+slice-aggregate-read-full c = search needs
+
+read-full-requires : tie.Need-read-full-requires
+read-full-requires c κs = search needs
+
+array-share-prefix-input : tie.Need-array-share-prefix-input
+array-share-prefix-input c = search needs
+
+slice-aggregate-report : tie.Need-slice-aggregate-report
+slice-aggregate-report c = search needs
+
+report-requires : tie.Need-report-requires
+report-requires c κs = search needs
+
+short : (c : tie.After-report) → c .report .result ≤ length (c .report .last .1 .1 .0)
+short c = rw (c .report .ensures .0, c .report .ensures .1 .0) (written-long _ _)
+
+array-share-prefix-line : tie.Need-array-share-prefix-line
+array-share-prefix-line c = short c
+
+slice-aggregate-write-all : tie.Need-slice-aggregate-write-all
+slice-aggregate-write-all c = sym (length-take-le (c .before .report .result) (c .before .report .last .1 .1 .0) (short (c .before)))
+
+write-all-requires : tie.Need-write-all-requires
+write-all-requires c κs = search needs
+
+returns : tie.Need-returns
+returns c = search needs
+
+pub main-spec : {M : Type 1} → statement M
+main-spec =
+    tie.close
+    (tie.spec
+    input-space-requires
+    table-space-requires
+    line-space-requires
+    slice-aggregate-read-full
+    read-full-requires
+    array-share-prefix-input
+    slice-aggregate-report
+    report-requires
+    array-share-prefix-line
+    slice-aggregate-write-all
+    write-all-requires
+    returns)

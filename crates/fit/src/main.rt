@@ -1,0 +1,32 @@
+// The program fit: reads a job record and a store from standard input and writes one line.
+ghost use mathlib.Core.Path.{_≡_};
+ghost use lib.ListN.{length};
+
+// One byte more than the longest input, so that a longer one shows. The contracts give the lengths alone: the proof of `main` needs no more.
+fn input_space() -> [u8; 49225]
+    ensures { λ r. ⌜ 49225 ≡ length r ⌝ }
+{
+    [0; 49225]
+}
+
+// 2,048 rows.
+fn table_space() -> [i16; 32768]
+    ensures { λ r. ⌜ 32768 ≡ length r ⌝ }
+{
+    [0; 32768]
+}
+
+fn line_space() -> [u8; 200]
+    ensures { λ r. ⌜ 200 ≡ length r ⌝ }
+{
+    [0; 200]
+}
+
+fn main() {
+    let mut input = input_space();
+    let mut table = table_space();
+    let mut line = line_space();
+    let n = io::read_full(0, &mut input);
+    let k = report::report(&input[..n], &mut table, &mut line);
+    io::write_all(1, &line[..k]);
+}

@@ -1,0 +1,41 @@
+-- The word and the number, and byte 10 behind them.
+use Rattle.text.proofs.Putting.{put-more}
+use borrow.Author.Needs.{needs}
+use Rattle.text.proofs.put_refusal.Statement.{statement}
+use Rattle.text.proofs.put_refusal.Tie as tie
+
+slice-aggregate-put-field : tie.Need-slice-aggregate-put-field
+slice-aggregate-put-field c = search needs
+
+number-requires : tie.Need-number-requires
+number-requires c κs = search needs
+
+cast-put-field : tie.Need-cast-put-field
+cast-put-field c = search needs
+
+put-field-requires : tie.Need-put-field-requires
+put-field-requires c κs = search needs
+
+put-byte-requires : tie.Need-put-byte-requires
+put-byte-requires c κs = search needs
+
+same-length : tie.Need-same-length
+same-length c = search needs
+
+returns : tie.Need-returns
+returns c =
+    let q = c .before .before in
+    let p = q .before .before .before .before in
+    put-more (rw (p .before .number .ensures) at (p .put-field .ensures .0)) (q .put-byte .ensures)
+
+pub put-refusal-spec : {M : Type 1} → statement M
+put-refusal-spec =
+    tie.close
+    (tie.spec
+    slice-aggregate-put-field
+    number-requires
+    cast-put-field
+    put-field-requires
+    put-byte-requires
+    same-length
+    returns)

@@ -1,0 +1,42 @@
+-- The line of an answer.
+use mathlib.Core.List.{List, _++_}
+use Prim.Native.Nat.{ℕ, _*_}
+use Prim.Native.String.{String}
+use lib.ListN.{length, take, drop}
+use Rattle.codes.specs.Codes.{numberOf}
+use Rattle.jobs.specs.declared.Model.{Model}
+use Rattle.search.specs.declared.Answer.{Answer}
+use Rattle.search.specs.declared.Kind.{Kind}
+use Rattle.search.specs.declared.Kind.the-variants.{Solved, Spent, Full, Refused}
+use Rattle.text.specs.Text.{ascii, byte, decimal, joined}
+
+-- a number behind its name
+abbrev pub field : String → ℕ → List ℕ
+field name n = ascii name ++ decimal n
+
+-- "The fields are C, L, count, open boxes, peak and the n × d used coordinates joined by commas".
+unfoldable pub fields : Model → Answer → List ℕ
+fields m a =
+    field " cost=" (a .cost)
+    ++ field " bound=" (a .bound)
+    ++ field " splits=" (a .count)
+    ++ field " open=" (a .«open»)
+    ++ field " peak=" (a .peak)
+    ++ ascii " w="
+    ++ joined (take (m .n * m .d) (a .vector))
+
+-- It "begins with the fixed bytes of solved, spent, full or refused. A refusal has one space and the refusal number after it, and no
+-- record number."
+abbrev pub worded : Kind → List ℕ → List ℕ
+worded Solved rest = ascii "solved" ++ rest
+worded Spent rest = ascii "spent" ++ rest
+worded Full rest = ascii "full" ++ rest
+worded (Refused why) rest = field "refused " (numberOf why)
+
+-- "Its one line, ended by byte 10".
+unfoldable pub line : Model → Answer → List ℕ
+line m a = worded (a .kind) (fields m a) ++ byte 10
+
+-- The line, and then what stood there before.
+unfoldable pub written : List ℕ → List ℕ → List ℕ
+written text out = text ++ drop (length text) out

@@ -1,0 +1,83 @@
+// The line of an answer, as text from the front of a buffer.
+mod put;
+
+use crate::put::put_byte;
+use crate::put::put_bytes;
+use crate::put::put_field;
+use crate::put::put_joined;
+use codes::Refusal;
+use jobs::Model;
+use search::Answer;
+use search::Kind;
+ghost use mathlib.Core.List.{_++_};
+ghost use mathlib.Core.Path.{_≡_};
+ghost use Prim.Native.Nat.{_+_, _*_, _≤_, min};
+ghost use lib.ListN.{length};
+ghost use Rattle.codes.specs.Codes.{numberOf};
+ghost use Rattle.text.specs.Inside.{Put};
+ghost use Rattle.text.specs.Line.{field, fields, worded, written};
+ghost use Rattle.text.specs.Line.{line as Line·line};
+ghost use Rattle.text.specs.Text.{byte};
+
+// The n × d used coordinates, of which a vector has 8 at most.
+fn used(m: Model) -> usize
+    ensures { λ r. ⌜ r ≡ min (m .n * m .d) 8 ⌝ }
+{
+    let nd = (m.n as usize) * (m.d as usize);
+    if nd < 8 { nd } else { 8 }
+}
+
+// The fields, behind the first word: 5 names and numbers, and 8 coordinates at most.
+fn put_fields(out: &mut [u8], at: usize, m: Model, a: Answer) -> usize
+    requires { ⌜ at + 192 ≤ length (now out) ⌝ }
+    ensures put { λ r. ⌜ Put (now (out .entry)) at (fields m a) r (now (out .exit)) ⌝ }
+    ensures short { λ r. ⌜ r ≤ at + 192 ⌝ }
+{
+    let cost = put_field(out, at, b" cost=", a.cost);
+    let bound = put_field(out, cost, b" bound=", a.bound);
+    let splits = put_field(out, bound, b" splits=", a.count as u64);
+    let open = put_field(out, splits, b" open=", a.open as u64);
+    let peak = put_field(out, open, b" peak=", a.peak as u64);
+    let name = put_bytes(out, peak, b" w=");
+    let vector = a.vector;
+    put_joined(out, name, vector, used(m))
+}
+
+// The line of an answer that begins with a word.
+fn put_answer(out: &mut [u8], word: &[u8], m: Model, a: Answer) -> usize
+    requires { ⌜ (length (now word) ≤ 6) × (200 ≤ length (now out)) ⌝ }
+    ensures { λ r. ⌜ Put (now (out .entry)) 0 (now (word .entry) ++ fields m a ++ byte 10) r (now (out .exit)) ⌝ }
+{
+    let first = put_bytes(out, 0, word);
+    let rest = put_fields(out, first, m, a);
+    put_byte(out, rest, b'\n')
+}
+
+fn put_refusal(out: &mut [u8], why: Refusal) -> usize
+    requires { ⌜ 200 ≤ length (now out) ⌝ }
+    ensures { λ r. ⌜ Put (now (out .entry)) 0 (field "refused " (numberOf why) ++ byte 10) r (now (out .exit)) ⌝ }
+{
+    let next = put_field(out, 0, b"refused ", codes::number(why) as u64);
+    put_byte(out, next, b'\n')
+}
+
+fn put_line(out: &mut [u8], m: Model, a: Answer) -> usize
+    requires { ⌜ 200 ≤ length (now out) ⌝ }
+    ensures { λ r. ⌜ Put (now (out .entry)) 0 (worded (a .kind) (fields m a) ++ byte 10) r (now (out .exit)) ⌝ }
+{
+    let kind = a.kind;
+    match kind {
+        Kind::Solved => put_answer(out, b"solved", m, a),
+        Kind::Spent => put_answer(out, b"spent", m, a),
+        Kind::Full => put_answer(out, b"full", m, a),
+        Kind::Refused(why) => put_refusal(out, why),
+    }
+}
+
+// The line of an answer to a job with that model, at the front of a buffer that every line fits into: answers how long it is.
+pub fn line(m: Model, a: Answer, out: &mut [u8; 200]) -> usize
+    ensures length { λ r. ⌜ r ≡ length (Line·line m a) ⌝ }
+    ensures line { λ _. ⌜ now (out .exit) ≡ written (Line·line m a) (now (out .entry)) ⌝ }
+{
+    put_line(out, m, a)
+}
