@@ -1,4 +1,5 @@
-"""The example files are those that their script makes, and the tool makes the same jobs from the CSV files."""
+"""The example files are those that their script makes, the tool makes the same jobs from the CSV files, and the program fit
+writes for each job the line that stands beside it."""
 
 import pathlib
 import subprocess
@@ -9,6 +10,8 @@ import unittest
 ROOT = pathlib.Path(__file__).resolve().parents[2]
 EXAMPLES = ROOT / "examples"
 TOOL = ROOT / "tools" / "vengutari.py"
+FIT = ROOT / "target" / "bin" / "fit"
+FITS = ["G", "H", "I", "J"]
 
 OPTIONS = {
     "modes_2d": ["--lines=2", "--dimensions=2", "--scale=4", "--loss=absolute", "--epsilon=1.5", "--budget=100000"]
@@ -22,10 +25,11 @@ class Examples(unittest.TestCase):
     def test_files_are_those_of_the_script(self):
         with tempfile.TemporaryDirectory() as folder:
             subprocess.run([sys.executable, str(EXAMPLES / "make_jobs.py"), folder], check=True)
-            made = sorted(pathlib.Path(folder).iterdir())
-            self.assertEqual([path.name for path in made], sorted(f"{name}.{end}" for name in OPTIONS for end in ("csv", "job")))
-            for path in made:
-                self.assertEqual(path.read_bytes(), (EXAMPLES / path.name).read_bytes(), path.name)
+            made = [str(path.relative_to(folder)) for path in pathlib.Path(folder).rglob("*") if path.is_file()]
+            expected = [f"{name}.{end}" for name in OPTIONS for end in ("csv", "job")] + [f"fits/{name}.job" for name in FITS]
+            self.assertEqual(sorted(made), sorted(expected))
+            for name in made:
+                self.assertEqual((pathlib.Path(folder) / name).read_bytes(), (EXAMPLES / name).read_bytes(), name)
 
     def test_the_tool_makes_the_same_jobs(self):
         for name, options in OPTIONS.items():
@@ -33,6 +37,17 @@ class Examples(unittest.TestCase):
             words = [sys.executable, str(TOOL), "job", points, *options, "--output", "-"]
             made = subprocess.run(words, check=True, capture_output=True).stdout
             self.assertEqual(made, (EXAMPLES / f"{name}.job").read_bytes(), name)
+
+    def test_fit_writes_the_lines(self):
+        for name in [*OPTIONS, *(f"fits/{name}" for name in FITS)]:
+            with open(EXAMPLES / f"{name}.job", "rb") as job:
+                line = subprocess.run([str(FIT)], stdin=job, check=True, capture_output=True).stdout
+            self.assertEqual(line, (EXAMPLES / f"{name}.out").read_bytes(), name)
+
+    def test_the_program_runs_on_fit_g(self):
+        """What the gate runs the program on is fit G."""
+        for name, end in (("stdin", "job"), ("stdout", "out")):
+            self.assertEqual((ROOT / "crates" / "fit" / name).read_bytes(), (EXAMPLES / "fits" / f"G.{end}").read_bytes(), name)
 
 
 if __name__ == "__main__":

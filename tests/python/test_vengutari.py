@@ -1,6 +1,5 @@
 """Tests of tools/vengutari.py, of its functions and of the command itself."""
 
-import os
 import pathlib
 import struct
 import subprocess
@@ -270,9 +269,8 @@ class Command(unittest.TestCase):
         self.assertIn(b"cost   0.75  (C = 3)", done.stdout)
         self.assertIn(b"line 1 1.25  (w = 5)", done.stdout)
 
-    @unittest.skipUnless(os.environ.get("ORACLE_FIT"), "ORACLE_FIT names no program")
     def test_with_a_real_search(self):
-        done = command("job", str(self.points), *FIT_G, "--fit", os.environ["ORACLE_FIT"])
+        done = command("job", str(self.points), *FIT_G, "--fit", str(ROOT / "target" / "bin" / "fit"))
         self.assertEqual(done.returncode, 0, done.stderr)
         self.assertIn(b"line 1 2  (w = 2)", done.stdout)
 
