@@ -17,11 +17,11 @@ use Rattle.integers.proofs.Parts.{abs-fits, ltZ-true, pos-up, pos-dn}
 use Rattle.integers.proofs.Tests.{le-or-lt}
 use Rattle.text.specs.Text.{ascii, byte, digitsOf, decimal, signed}
 
-last-digit : (k n : ℕ) → n < 10 → digitsOf (suc k) n ≡ byte (48 + n)
+pub last-digit : (k n : ℕ) → n < 10 → digitsOf (suc k) n ≡ byte (48 + n)
 unfolding digitsOf
 last-digit k n h = rw (lt-ltb n 10 h)
 
-more-digits : (k n : ℕ) → 10 ≤ n → digitsOf (suc k) n ≡ digitsOf k (n / 10) ++ byte (48 + n % 10)
+pub more-digits : (k n : ℕ) → 10 ≤ n → digitsOf (suc k) n ≡ digitsOf k (n / 10) ++ byte (48 + n % 10)
 unfolding digitsOf
 more-digits k n h = rw (le-ltb n 10 h)
 
