@@ -1,12 +1,13 @@
 -- The search that is lent the job's rows is the one of the definition: its checks, its answer and its table. Assumes nothing.
 use mathlib.Core.List.{List, _++_}
 use mathlib.Core.Logic.{⊎-elim}
-use mathlib.Core.Path.{_≡_, refl, sym, ap, _∙_}
+use mathlib.Core.Bool.{true, false}
+use mathlib.Core.Path.{_≡_, refl, sym, ap, _∙_, subst}
 use borrow.Author.Tests.{le-leb, lt-leb}
 use Prim.Native.Nat.{ℕ, _-_, _*_, _≤_, _<_, min}
 use native.Mathlib.Nat.{le-of-lt, min-eq-left}
 use native.Mathlib.Omega.{arith}
-use lib.Dec.{leb}
+use lib.Dec.{T, leb}
 use lib.IntN.{ℤ}
 use lib.ListN.{length, take, drop, take-append-drop, length-drop, drop-of-length-le}
 use lib.Seq.{length-take-le, take-all, take-at, drop-at}
@@ -24,9 +25,9 @@ use Rattle.records.specs.declared.JobRead.{JobRead}
 use Rattle.search.proofs.Accepted.{accepted}
 use Rattle.search.specs.Search.{checkSearch, searchAnswer, TableAfter, Certified}
 use Rattle.search.specs.declared.Answer.{Answer}
-use Rattle.text.specs.Line.{line, written}
+use Rattle.text.specs.Line.{line, lineIn, written}
 use Rattle.report.specs.Inside.{Searched, numbersLent}
-use Rattle.report.specs.Report.{FitCertified, TableKept, checkFit, fitAnswer, fitLine, storeOf}
+use Rattle.report.specs.Report.{FitCertified, TableKept, TableLent, checkFit, enough, fitAnswer, fitLine, reportLine, storeOf}
 
 -- no more numbers are lent than a table of 2,048 rows has
 pub lent-few : (r : ℕ) → numbersLent r ≤ 32768
@@ -75,7 +76,12 @@ lent-back store job table part a n e few q =
       certificate = rw (← e) (q .1 .1);
     }
 
-module _ (input : List ℕ) (table : List ℤ) (long : length table ≡ 32768) where
+-- what a report says of the length of the line, the buffer and the table
+abbrev Reported : List ℕ → List ℤ → List ℕ → ℕ → List ℕ → List ℤ → Type 0
+Reported input table out n text after =
+    (n ≡ length (fitLine input table)) × ((text ≡ written (fitLine input table) out) × (TableKept input table after × FitCertified input table))
+
+module _ (input : List ℕ) (table : List ℤ) (long : 32768 ≤ length table) where
   abbrev Promised : Answer → List ℤ → Type 0
   Promised a after = (a ≡ fitAnswer input table) × (TableKept input table after × FitCertified input table)
 
@@ -155,12 +161,15 @@ module _ (input : List ℕ) (table : List ℤ) (long : length table ≡ 32768) w
     pub reported :
         (out text : List ℕ) (n : ℕ) →
         (72 ≤ length input → job ≡ jobOf input) →
-        (n ≡ length (line (job .model) a)) × (text ≡ written (line (job .model) a) out) →
-        (n ≡ length (fitLine input table)) × ((text ≡ written (fitLine input table) out) × (TableKept input table after × FitCertified input table))
-    reported out text n read q =
+        200 ≤ length out →
+        (n ≡ length (lineIn (job .model) a out)) × (text ≡ written (lineIn (job .model) a out) out) →
+        Reported input table out n text after
+    unfolding lineIn
+    reported out text n read room q =
         let p = promised read in
         let is = same-line read (p .0) in
-        (q .0 ∙ ap length is, (q .1 ∙ ap (λ (l : List ℕ). written l out) is, p .1))
+        let fits = le-leb 200 (length out) room in
+        (rw fits at (q .0) ∙ ap length is, (rw fits at (q .1) ∙ ap (λ (l : List ℕ). written l out) is, p .1))
 
 -- the job record is there, and what follows it is the store
 pub record-read : (input : List ℕ) (r : JobRead) → r ≡ readJob input → 72 ≤ length input → r .job ≡ jobOf input
@@ -174,3 +183,27 @@ store-part input start e =
     (λ whole. ap (λ (k : ℕ). drop k input) (e ∙ min-eq-left whole))
     (λ short. drop-of-length-le input {i = start} (omega (arith, e)) ∙ sym (drop-of-length-le input (le-of-lt short)))
     (le-or-lt 72 (length input))
+
+true-not-false : {A : Type 0} → true ≡ false → A
+true-not-false e = absurd (subst T e tt)
+
+-- a report by what it is lent: too little, or enough
+module _ (input : List ℕ) (table : List ℤ) (out : List ℕ) where
+  abbrev Lent : ℕ → List ℕ → List ℤ → Type 0
+  Lent n text after =
+      (n ≡ length (reportLine input table out))
+      × ((text ≡ written (reportLine input table out) out) × (TableLent input table out after × (enough table out ≡ true → FitCertified input table)))
+
+  pub nothing-lent : enough table out ≡ false → Lent 0 out table
+  unfolding reportLine written
+  nothing-lent e = (
+    rw e refl,
+    (rw e refl, (record { idle = λ h. refl; kept = λ h. true-not-false (sym h ∙ e) }, λ h. true-not-false (sym h ∙ e))),
+  )
+
+  pub all-lent : (n : ℕ) (text : List ℕ) (after : List ℤ) → enough table out ≡ true → Reported input table out n text after → Lent n text after
+  unfolding reportLine
+  all-lent n text after e r = (
+    rw e (r .0),
+    (rw e (r .1 .0), (record { idle = λ h. true-not-false (sym e ∙ h); kept = λ h. r .1 .1 .0 }, λ h. r .1 .1 .1)),
+  )

@@ -1,4 +1,5 @@
 -- What the program named fit makes of its input: "a job record and then a store", "with a table of at most 2,048 rows".
+use mathlib.Core.Bool.{Bool, true, false, cond, _&&_}
 use mathlib.Core.List.{List, [], _∷_}
 use mathlib.Core.Path.{_≡_}
 use Prim.Native.Nat.{ℕ, _*_}
@@ -15,7 +16,7 @@ use Rattle.points.specs.Points.{pointsOf, checkStray}
 use Rattle.records.specs.Jobs.{jobOf}
 use Rattle.search.specs.Search.{answerUnlessRefused, searched, TableAfter, Certified}
 use Rattle.search.specs.declared.Answer.{Answer}
-use Rattle.text.specs.Line.{line}
+use Rattle.text.specs.Line.{line, takesLines}
 
 -- what follows the job record
 abbrev pub storeOf : List ℕ → List ℕ
@@ -47,11 +48,24 @@ fitAnswer input table = answerUnlessRefused (checkFit input) (searched (storeOf 
 unfoldable pub fitLine : List ℕ → List ℤ → List ℕ
 fitLine input table = line ((jobOf input) .model) (fitAnswer input table)
 
+-- whether the table has 2,048 rows and the buffer takes every line
+abbrev pub enough : List ℤ → List ℕ → Bool
+enough table out = leb 32768 (length table) && takesLines out
+
+-- the line that a report writes: none where it is lent too little
+unfoldable pub reportLine : List ℕ → List ℤ → List ℕ → List ℕ
+reportLine input table out = cond (enough table out) (fitLine input table) []
+
 -- The table afterwards: at a refusal as it was, else as the search leaves the job's rows; the other rows are kept.
 pub record TableKept (input : List ℕ) (table after : List ℤ) : Type 0 where
   pub untouched : (why : Refusal) → checkFit input ≡ Refuse why → after ≡ table
   pub rows : checkFit input ≡ Pass → TableAfter (storeOf input) (jobOf input) (take (numbersOf input) table) (take (numbersOf input) after)
   pub rest : checkFit input ≡ Pass → drop (numbersOf input) after ≡ drop (numbersOf input) table
+
+-- where too little is lent it stays as it was
+pub record TableLent (input : List ℕ) (table : List ℤ) (out : List ℕ) (after : List ℤ) : Type 0 where
+  pub idle : enough table out ≡ false → after ≡ table
+  pub kept : enough table out ≡ true → TableKept input table after
 
 -- what demand 3 asks of the answer to an accepted job
 abbrev pub FitCertified : List ℕ → List ℤ → Type 0

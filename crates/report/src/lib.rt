@@ -2,10 +2,11 @@
 use jobs::Job;
 use search::Answer;
 ghost use mathlib.Core.Path.{_≡_};
-ghost use Prim.Native.Nat.{min};
+ghost use mathlib.Core.Bool.{true};
+ghost use Prim.Native.Nat.{_≤_, min};
 ghost use lib.ListN.{length};
 ghost use Rattle.report.specs.Inside.{Searched, numbersLent};
-ghost use Rattle.report.specs.Report.{FitCertified, TableKept, fitLine};
+ghost use Rattle.report.specs.Report.{FitCertified, TableKept, TableLent, enough, fitLine, reportLine};
 ghost use Rattle.text.specs.Line.{written};
 
 // How many numbers of the table a search in r rows is lent: none if r is over 2,048, so that check 8 refuses it, as it does for 0 rows.
@@ -21,7 +22,7 @@ fn numbers_lent(rows: u32) -> usize
 
 // The search of a job in its r rows of the table.
 fn search_rows(store: &[u8], job: Job, table: &mut [i16]) -> Answer
-    requires { ⌜ length (now table) ≡ 32768 ⌝ }
+    requires { ⌜ 32768 ≤ length (now table) ⌝ }
     ensures { λ a. ⌜ Searched (now (store .entry)) job (now (table .entry)) a (now (table .exit)) ⌝ }
 {
     let n = numbers_lent(job.rows);
@@ -35,8 +36,9 @@ fn store_start(bytes: usize) -> usize
     if bytes < 72 { bytes } else { 72 }
 }
 
-// The line of a job record and a store, at the front of a buffer that every line fits into: answers how long it is.
-pub fn report(input: &[u8], table: &mut [i16; 32768], out: &mut [u8; 200]) -> usize
+// The line, where there are 2,048 rows and every line fits.
+fn write_line(input: &[u8], table: &mut [i16], out: &mut [u8]) -> usize
+    requires { ⌜ (32768 ≤ length (now table)) × (200 ≤ length (now out)) ⌝ }
     ensures length { λ r. ⌜ r ≡ length (fitLine (now (input .entry)) (now (table .entry))) ⌝ }
     ensures line { λ _. ⌜ now (out .exit) ≡ written (fitLine (now (input .entry)) (now (table .entry))) (now (out .entry)) ⌝ }
     ensures table { λ _. ⌜ TableKept (now (input .entry)) (now (table .entry)) (now (table .exit)) ⌝ }
@@ -48,4 +50,21 @@ pub fn report(input: &[u8], table: &mut [i16; 32768], out: &mut [u8; 200]) -> us
     let start = store_start(input.len());
     let answer = search_rows(&input[start..], job, table);
     text::line(m, answer, out)
+}
+
+// The line of a job record and a store, at the front of a buffer: answers how long it is. With a table of fewer than 2,048 rows, or a
+// buffer that some line does not fit into, it does nothing and answers 0.
+pub fn report(input: &[u8], table: &mut [i16], out: &mut [u8]) -> usize
+    ensures length { λ r. ⌜ r ≡ length (reportLine (now (input .entry)) (now (table .entry)) (now (out .entry))) ⌝ }
+    ensures line { λ _. ⌜ now (out .exit) ≡ written (reportLine (now (input .entry)) (now (table .entry)) (now (out .entry))) (now (out .entry)) ⌝ }
+    ensures table { λ _. ⌜ TableLent (now (input .entry)) (now (table .entry)) (now (out .entry)) (now (table .exit)) ⌝ }
+    ensures certificate { λ _. ⌜ (enough (now (table .entry)) (now (out .entry)) ≡ true → FitCertified (now (input .entry)) (now (table .entry))) ⌝ }
+{
+    if table.len() < 32768 {
+        return 0;
+    }
+    if out.len() < 200 {
+        return 0;
+    }
+    write_line(input, table, out)
 }

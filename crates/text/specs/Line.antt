@@ -1,7 +1,9 @@
 -- The line of an answer.
-use mathlib.Core.List.{List, _++_}
+use mathlib.Core.Bool.{Bool, cond}
+use mathlib.Core.List.{List, [], _++_}
 use Prim.Native.Nat.{ℕ, _*_}
 use Prim.Native.String.{String}
+use lib.Dec.{leb}
 use lib.ListN.{length, take, drop}
 use Rattle.codes.specs.Codes.{numberOf}
 use Rattle.jobs.specs.declared.Model.{Model}
@@ -36,6 +38,14 @@ worded (Refused why) rest = field "refused " (numberOf why)
 -- "Its one line, ended by byte 10".
 unfoldable pub line : Model → Answer → List ℕ
 line m a = worded (a .kind) (fields m a) ++ byte 10
+
+-- Whether every line fits into a buffer: a word, 5 names and numbers, 8 coordinates and the end are at most 200 bytes.
+abbrev pub takesLines : List ℕ → Bool
+takesLines out = leb 200 (length out)
+
+-- the line that goes into a buffer: none where some line would not fit
+unfoldable pub lineIn : Model → Answer → List ℕ → List ℕ
+lineIn m a out = cond (takesLines out) (line m a) []
 
 -- The line, and then what stood there before.
 unfoldable pub written : List ℕ → List ℕ → List ℕ

@@ -15,8 +15,7 @@ ghost use Prim.Native.Nat.{_+_, _*_, _≤_, min};
 ghost use lib.ListN.{length};
 ghost use Rattle.codes.specs.Codes.{numberOf};
 ghost use Rattle.text.specs.Inside.{Put};
-ghost use Rattle.text.specs.Line.{field, fields, worded, written};
-ghost use Rattle.text.specs.Line.{line as Line·line};
+ghost use Rattle.text.specs.Line.{field, fields, worded, lineIn, written};
 ghost use Rattle.text.specs.Text.{byte};
 
 // The n × d used coordinates, of which a vector has 8 at most.
@@ -74,10 +73,14 @@ fn put_line(out: &mut [u8], m: Model, a: Answer) -> usize
     }
 }
 
-// The line of an answer to a job with that model, at the front of a buffer that every line fits into: answers how long it is.
-pub fn line(m: Model, a: Answer, out: &mut [u8; 200]) -> usize
-    ensures length { λ r. ⌜ r ≡ length (Line·line m a) ⌝ }
-    ensures line { λ _. ⌜ now (out .exit) ≡ written (Line·line m a) (now (out .entry)) ⌝ }
+// The line of an answer to a job with that model, at the front of a buffer: answers how long it is. A buffer that some line does not fit
+// into is kept, and the answer is 0.
+pub fn line(m: Model, a: Answer, out: &mut [u8]) -> usize
+    ensures length { λ r. ⌜ r ≡ length (lineIn m a (now (out .entry))) ⌝ }
+    ensures line { λ _. ⌜ now (out .exit) ≡ written (lineIn m a (now (out .entry))) (now (out .entry)) ⌝ }
 {
+    if out.len() < 200 {
+        return 0;
+    }
     put_line(out, m, a)
 }

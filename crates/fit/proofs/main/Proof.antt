@@ -29,6 +29,12 @@ array-share-prefix-input c = search needs
 slice-aggregate-report : tie.Need-slice-aggregate-report
 slice-aggregate-report c = search needs
 
+slice-aggregate-report-2 : tie.Need-slice-aggregate-report-2
+slice-aggregate-report-2 c = search needs
+
+slice-aggregate-report-3 : tie.Need-slice-aggregate-report-3
+slice-aggregate-report-3 c = search needs
+
 report-requires : tie.Need-report-requires
 report-requires c κs = search needs
 
@@ -36,10 +42,12 @@ short : (c : tie.After-report) → c .report .result ≤ length (c .report .last
 short c = rw (c .report .ensures .0, c .report .ensures .1 .0) (written-long _ _)
 
 array-share-prefix-line : tie.Need-array-share-prefix-line
-array-share-prefix-line c = short c
+array-share-prefix-line c = short (c .before .before)
 
 slice-aggregate-write-all : tie.Need-slice-aggregate-write-all
-slice-aggregate-write-all c = sym (length-take-le (c .before .report .result) (c .before .report .last .1 .1 .0) (short (c .before)))
+slice-aggregate-write-all c =
+    let r = c .before .before .before in
+    sym (length-take-le (r .report .result) (r .report .last .1 .1 .0) (short r))
 
 write-all-requires : tie.Need-write-all-requires
 write-all-requires c κs = search needs
@@ -58,6 +66,8 @@ main-spec =
     read-full-requires
     array-share-prefix-input
     slice-aggregate-report
+    slice-aggregate-report-2
+    slice-aggregate-report-3
     report-requires
     array-share-prefix-line
     slice-aggregate-write-all
