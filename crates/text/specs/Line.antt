@@ -16,16 +16,14 @@ use Rattle.text.specs.Text.{ascii, byte, decimal, joined}
 abbrev pub field : String → ℕ → List ℕ
 field name n = ascii name ++ decimal n
 
--- "The fields are C, L, count, open boxes, peak and the n × d used coordinates joined by commas".
+-- "The fields are C, L, count, open boxes, peak …"
+abbrev pub numbers : ℕ → ℕ → ℕ → ℕ → ℕ → List ℕ
+numbers c l count opened peak =
+    field " cost=" c ++ field " bound=" l ++ field " splits=" count ++ field " open=" opened ++ field " peak=" peak
+
+-- "… and the n × d used coordinates joined by commas".
 unfoldable pub fields : Model → Answer → List ℕ
-fields m a =
-    field " cost=" (a .cost)
-    ++ field " bound=" (a .bound)
-    ++ field " splits=" (a .count)
-    ++ field " open=" (a .«open»)
-    ++ field " peak=" (a .peak)
-    ++ ascii " w="
-    ++ joined (take (m .n * m .d) (a .vector))
+fields m a = numbers (a .cost) (a .bound) (a .count) (a .«open») (a .peak) ++ ascii " w=" ++ joined (take (m .n * m .d) (a .vector))
 
 -- It "begins with the fixed bytes of solved, spent, full or refused. A refusal has one space and the refusal number after it, and no
 -- record number."

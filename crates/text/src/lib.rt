@@ -15,7 +15,7 @@ ghost use Prim.Native.Nat.{_+_, _*_, _≤_, min};
 ghost use lib.ListN.{length};
 ghost use Rattle.codes.specs.Codes.{numberOf};
 ghost use Rattle.text.specs.Inside.{Put};
-ghost use Rattle.text.specs.Line.{field, fields, worded, lineIn, written};
+ghost use Rattle.text.specs.Line.{field, fields, numbers, worded, lineIn, written};
 ghost use Rattle.text.specs.Text.{byte};
 
 // The n × d used coordinates, of which a vector has 8 at most.
@@ -26,18 +26,43 @@ fn used(m: Model) -> usize
     if nd < 8 { nd } else { 8 }
 }
 
-// The fields, behind the first word: 5 names and numbers, and 8 coordinates at most.
+// C, L, the count, the open boxes and the peak, each behind its name.
+fn put_numbers(
+    out: &mut [u8],
+    at: usize,
+    cost: u64,
+    bound: u64,
+    splits: u64,
+    open: u64,
+    peak: u64,
+) -> usize
+    requires { ⌜ at + 133 ≤ length (now out) ⌝ }
+    ensures put { λ r. ⌜ Put (now (out .entry)) at (numbers cost bound splits «open» peak) r (now (out .exit)) ⌝ }
+    ensures short { λ r. ⌜ r ≤ at + 133 ⌝ }
+{
+    let c = put_field(out, at, b" cost=", cost);
+    let b = put_field(out, c, b" bound=", bound);
+    let s = put_field(out, b, b" splits=", splits);
+    let o = put_field(out, s, b" open=", open);
+    put_field(out, o, b" peak=", peak)
+}
+
+// The fields, behind the first word.
 fn put_fields(out: &mut [u8], at: usize, m: Model, a: Answer) -> usize
     requires { ⌜ at + 192 ≤ length (now out) ⌝ }
     ensures put { λ r. ⌜ Put (now (out .entry)) at (fields m a) r (now (out .exit)) ⌝ }
     ensures short { λ r. ⌜ r ≤ at + 192 ⌝ }
 {
-    let cost = put_field(out, at, b" cost=", a.cost);
-    let bound = put_field(out, cost, b" bound=", a.bound);
-    let splits = put_field(out, bound, b" splits=", a.count as u64);
-    let open = put_field(out, splits, b" open=", a.open as u64);
-    let peak = put_field(out, open, b" peak=", a.peak as u64);
-    let name = put_bytes(out, peak, b" w=");
+    let numbers = put_numbers(
+        out,
+        at,
+        a.cost,
+        a.bound,
+        a.count as u64,
+        a.open as u64,
+        a.peak as u64,
+    );
+    let name = put_bytes(out, numbers, b" w=");
     let vector = a.vector;
     put_joined(out, name, vector, used(m))
 }
