@@ -3,7 +3,7 @@ use mathlib.Core.List as List
 use mathlib.Core.List.{List}
 use mathlib.Core.Path.{_≡_}
 use Prim.Native.Nat.{ℕ, _+_, _-_, _*_, _≤_}
-use lib.IntN.{ℤ, negsuc}
+use lib.IntN.{negsuc}
 use lib.ListN.{getD}
 use Rattle.integers.specs.Lists.{All}
 use Rattle.text.specs.Text.{ascii, decimal, signed}

@@ -1,6 +1,5 @@
 // Text behind text: each function writes at a place of a buffer, keeps everything else and answers the place behind what it wrote.
 ghost use mathlib.Core.List.{_++_};
-ghost use mathlib.Core.Path.{_≡_};
 ghost use Prim.Native.Nat.{_+_, _*_, _≤_, _<_};
 ghost use lib.ListN.{length, take};
 ghost use Rattle.text.specs.Inside.{Put};
