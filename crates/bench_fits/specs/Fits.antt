@@ -2,6 +2,7 @@
 use mathlib.Core.List.{List, [], _∷_, _++_}
 use mathlib.Core.Path.{_≡_}
 use Prim.Native.Nat.{ℕ, _-_}
+use Prim.Native.String.{String}
 use lib.IntN.{ℤ, pos, natAbs}
 use lib.ListN.{length, replicate}
 use Rattle.codes.specs.declared.Check.the-variants.{Pass}
@@ -11,8 +12,11 @@ use Rattle.jobs.specs.declared.Model.{Model}
 use Rattle.loss.specs.Loss.{lossOf}
 use Rattle.points.specs.declared.Point.{Point}
 use Rattle.model.specs.Cost.{residual, leastSize, label, cost, bound}
-use Rattle.certificate.specs.Search.{Answer, Kind, search}
+use Rattle.certificate.specs.Search.{search}
 use Rattle.coefficients.specs.Coefficient.{patternOf}
+use Rattle.search.specs.Search.{told}
+use Rattle.text.specs.Line.{line}
+use Rattle.text.specs.Text.{ascii, byte}
 
 pub data Fit : Type 0 where
   -- the residual of the first line
@@ -24,8 +28,8 @@ pub data Fit : Type 0 where
   least-size-is : Model → Box → Point → ℕ → Fit
   -- a box of the shape n × d, and its halves
   splits-into : ℕ → ℕ → Box → Box → Box → Fit
-  -- the answer of a search, by the points, the box, the start vector, t, the budget and r
-  search-is : Model → List Point → Box → List ℤ → ℕ → ℕ → ℕ → Answer → Fit
+  -- the line that fit writes of a search, by the points, the box, the start vector, t, the budget and r
+  output-is : Model → List Point → Box → List ℤ → ℕ → ℕ → ℕ → String → Fit
   -- the single-precision pattern of w, by S
   pattern-is : ℕ → ℤ → ℕ → Fit
 
@@ -35,7 +39,7 @@ Holds (loss-is p ε e value) = lossOf p ε (natAbs e) ≡ value
 Holds (label-is m v q value) = label m v q ≡ value
 Holds (least-size-is m B q value) = leastSize m B q 0 ≡ value
 Holds (splits-into n d B first second) = splitAnswer n d B ≡ record { check = Pass; left = first; right = second }
-Holds (search-is m qs B start t budget r a) = search (cost m qs) (bound m qs) budget r t start B ≡ a
+Holds (output-is m qs B start t budget r text) = line m (told (search (cost m qs) (bound m qs) budget r t start B)) ≡ ascii text ++ byte 10
 Holds (pattern-is S w bits) = patternOf S w ≡ bits
 
 -- a vector with these coordinates and 0 after them
@@ -56,8 +60,3 @@ lines n S p ε = record { n = n; d = 1; scale = S; p = p; eps = ε }
 abbrev pub ys : List ℤ → List Point
 ys [] = []
 ys (y ∷ rest) = point (pos 1) y ∷ ys rest
-
--- what fit prints of an answer with one coordinate: kind, cost, bound, splits, the open boxes, peak and w
-abbrev pub prints : Kind → ℕ → ℕ → ℕ → List Box → ℕ → ℤ → Answer
-prints kind C L splits open-boxes peak w =
-    record { kind = kind; vector = vector (w ∷ []); cost = C; bound = L; count = splits; list = open-boxes; peak = peak }

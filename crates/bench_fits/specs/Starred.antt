@@ -2,8 +2,7 @@
 use mathlib.Core.List.{List, [], _∷_}
 use lib.IntN.{pos, negsuc}
 use Rattle.integers.specs.Lists.{All}
-use Rattle.certificate.specs.Search.{solved, spent, full}
-use Rattle.bench_fits.specs.Fits.{Fit, residual-is, loss-is, label-is, least-size-is, splits-into, search-is, pattern-is, Holds, vector, box, point, ys, lines, prints}
+use Rattle.bench_fits.specs.Fits.{Fit, residual-is, loss-is, label-is, least-size-is, splits-into, output-is, pattern-is, Holds, vector, box, point, ys, lines}
 
 -- `negsuc n` is −(n + 1).
 abbrev pub starred : List Fit
@@ -30,18 +29,18 @@ starred =
     (box (pos 0 ∷ pos 0 ∷ []) (pos 4 ∷ pos 4 ∷ []))
     (box (pos 0 ∷ pos 0 ∷ []) (pos 2 ∷ pos 4 ∷ []))
     (box (pos 3 ∷ pos 0 ∷ []) (pos 4 ∷ pos 4 ∷ []))
-    -- G: y = 2, 2, 9; box 0..3, start 0, p = 1, ε = 2, t = 0, budget 10, r = 4: solved cost=2 bound=2 splits=1 open=0 peak=1 w=2.
-    ∷ search-is (lines 1 0 1 2) (ys (pos 2 ∷ pos 2 ∷ pos 9 ∷ [])) (box (pos 0 ∷ []) (pos 3 ∷ [])) (vector (pos 0 ∷ [])) 0 10 4
-    (prints solved 2 2 1 [] 1 (pos 2))
-    -- H: G with budget 0: spent cost=6 bound=2 splits=0 open=1 peak=1 w=0.
-    ∷ search-is (lines 1 0 1 2) (ys (pos 2 ∷ pos 2 ∷ pos 9 ∷ [])) (box (pos 0 ∷ []) (pos 3 ∷ [])) (vector (pos 0 ∷ [])) 0 0 4
-    (prints spent 6 2 0 (box (pos 0 ∷ []) (pos 3 ∷ []) ∷ []) 1 (pos 0))
-    -- I: y = 1, 6, 6; box 0..7, start 0, p = 0, ε = 0, t = 0, budget 10, r = 1: full cost=3 bound=0 splits=0 open=1 peak=1 w=0.
-    ∷ search-is (lines 1 0 0 0) (ys (pos 1 ∷ pos 6 ∷ pos 6 ∷ [])) (box (pos 0 ∷ []) (pos 7 ∷ [])) (vector (pos 0 ∷ [])) 0 10 1
-    (prints full 3 0 0 (box (pos 0 ∷ []) (pos 7 ∷ []) ∷ []) 1 (pos 0))
-    -- J: with r = 4: solved cost=1 bound=1 splits=2 open=0 peak=2 w=6.
-    ∷ search-is (lines 1 0 0 0) (ys (pos 1 ∷ pos 6 ∷ pos 6 ∷ [])) (box (pos 0 ∷ []) (pos 7 ∷ [])) (vector (pos 0 ∷ [])) 0 10 4
-    (prints solved 1 1 2 [] 2 (pos 6))
+    -- G: y = 2, 2, 9; box 0..3, start 0, p = 1, ε = 2, t = 0, budget 10, r = 4. Given to fit, the output is:
+    ∷ output-is (lines 1 0 1 2) (ys (pos 2 ∷ pos 2 ∷ pos 9 ∷ [])) (box (pos 0 ∷ []) (pos 3 ∷ [])) (vector (pos 0 ∷ [])) 0 10 4
+    "solved cost=2 bound=2 splits=1 open=0 peak=1 w=2"
+    -- H: G with budget 0.
+    ∷ output-is (lines 1 0 1 2) (ys (pos 2 ∷ pos 2 ∷ pos 9 ∷ [])) (box (pos 0 ∷ []) (pos 3 ∷ [])) (vector (pos 0 ∷ [])) 0 0 4
+    "spent cost=6 bound=2 splits=0 open=1 peak=1 w=0"
+    -- I: y = 1, 6, 6; box 0..7, start 0, p = 0, ε = 0, t = 0, budget 10, r = 1.
+    ∷ output-is (lines 1 0 0 0) (ys (pos 1 ∷ pos 6 ∷ pos 6 ∷ [])) (box (pos 0 ∷ []) (pos 7 ∷ [])) (vector (pos 0 ∷ [])) 0 10 1
+    "full cost=3 bound=0 splits=0 open=1 peak=1 w=0"
+    -- J: with r = 4.
+    ∷ output-is (lines 1 0 0 0) (ys (pos 1 ∷ pos 6 ∷ pos 6 ∷ [])) (box (pos 0 ∷ []) (pos 7 ∷ [])) (vector (pos 0 ∷ [])) 0 10 4
+    "solved cost=1 bound=1 splits=2 open=0 peak=2 w=6"
     -- K: w = −3, S = 1 is 0xBFC00000; w = 1, S = 15 is 0x38000000.
     ∷ pattern-is 1 (negsuc 2) 0xBFC0_0000
     ∷ pattern-is 15 (pos 1) 0x3800_0000
