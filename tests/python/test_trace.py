@@ -31,9 +31,20 @@ def stands_in_code(crate, name, clauses):
     return re.search(public, source) and all(re.search(rf"\bensures {clause} ", source) for clause in clauses)
 
 
-def stands(name, parts=()):
+def compared(group, off):
+    """A group of cases, on if its call is in the list `exported`; the page says of the others that they are off."""
+    found = re.search(rf'group!\("{group}", "(\w+)",', text(COMPARE / "cases" / "mod.rs"))
+    exported = re.search(r"^exported = \[(.*?)\]", text(COMPARE.parent / "Cargo.toml"), re.M | re.S)[1]
+    return found and (f'"{found[1]}"' in exported) != off
+
+
+def stands(name, parts=(), off=False):
     """Whether what a name of the page means is there, with the fields or clauses in brackets behind it."""
     parts = list(parts)
+    if found := re.fullmatch(r"compare ([\w-]+)", name):
+        return compared(found[1], off) and not parts
+    if off:
+        return False
     if found := re.fullmatch(r"(\w+(?:/proofs)?/\w+): (.+)", name):
         return stands_in_logic(*found.groups(), parts)
     if found := re.fullmatch(r"(\w+)::(\w+)", name):
@@ -42,8 +53,6 @@ def stands(name, parts=()):
         return False
     if found := re.fullmatch(r"must-fail (\w+)/(\w+)", name):
         return (CRATES / found[1] / "must-fail" / f"{found[2]}.edit").is_file()
-    if found := re.fullmatch(r"compare ([\w-]+)", name):
-        return f'group!("{found[1]}",' in text(COMPARE / "cases" / "mod.rs")
     if found := re.fullmatch(r"slip (\w+)", name):
         return re.search(rf"^ +{found[1]},$", text(COMPARE / "slips" / "mod.rs"), re.M)
     if found := re.fullmatch(r"program (\w+)", name):
@@ -64,9 +73,9 @@ def rows():
 class Trace(unittest.TestCase):
     def test_names_stand_where_the_page_says(self):
         cells = "\n".join(cell for _, row in rows() for cell in row)
-        names = re.findall(r"`([^`]+)`(?: \(([\w-]+(?:, [\w-]+)*)\))?", cells)
+        names = re.findall(r"`([^`]+)`(?: \(([\w-]+(?:, [\w-]+)*)\))?(, off\b)?", cells)
         self.assertGreater(len(names), 300)
-        wrong = [(name, parts) for name, parts in names if not stands(name, parts.split(", ") if parts else ())]
+        wrong = [name for name in names if not stands(name[0], name[1].split(", ") if name[1] else (), bool(name[2]))]
         self.assertEqual(wrong, [])
 
     def test_no_cell_is_empty(self):
@@ -79,6 +88,7 @@ class Trace(unittest.TestCase):
             self.assertFalse(stands(name), name)
         self.assertFalse(stands("loss/Laws: LossLaws", ["falls"]))
         self.assertFalse(stands("model::labels", ["outcome"]))
+        self.assertFalse(stands("compare loss", off=True))
 
 
 if __name__ == "__main__":
