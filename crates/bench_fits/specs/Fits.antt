@@ -1,22 +1,23 @@
 -- What a bench fit can say of the definitions.
 use mathlib.Core.List.{List, [], _∷_, _++_}
 use mathlib.Core.Path.{_≡_}
-use Prim.Native.Nat.{ℕ, _-_}
+use Prim.Native.Nat.{ℕ, _-_, _*_}
 use Prim.Native.String.{String}
 use lib.IntN.{ℤ, pos, natAbs}
 use lib.ListN.{length, replicate}
 use Rattle.codes.specs.declared.Check.the-variants.{Pass}
 use Rattle.boxes.specs.declared.Box.{Box}
 use Rattle.boxes.specs.Split.{splitAnswer}
+use Rattle.jobs.specs.declared.Job.{Job}
 use Rattle.jobs.specs.declared.Model.{Model}
 use Rattle.loss.specs.Loss.{lossOf}
 use Rattle.points.specs.declared.Point.{Point}
-use Rattle.model.specs.Cost.{residual, leastSize, label, cost, bound}
-use Rattle.certificate.specs.Search.{search}
+use Rattle.model.specs.Cost.{residual, leastSize, label}
 use Rattle.coefficients.specs.Coefficient.{patternOf}
-use Rattle.search.specs.Search.{told}
-use Rattle.text.specs.Line.{line}
+use Rattle.records.specs.Fields.{vectorBytes}
+use Rattle.records.specs.Jobs.{jobBytes}
 use Rattle.text.specs.Text.{ascii, byte}
+use Rattle.report.specs.Report.{fitLine}
 
 pub data Fit : Type 0 where
   -- the residual of the first line
@@ -28,10 +29,15 @@ pub data Fit : Type 0 where
   least-size-is : Model → Box → Point → ℕ → Fit
   -- a box of the shape n × d, and its halves
   splits-into : ℕ → ℕ → Box → Box → Box → Fit
-  -- the line that fit writes of a search, by the points, the box, the start vector, t, the budget and r
-  output-is : Model → List Point → Box → List ℤ → ℕ → ℕ → ℕ → String → Fit
+  -- the line that fit writes of a job and of the points with x = 1 and these y
+  fit-writes : Job → List ℤ → String → Fit
   -- the single-precision pattern of w, by S
   pattern-is : ℕ → ℤ → ℕ → Fit
+
+-- a store of points with x = 1 and these y; the frame numbers are 0
+abbrev pub store : List ℤ → List ℕ
+store [] = []
+store (y ∷ ys) = vectorBytes (pos 1 ∷ pos 0 ∷ pos 0 ∷ pos 0 ∷ y ∷ pos 0 ∷ []) ++ store ys
 
 abbrev pub Holds : Fit → Type 0
 Holds (residual-is m v q e) = residual m v q 0 ≡ e
@@ -39,7 +45,7 @@ Holds (loss-is p ε e value) = lossOf p ε (natAbs e) ≡ value
 Holds (label-is m v q value) = label m v q ≡ value
 Holds (least-size-is m B q value) = leastSize m B q 0 ≡ value
 Holds (splits-into n d B first second) = splitAnswer n d B ≡ record { check = Pass; left = first; right = second }
-Holds (output-is m qs B start t budget r text) = line m (told (search (cost m qs) (bound m qs) budget r t start B)) ≡ ascii text ++ byte 10
+Holds (fit-writes job ys line) = fitLine (jobBytes job ++ store ys) (replicate (16 * job .rows) (pos 0)) ≡ ascii line ++ byte 10
 Holds (pattern-is S w bits) = patternOf S w ≡ bits
 
 -- a vector with these coordinates and 0 after them
@@ -56,7 +62,7 @@ point x y = record { x1 = x; x2 = pos 0; x3 = pos 0; x4 = pos 0; y = y; frame = 
 abbrev pub lines : ℕ → ℕ → ℕ → ℕ → Model
 lines n S p ε = record { n = n; d = 1; scale = S; p = p; eps = ε }
 
--- points with x = 1
-abbrev pub ys : List ℤ → List Point
-ys [] = []
-ys (y ∷ rest) = point (pos 1) y ∷ ys rest
+-- one line from 0 to `high`, start 0, t = 0, by p, ε, `high`, the budget and r
+abbrev pub job : ℕ → ℕ → ℕ → ℕ → ℕ → Job
+job p ε high budget r =
+    record { model = lines 1 0 p ε; t = 0; budget = budget; rows = r; domain = box (pos 0 ∷ []) (pos high ∷ []); start = vector (pos 0 ∷ []) }

@@ -2,7 +2,7 @@
 use mathlib.Core.List.{List, [], _∷_}
 use lib.IntN.{pos, negsuc}
 use Rattle.integers.specs.Lists.{All}
-use Rattle.bench_fits.specs.Fits.{Fit, residual-is, loss-is, label-is, least-size-is, splits-into, output-is, pattern-is, Holds, vector, box, point, ys, lines}
+use Rattle.bench_fits.specs.Fits.{Fit, residual-is, loss-is, label-is, least-size-is, splits-into, fit-writes, pattern-is, Holds, vector, box, point, lines, job}
 
 -- `negsuc n` is −(n + 1).
 abbrev pub starred : List Fit
@@ -29,18 +29,14 @@ starred =
     (box (pos 0 ∷ pos 0 ∷ []) (pos 4 ∷ pos 4 ∷ []))
     (box (pos 0 ∷ pos 0 ∷ []) (pos 2 ∷ pos 4 ∷ []))
     (box (pos 3 ∷ pos 0 ∷ []) (pos 4 ∷ pos 4 ∷ []))
-    -- G: y = 2, 2, 9; box 0..3, start 0, p = 1, ε = 2, t = 0, budget 10, r = 4. Given to fit, the output is:
-    ∷ output-is (lines 1 0 1 2) (ys (pos 2 ∷ pos 2 ∷ pos 9 ∷ [])) (box (pos 0 ∷ []) (pos 3 ∷ [])) (vector (pos 0 ∷ [])) 0 10 4
-    "solved cost=2 bound=2 splits=1 open=0 peak=1 w=2"
+    -- G: y = 2, 2, 9; box 0..3, start 0, p = 1, ε = 2, t = 0, budget 10, r = 4.
+    ∷ fit-writes (job 1 2 3 10 4) (pos 2 ∷ pos 2 ∷ pos 9 ∷ []) "solved cost=2 bound=2 splits=1 open=0 peak=1 w=2"
     -- H: G with budget 0.
-    ∷ output-is (lines 1 0 1 2) (ys (pos 2 ∷ pos 2 ∷ pos 9 ∷ [])) (box (pos 0 ∷ []) (pos 3 ∷ [])) (vector (pos 0 ∷ [])) 0 0 4
-    "spent cost=6 bound=2 splits=0 open=1 peak=1 w=0"
+    ∷ fit-writes (job 1 2 3 0 4) (pos 2 ∷ pos 2 ∷ pos 9 ∷ []) "spent cost=6 bound=2 splits=0 open=1 peak=1 w=0"
     -- I: y = 1, 6, 6; box 0..7, start 0, p = 0, ε = 0, t = 0, budget 10, r = 1.
-    ∷ output-is (lines 1 0 0 0) (ys (pos 1 ∷ pos 6 ∷ pos 6 ∷ [])) (box (pos 0 ∷ []) (pos 7 ∷ [])) (vector (pos 0 ∷ [])) 0 10 1
-    "full cost=3 bound=0 splits=0 open=1 peak=1 w=0"
+    ∷ fit-writes (job 0 0 7 10 1) (pos 1 ∷ pos 6 ∷ pos 6 ∷ []) "full cost=3 bound=0 splits=0 open=1 peak=1 w=0"
     -- J: with r = 4.
-    ∷ output-is (lines 1 0 0 0) (ys (pos 1 ∷ pos 6 ∷ pos 6 ∷ [])) (box (pos 0 ∷ []) (pos 7 ∷ [])) (vector (pos 0 ∷ [])) 0 10 4
-    "solved cost=1 bound=1 splits=2 open=0 peak=2 w=6"
+    ∷ fit-writes (job 0 0 7 10 4) (pos 1 ∷ pos 6 ∷ pos 6 ∷ []) "solved cost=1 bound=1 splits=2 open=0 peak=2 w=6"
     -- K: w = −3, S = 1 is 0xBFC00000; w = 1, S = 15 is 0x38000000.
     ∷ pattern-is 1 (negsuc 2) 0xBFC0_0000
     ∷ pattern-is 15 (pos 1) 0x3800_0000
