@@ -142,7 +142,7 @@ pub fn write_nears(
     }
 }
 
-// A loop of its own for d = 1 and for d = 2, as for the cost.
+// A loop of its own for each d, as for the cost.
 pub fn nears_by_d(
     s: &[u8],
     i: usize,
@@ -161,7 +161,8 @@ pub fn nears_by_d(
     match d {
         1 => write_nears(s, i, count, low, high, n, 1, power, eps, out),
         2 => write_nears(s, i, count, low, high, n, 2, power, eps, out),
-        _ => write_nears(s, i, count, low, high, n, d, power, eps, out),
+        3 => write_nears(s, i, count, low, high, n, 3, power, eps, out),
+        _ => write_nears(s, i, count, low, high, n, 4, power, eps, out),
     }
 }
 

@@ -104,7 +104,7 @@ pub fn write_sizes(
     }
 }
 
-// A loop of its own for d = 1 and for d = 2, which the compiler makes without the fields that are not used.
+// A loop of its own for each d, which the compiler makes without a test of d and without the fields that are not used.
 pub fn sizes_by_d(
     s: &[u8],
     i: usize,
@@ -122,7 +122,8 @@ pub fn sizes_by_d(
     match d {
         1 => write_sizes(s, i, count, v, n, 1, power, eps, out),
         2 => write_sizes(s, i, count, v, n, 2, power, eps, out),
-        _ => write_sizes(s, i, count, v, n, d, power, eps, out),
+        3 => write_sizes(s, i, count, v, n, 3, power, eps, out),
+        _ => write_sizes(s, i, count, v, n, 4, power, eps, out),
     }
 }
 

@@ -22,12 +22,13 @@ use Rattle.model.specs.Calls.{checkModel}
 use Rattle.points.specs.Points.{checkStore}
 use Rattle.records.specs.Jobs.{jobOf, readJob}
 use Rattle.records.specs.declared.JobRead.{JobRead}
+use Rattle.rows.specs.Rows.{rowCount}
 use Rattle.search.proofs.Accepted.{accepted}
 use Rattle.search.specs.Search.{checkSearch, searchAnswer, TableAfter, Certified}
 use Rattle.search.specs.declared.Answer.{Answer}
 use Rattle.text.specs.Line.{line, lineIn, written}
 use Rattle.report.specs.Inside.{Searched, numbersLent}
-use Rattle.report.specs.Report.{FitCertified, TableKept, TableLent, checkFit, enough, fitAnswer, fitLine, reportLine, storeOf}
+use Rattle.report.specs.Report.{FitCertified, TableAfterFit, TableLent, checkFit, enough, fitAnswer, fitLine, reportLine, storeOf}
 
 -- no more numbers are lent than a table of 2,048 rows has
 pub lent-few : (r : ℕ) → numbersLent r ≤ 32768
@@ -79,11 +80,11 @@ lent-back store job table part a n e few q =
 -- what a report says of the length of the line, the buffer and the table
 abbrev Reported : List ℕ → List ℤ → List ℕ → ℕ → List ℕ → List ℤ → Type 0
 Reported input table out n text after =
-    (n ≡ length (fitLine input table)) × ((text ≡ written (fitLine input table) out) × (TableKept input table after × FitCertified input table))
+    (n ≡ length (fitLine input table)) × ((text ≡ written (fitLine input table) out) × (TableAfterFit input table after × FitCertified input table))
 
 module _ (input : List ℕ) (table : List ℤ) (long : 32768 ≤ length table) where
   abbrev Promised : Answer → List ℤ → Type 0
-  Promised a after = (a ≡ fitAnswer input table) × (TableKept input table after × FitCertified input table)
+  Promised a after = (a ≡ fitAnswer input table) × (TableAfterFit input table after × FitCertified input table)
 
   by-length : {A : Type 0} → (72 ≤ length input → A) → (length input < 72 → A) → A
   by-length f g = ⊎-elim f g (le-or-lt 72 (length input))
@@ -116,7 +117,8 @@ module _ (input : List ℕ) (table : List ℤ) (long : 32768 ≤ length table) w
           (
             record {
               untouched = λ w h. same;
-              rows = λ h. refused-not-passed why (sym e ∙ h);
+              open-rows = λ h. refused-not-passed why (sym e ∙ h);
+              unused = λ h. refused-not-passed why (sym e ∙ h);
               rest = λ h. refused-not-passed why (sym e ∙ h);
             },
             λ h. refused-not-passed why (sym e ∙ h),
@@ -128,15 +130,17 @@ module _ (input : List ℕ) (table : List ℤ) (long : 32768 ≤ length table) w
     accepted-fit read e pass =
         let some = accepted (storeOf input) job (length (take lent table)) pass .rows in
         let all : lent ≡ 16 * job .rows = lent-all (job .rows) (omega (arith, lent-long, some)) in
+        let rows : rowCount (take lent table) ≡ job .rows = omega (arith, lent-long, all) in
         rw (← read) (
           s .told ∙ rw (pass, e, all) refl,
           (
             record {
               untouched = λ why h. refused-not-passed why (sym h ∙ e);
-              rows = λ h. rw (← read, ← all) (s .rows);
+              open-rows = λ h. rw (← read) (rw all at (s .rows .open-rows pass));
+              unused = λ h. rw (← read) (rw all at (s .rows .rest pass));
               rest = λ h. rw (← read, ← all) (s .rest);
             },
-            λ h. rw (← all) (s .certificate),
+            λ h. rw (rows, all) at (s .certificate pass),
           ),
         )
 

@@ -7,14 +7,18 @@ use lib.Dec.{leb}
 use lib.IntN.{ℤ}
 use lib.ListN.{length, take, drop}
 use Rattle.boxes.specs.Boxes.{checkBox, checkStart}
+use Rattle.certificate.specs.Certificate.{Certificate}
+use Rattle.certificate.specs.Search as Search
 use Rattle.codes.specs.Codes.{passIf, inOrder, within}
 use Rattle.codes.specs.declared.Check.{Check}
 use Rattle.codes.specs.declared.Check.the-variants.{Pass, Refuse}
 use Rattle.codes.specs.declared.Refusal.{Refusal}
 use Rattle.model.specs.Calls.{checkModel}
+use Rattle.model.specs.Cost.{cost, bound}
 use Rattle.points.specs.Points.{pointsOf, checkStray}
 use Rattle.records.specs.Jobs.{jobOf}
-use Rattle.search.specs.Search.{answerUnlessRefused, searched, TableAfter, Certified}
+use Rattle.rows.specs.Rows.{rowsOf}
+use Rattle.search.specs.Search.{answerUnlessRefused, searched}
 use Rattle.search.specs.declared.Answer.{Answer}
 use Rattle.text.specs.Line.{line, takesLines}
 
@@ -41,8 +45,11 @@ abbrev pub numbersOf : List ℕ → ℕ
 numbersOf input = 16 * (jobOf input) .rows
 
 -- the search of the job, in its r rows of the table
+abbrev pub fitSearch : List ℕ → List ℤ → Search.Answer
+fitSearch input table = searched (storeOf input) (jobOf input) (take (numbersOf input) table)
+
 unfoldable pub fitAnswer : List ℕ → List ℤ → Answer
-fitAnswer input table = answerUnlessRefused (checkFit input) (searched (storeOf input) (jobOf input) (take (numbersOf input) table))
+fitAnswer input table = answerUnlessRefused (checkFit input) (fitSearch input table)
 
 -- the line that fit writes
 unfoldable pub fitLine : List ℕ → List ℤ → List ℕ
@@ -56,17 +63,26 @@ enough table out = leb 32768 (length table) && takesLines out
 unfoldable pub reportLine : List ℕ → List ℤ → List ℕ → List ℕ
 reportLine input table out = cond (enough table out) (fitLine input table) []
 
--- The table afterwards: at a refusal as it was, else as the search leaves the job's rows; the other rows are kept.
-pub record TableKept (input : List ℕ) (table after : List ℤ) : Type 0 where
+-- The table afterwards. At a refusal it is as it was. Else, of the job's rows, "the first rows hold the open boxes in list order" and from peak
+-- on nothing changed; the other rows are kept.
+pub record TableAfterFit (input : List ℕ) (table after : List ℤ) : Type 0 where
   pub untouched : (why : Refusal) → checkFit input ≡ Refuse why → after ≡ table
-  pub rows : checkFit input ≡ Pass → TableAfter (storeOf input) (jobOf input) (take (numbersOf input) table) (take (numbersOf input) after)
+  pub open-rows : checkFit input ≡ Pass → rowsOf (take (numbersOf input) after) (length ((fitSearch input table) .list)) ≡ (fitSearch input table) .list
+  pub unused :
+      checkFit input ≡ Pass →
+      drop (16 * (fitSearch input table) .peak) (take (numbersOf input) after) ≡ drop (16 * (fitSearch input table) .peak) (take (numbersOf input) table)
   pub rest : checkFit input ≡ Pass → drop (numbersOf input) after ≡ drop (numbersOf input) table
 
 -- where too little is lent it stays as it was
 pub record TableLent (input : List ℕ) (table : List ℤ) (out : List ℕ) (after : List ℤ) : Type 0 where
   pub idle : enough table out ≡ false → after ≡ table
-  pub kept : enough table out ≡ true → TableKept input table after
+  pub kept : enough table out ≡ true → TableAfterFit input table after
 
--- what demand 3 asks of the answer to an accepted job
+-- What demand 3 asks of the answer to an accepted job, with its r rows.
 abbrev pub FitCertified : List ℕ → List ℤ → Type 0
-FitCertified input table = checkFit input ≡ Pass → Certified (storeOf input) (jobOf input) (take (numbersOf input) table)
+FitCertified input table =
+    let job = jobOf input in
+    let points = pointsOf (storeOf input) in
+    checkFit input ≡ Pass →
+    Certificate (cost (job .model) points) (bound (job .model) points) (job .budget) (job .rows) (job .t) (job .start) (job .domain)
+    (fitSearch input table)

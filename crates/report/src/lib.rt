@@ -6,7 +6,7 @@ ghost use mathlib.Core.Bool.{true};
 ghost use Prim.Native.Nat.{_≤_, min};
 ghost use lib.ListN.{length};
 ghost use Rattle.report.specs.Inside.{Searched, numbersLent};
-ghost use Rattle.report.specs.Report.{FitCertified, TableKept, TableLent, enough, fitLine, reportLine};
+ghost use Rattle.report.specs.Report.{FitCertified, TableAfterFit, TableLent, enough, fitLine, reportLine};
 ghost use Rattle.text.specs.Line.{written};
 
 // How many numbers of the table a search in r rows is lent: none if r is over 2,048, so that check 8 refuses it, as it does for 0 rows.
@@ -41,7 +41,7 @@ fn write_line(input: &[u8], table: &mut [i16], out: &mut [u8]) -> usize
     requires { ⌜ (32768 ≤ length (now table)) × (200 ≤ length (now out)) ⌝ }
     ensures length { λ r. ⌜ r ≡ length (fitLine (now (input .entry)) (now (table .entry))) ⌝ }
     ensures line { λ _. ⌜ now (out .exit) ≡ written (fitLine (now (input .entry)) (now (table .entry))) (now (out .entry)) ⌝ }
-    ensures table { λ _. ⌜ TableKept (now (input .entry)) (now (table .entry)) (now (table .exit)) ⌝ }
+    ensures table { λ _. ⌜ TableAfterFit (now (input .entry)) (now (table .entry)) (now (table .exit)) ⌝ }
     ensures certificate { λ _. ⌜ FitCertified (now (input .entry)) (now (table .entry)) ⌝ }
 {
     let read = records::read_job(input);
