@@ -6,4 +6,3 @@ pub mod Halving
 pub mod Grid
 pub mod Checks
 pub mod Splitting
-pub mod Fits

@@ -13,7 +13,7 @@ ghost use mathlib.Core.Bool.{_&&_};
 ghost use lib.Dec.{eqb};
 ghost use lib.ListN.{length};
 ghost use Rattle.boundary.specs.Boundary.{modelOf, jobFrom, filled, answered, codeOf, valueAfter, ifAccepted};
-ghost use Rattle.search.specs.Search.{Certified};
+ghost use Rattle.search.specs.Search.{searchAnswer, Certified};
 ghost use Rattle.capi.specs.Searches.{outcomeOf, numbersOf, searchLengths, searchCall, vectorAfter, numbersAfter, TableAfterCall};
 
 fn outcome_of(k: Kind) -> Outcome
@@ -84,7 +84,7 @@ pub extern "C" fn vengutari_search(
     ensures vector { λ _. ⌜ now (vector .exit) ≡ vectorAfter (searchLengths (now (corners .entry)) (now (start .entry)) (now (vector .entry)) (now (numbers .entry))) (now (store .entry)) (jobFrom (modelOf n d scale p eps) t budget 0 (now (corners .entry)) (now (start .entry))) (now (table .entry)) (now (vector .entry)) ⌝ }
     ensures numbers { λ _. ⌜ now (numbers .exit) ≡ numbersAfter (searchLengths (now (corners .entry)) (now (start .entry)) (now (vector .entry)) (now (numbers .entry))) (now (store .entry)) (jobFrom (modelOf n d scale p eps) t budget 0 (now (corners .entry)) (now (start .entry))) (now (table .entry)) (now (numbers .entry)) ⌝ }
     ensures table { λ _. ⌜ TableAfterCall (searchLengths (now (corners .entry)) (now (start .entry)) (now (vector .entry)) (now (numbers .entry))) (now (store .entry)) (jobFrom (modelOf n d scale p eps) t budget 0 (now (corners .entry)) (now (start .entry))) (now (table .entry)) (now (table .exit)) ⌝ }
-    ensures certificate { λ k. ⌜ (k ≡ 0 → Certified (now (store .entry)) (jobFrom (modelOf n d scale p eps) t budget 0 (now (corners .entry)) (now (start .entry))) (now (table .entry))) ⌝ }
+    ensures certificate { λ k. ⌜ (k ≡ 0 → Certified (now (store .entry)) (jobFrom (modelOf n d scale p eps) t budget 0 (now (corners .entry)) (now (start .entry))) (now (table .entry)) (searchAnswer (now (store .entry)) (jobFrom (modelOf n d scale p eps) t budget 0 (now (corners .entry)) (now (start .entry))) (now (table .entry)))) ⌝ }
 {
     if !lengths_right(corners.len(), start.len(), vector.len(), numbers.len()) {
         return WRONG_LENGTH;

@@ -7,4 +7,3 @@ pub mod Steps
 pub mod Reached
 pub mod Certified
 pub mod Running
-pub mod Fits

@@ -1,16 +1,14 @@
--- Three checks that all pass, and the scale that check 3 lets through.
--- Assumes nothing.
+-- Three checks that all pass, and the scale behind check 2. Assumes nothing.
 use mathlib.Core.Path.{_≡_, sym, _∙_}
 use mathlib.Core.List.{[], _∷_}
 use Prim.Native.Nat.{ℕ, _≤_}
-use lib.Dec.{leb, leb→le}
 use Rattle.codes.specs.declared.Check.{Check}
 use Rattle.codes.specs.declared.Check.the-variants.{Pass}
-use Rattle.codes.specs.declared.Refusal.the-variants.{Scale}
 use Rattle.codes.specs.Codes.{inOrder}
-use Rattle.codes.proofs.Checks.{passed, first-passed, others-passed}
+use Rattle.codes.proofs.Checks.{first-passed, others-passed}
 use Rattle.codes.proofs.Laws.{in-order-one}
 use Rattle.scale.specs.Scale.{checkScale}
+use Rattle.scale.proofs.Checks.{scale-within}
 
 pub three-pass : (a b c : Check) → inOrder (a ∷ b ∷ c ∷ []) ≡ Pass → (a ≡ Pass) × (b ≡ Pass) × (c ≡ Pass)
 three-pass a b c e =
@@ -20,10 +18,6 @@ three-pass a b c e =
 pub pass-three : {a b c : Check} → a ≡ Pass → b ≡ Pass → c ≡ Pass → inOrder (a ∷ b ∷ c ∷ []) ≡ Pass
 unfolding inOrder
 pass-three p q r = λ i. inOrder (p i ∷ q i ∷ r i ∷ [])
-
-pub scale-within : (S : ℕ) → checkScale S ≡ Pass → S ≤ 15
-unfolding checkScale
-scale-within S e = leb→le S 15 (passed (leb S 15) Scale e)
 
 -- checks 2 and 3, which writing and reading both make first
 pub scale-checked : (a : Check) (S : ℕ) → inOrder (a ∷ checkScale S ∷ []) ≡ Pass → S ≤ 15

@@ -1,4 +1,4 @@
--- The laws of specs/Laws.antt, and the bench fit K. A line goes through pattern by pattern: each on the grid is some w's, and each w's is on the grid.
+-- The laws of specs/Laws.antt. A line goes through pattern by pattern: each on the grid is some w's, and each w's is on the grid.
 -- Assumes nothing.
 use mathlib.Core.Path.{_≡_, refl, sym, ap, _∙_}
 use mathlib.Core.Bool.{true, _&&_}
@@ -26,17 +26,9 @@ use Rattle.coefficients.specs.Laws.{ExactCoefficient, ExactReading, Four
 use Rattle.coefficients.specs.declared.Line.{Line}
 use Rattle.coefficients.proofs.Exact.{coefficient-exact, coefficient-bits}
 use Rattle.coefficients.proofs.Grid.{found, missed, nan-missed, on-grid, coordinate-fits}
-use Rattle.coefficients.proofs.Checks.{scale-within, three-pass, pass-three}
+use Rattle.scale.proofs.Checks.{scale-within}
+use Rattle.coefficients.proofs.Checks.{three-pass, pass-three}
 use Rattle.coefficients.proofs.Lines.{both, four-mapped, rest-zero-read}
-
--- ---- the bench fit K
-pub pattern-of-minus-three-halves : patternOf 1 (negsuc 2) ≡ 0xBFC0_0000
-unfolding patternOf fieldsOf exponentOf fractionOf size
-pattern-of-minus-three-halves = refl
-
-pub pattern-of-smallest : patternOf 15 (pos 1) ≡ 0x3800_0000
-unfolding patternOf fieldsOf exponentOf fractionOf size
-pattern-of-smallest = refl
 
 -- ---- one number
 module _ (S : ℕ) (h : S ≤ 15) where

@@ -16,10 +16,12 @@ use Rattle.codes.proofs.Checks.{passed, first-passed, others-passed}
 use Rattle.integers.proofs.Tests.{and-parts}
 use Rattle.boxes.specs.declared.Box.{Box}
 use Rattle.boxes.specs.Shape.{checkShape}
+use Rattle.boxes.proofs.Checks.{shape-passed}
 use Rattle.jobs.specs.declared.Model.{Model}
 use Rattle.loss.specs.Loss.{checkLoss}
 use Rattle.points.specs.Points.{pointsOf, checkStore}
 use Rattle.scale.specs.Scale.{checkScale}
+use Rattle.scale.proofs.Checks.{scale-within}
 use Rattle.model.specs.Calls.{checkModel, checkCost, checkBound, checkLabels}
 use Rattle.model.specs.Ready.{Ready}
 
@@ -33,19 +35,6 @@ module _ (bytes : ℕ) (m : Model) where
   store-few : checkStore bytes ≡ Pass → bytes ≤ 49152
   unfolding checkStore
   store-few e = within-parts 1 bytes 49152 (and-parts (within 1 bytes 49152) (eqb (bytes % 12) 0) (passed (within 1 bytes 49152 && eqb (bytes % 12) 0) Length e) .0) .1
-
-  shape-within : checkShape (m .n) (m .d) ≡ Pass → (1 ≤ m .n) × (m .n ≤ 4) × (1 ≤ m .d) × (m .d ≤ 4) × (m .n * m .d ≤ 8)
-  unfolding checkShape
-  shape-within e =
-      let p = and-parts (within 1 (m .n) 4 && within 1 (m .d) 4) (leb (m .n * m .d) 8) (passed (within 1 (m .n) 4 && within 1 (m .d) 4 && leb (m .n * m .d) 8) Shape e) in
-      let q = and-parts (within 1 (m .n) 4) (within 1 (m .d) 4) (p .0) in
-      let n = within-parts 1 (m .n) 4 (q .0) in
-      let d = within-parts 1 (m .d) 4 (q .1) in
-      (n .0, n .1, d .0, d .1, leb→le (m .n * m .d) 8 (p .1))
-
-  scale-below : checkScale (m .scale) ≡ Pass → m .scale < 16
-  unfolding checkScale
-  scale-below e = omega (arith, leb→le (m .scale) 15 (passed (leb (m .scale) 15) Scale e))
 
   threshold-cut : checkLoss (m .p) (m .eps) ≡ Pass → m .eps ≤ 16777215
   unfolding checkLoss
@@ -61,15 +50,16 @@ ready store m e =
     let e₂ = others-passed (checkStore (length store)) (checkShape (m .n) (m .d) ∷ scale-loss) e in
     let e₃ = others-passed (checkShape (m .n) (m .d)) scale-loss e₂ in
     let e₄ = others-passed (checkScale (m .scale)) (checkLoss (m .p) (m .eps) ∷ []) e₃ in
-    let shape = shape-within (length store) m (first-passed (checkShape (m .n) (m .d)) scale-loss e₂) in
+    let shape = shape-passed (m .n) (m .d) (first-passed (checkShape (m .n) (m .d)) scale-loss e₂) in
+    let scale = scale-within (m .scale) (first-passed (checkScale (m .scale)) (checkLoss (m .p) (m .eps) ∷ []) e₃) in
     record {
       few = store-few (length store) m (first-passed (checkStore (length store)) (checkShape (m .n) (m .d) ∷ scale-loss) e);
-      lines = shape .0;
-      most = shape .1;
-      some = shape .2;
-      used = shape .3;
-      room = shape .4;
-      scaled = scale-below (length store) m (first-passed (checkScale (m .scale)) (checkLoss (m .p) (m .eps) ∷ []) e₃);
+      lines = shape .some-lines;
+      most = shape .few-lines;
+      some = shape .some-used;
+      used = shape .few-used;
+      room = shape .few-coordinates;
+      scaled = omega (arith, scale);
       cut = threshold-cut (length store) m (first-passed (checkLoss (m .p) (m .eps)) [] e₄);
     }
 

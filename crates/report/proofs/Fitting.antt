@@ -66,7 +66,7 @@ pub lent-back :
     (store : List ℕ) (job : Job) (table part : List ℤ) (a : Answer) (n : ℕ) →
     n ≡ numbersLent (job .rows) →
     n ≤ length table →
-    (a ≡ searchAnswer store job (take n table)) × (TableAfter store job (take n table) part × Certified store job (take n table)) →
+    (a ≡ searchAnswer store job (take n table)) × (TableAfter store job (take n table) part × Certified store job (take n table) a) →
     Searched store job table a (part ++ drop n table)
 lent-back store job table part a n e few q =
     let long : length part ≡ n = q .1 .0 .long ∙ length-take-le n table few in
@@ -140,7 +140,7 @@ module _ (input : List ℕ) (table : List ℤ) (long : 32768 ≤ length table) w
               unused = λ h. rw (← read) (rw all at (s .rows .rest pass));
               rest = λ h. rw (← read, ← all) (s .rest);
             },
-            λ h. rw (rows, all) at (s .certificate pass),
+            λ h. rw (rows, all) at (s .certificate pass .1),
           ),
         )
 

@@ -19,4 +19,4 @@ pub record Searched (store : List ℕ) (job : Job) (table : List ℤ) (answer : 
   pub told : answer ≡ searchAnswer store job (take (numbersLent (job .rows)) table)
   pub rows : TableAfter store job (take (numbersLent (job .rows)) table) (take (numbersLent (job .rows)) after)
   pub rest : drop (numbersLent (job .rows)) after ≡ drop (numbersLent (job .rows)) table
-  pub certificate : Certified store job (take (numbersLent (job .rows)) table)
+  pub certificate : Certified store job (take (numbersLent (job .rows)) table) answer

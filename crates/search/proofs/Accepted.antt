@@ -87,7 +87,7 @@ module _ (store : List ℕ) (job : Job) (numbers : ℕ) where
 
 module _ (store : List ℕ) (job : Job) (t : List ℤ) where
   abbrev Promised : Answer → List ℤ → Type 0
-  Promised r u = (r ≡ searchAnswer store job t) × (TableAfter store job t u × Certified store job t)
+  Promised r u = (r ≡ searchAnswer store job t) × (TableAfter store job t u × Certified store job t r)
 
   -- a table of the same length makes no difference to the definition
   same-search : (u : List ℤ) → length u ≡ length t → searched store job u ≡ searched store job t
@@ -112,9 +112,11 @@ module _ (store : List ℕ) (job : Job) (t : List ℤ) where
             open-rows = λ e. q .open-rows;
             rest = λ e. q .rest ∙ rest-later t u (16 * first .peak) (16 * (searched store job t) .peak) (omega (arith, q .longer)) (b .rest);
           },
-          λ e.
-              certified (cost (job .model) (pointsOf store)) (bound (job .model) (pointsOf store)) (job .budget) (rowCount t) (job .t) (job .start) (job .domain)
-              (bounds (job .model) (pointsOf store)) (a .inside),
+          λ e. (
+            q .answer,
+            certified (cost (job .model) (pointsOf store)) (bound (job .model) (pointsOf store)) (job .budget) (rowCount t) (job .t) (job .start) (job .domain)
+                (bounds (job .model) (pointsOf store)) (a .inside),
+          ),
         ),
       )
 

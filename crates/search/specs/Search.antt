@@ -79,9 +79,10 @@ pub record TableAfter (store : List ℕ) (job : Job) (table after : List ℤ) : 
       checkSearch store job (length table) ≡ Pass →
       drop (16 * (searched store job table) .peak) after ≡ drop (16 * (searched store job table) .peak) table
 
--- the certificate of the answer to an accepted job
-abbrev pub Certified : List ℕ → Job → List ℤ → Type 0
-Certified store job table =
+-- An answer r to an accepted job is certified: it tells what the search comes to, and of that demand 3 holds.
+abbrev pub Certified : List ℕ → Job → List ℤ → Answer → Type 0
+Certified store job table r =
     checkSearch store job (length table) ≡ Pass →
-    Certificate (cost (job .model) (pointsOf store)) (bound (job .model) (pointsOf store)) (job .budget) (rowCount table) (job .t) (job .start) (job .domain)
+    (r ≡ told (searched store job table))
+    × Certificate (cost (job .model) (pointsOf store)) (bound (job .model) (pointsOf store)) (job .budget) (rowCount table) (job .t) (job .start) (job .domain)
     (searched store job table)

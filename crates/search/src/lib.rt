@@ -81,7 +81,7 @@ fn refusal(why: Refusal) -> Answer
 pub fn search(store: &[u8], job: Job, table: &mut [i16]) -> Answer
     ensures answer { λ r. ⌜ r ≡ searchAnswer (now (store .entry)) job (now (table .entry)) ⌝ }
     ensures table { λ _. ⌜ TableAfter (now (store .entry)) job (now (table .entry)) (now (table .exit)) ⌝ }
-    ensures certificate { λ _. ⌜ Certified (now (store .entry)) job (now (table .entry)) ⌝ }
+    ensures certificate { λ r. ⌜ Certified (now (store .entry)) job (now (table .entry)) r ⌝ }
 {
     match check_search(store, job, table.len()) {
         Check::Pass => {

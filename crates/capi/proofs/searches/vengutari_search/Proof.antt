@@ -88,7 +88,7 @@ returns-2 c =
                 searched = λ e. subst (λ (x : Job). TableAfter (a .store .now) x (a .table .now) (s .search .last .1 .1 .0)) is-job (s .search .ensures .1 .0);
                 kept = λ e. let z : _≡_ {A = ℕ} 0 1 = cc in absurd (omega arith);
               },
-              λ e. subst (λ (x : Job). Certified (a .store .now) x (a .table .now)) is-job (s .search .ensures .1 .1),
+              λ e. subst (λ (x : Job). Certified (a .store .now) x (a .table .now) (s .search .result)) is-job (s .search .ensures .1 .1),
             ),
           ),
         ),
