@@ -78,8 +78,9 @@ pub record Moved (cost : List ℤ → ℕ) (bound : Box → ℕ) (t : List ℤ) 
 
 -- What a step says: the table is too small for the split and nothing changed, or the split is made.
 pub record Outcome (cost : List ℤ → ℕ) (bound : Box → ℕ) (t : List ℤ) (s : State) (r : Stepped) (u : List ℤ) : Type 0 where
-  pub told : r .full ≡ ltb (rowCount t) (length ((split cost bound (stateOf t s)) .list))
+  pub same : r .full ≡ true → r .state ≡ s
   pub kept : r .full ≡ true → u ≡ t
+  pub told : r .full ≡ ltb (rowCount t) (length ((split cost bound (stateOf t s)) .list))
   pub moved : r .full ≡ false → Moved cost bound t s (r .state) u
 
 -- The state s and the table u are those of the beginning, where the table was t.

@@ -70,16 +70,17 @@ same-length c = search needs
 
 returns : tie.Need-returns
 returns c =
-    let tested = c .before in
-    let ones = tested .before .before in
-    let q = ones .before .before .before .before .before in
-    let a = start q .args in
     record {
+      same = λ e. refl;
+      kept = λ e. refl;
       told =
+          let tested = c .before in
+          let ones = tested .before .before in
+          let q = ones .before .before .before .before .before in
+          let a = start q .args in
           sym (c .if1 .taken)
           ∙ step-told (C q) (B q) (table q) (a .s) (a .at) (start q .pre .1) (q .cut-box .result) (made q) (tested .too-many .result)
           (ones .before .one-if .result) (ones .one-if2 .result) (ones .before .one-if .ensures) (ones .one-if2 .ensures) (tested .too-many .ensures);
-      kept = λ e. refl;
       moved = λ e. let z : _≡_ {A = ℕ} 0 1 = cc in absurd (omega arith);
     }
 
@@ -116,11 +117,12 @@ returns-2 c =
     let a = start q .args in
     let p = start q .pre in
     record {
+      same = λ e. let z : _≡_ {A = ℕ} 0 1 = cc in absurd (omega arith);
+      kept = λ e. let z : _≡_ {A = ℕ} 0 1 = cc in absurd (omega arith);
       told =
           sym (left .if1 .left)
           ∙ step-told (C q) (B q) (table q) (a .s) (a .at) (p .1) (q .cut-box .result) (made q) (tested .too-many .result)
           (ones .before .one-if .result) (ones .one-if2 .result) (ones .before .one-if .ensures) (ones .one-if2 .ensures) (tested .too-many .ensures);
-      kept = λ e. let z : _≡_ {A = ℕ} 0 1 = cc in absurd (omega arith);
       moved = λ e.
           step-moved (C q) (B q) (table q) (a .s) (a .at) (p .1) (q .cut-box .result) (made q) (placed .place .result) (placed .place .last .1 .1 .0)
           (placed .place .ensures) (a .s .count + 1) (c .larger .result) refl (c .larger .ensures);
