@@ -4,8 +4,9 @@ use mathlib.Core.List.{List, [], _∷_, _++_, map, map-append}
 use Prim.Native.Nat.{ℕ, suc, _+_, _/_, _≤_, _<_}
 use native.Mathlib.Numerals.{add-one}
 use native.Mathlib.Omega.{arith}
-use lib.ListN.{length, take, drop, set, length-set, take-append-drop}
+use lib.ListN.{length, take, drop, set, length-map, length-set, take-append-drop}
 use lib.Seq.{take-suc-set, drop-set-lt, drop-drop}
+use Rattle.integers.specs.Lists.{over}
 use Rattle.points.specs.declared.Point.{Point}
 use Rattle.points.specs.Points.{pointAt, firstPoints, pointsOf}
 use Rattle.points.proofs.Laws.{points-more, points-length}
@@ -38,10 +39,11 @@ module _ (f : Point → ℕ) (s : List ℕ) (old : List ℕ) where
             ∙ drop-drop 1 i old;
       }
 
-  pub all-filled : {i : ℕ} {out : List ℕ} → length s / 12 ≤ i → Filled i out → out ≡ map f (pointsOf s) ++ drop (length (pointsOf s)) old
-  unfolding pointsOf
+  pub all-filled : {i : ℕ} {out : List ℕ} → length s / 12 ≤ i → Filled i out → out ≡ over (map f (pointsOf s)) old
+  unfolding pointsOf over
   all-filled {i} {out} h g =
-      let n : length (firstPoints s (length s / 12)) ≡ i = omega (arith, points-length s (length s / 12), g .few) in
+      let first = firstPoints s (length s / 12) in
+      let n : length (map f first) ≡ i = length-map first f ∙ omega (arith, points-length s (length s / 12), g .few) in
       let m : i ≡ length s / 12 = omega (arith, g .few) in
       sym (take-append-drop i out)
       ∙ ap₂ _++_ (g .front ∙ ap (λ (k : ℕ). map f (firstPoints s k)) m) (g .rest ∙ ap (λ (k : ℕ). drop k old) (sym n))

@@ -7,3 +7,4 @@ pub mod Sizes
 pub mod Filling
 pub mod Passed
 pub mod Bounds
+pub mod Frames

@@ -1,9 +1,10 @@
 -- The calls on a store and a model: which checks each makes, and what it answers. "Codes for jobs that can't run".
-use mathlib.Core.List.{List, [], _∷_, _++_, map}
+use mathlib.Core.List.{List, [], _∷_, map}
 use Prim.Native.Nat.{ℕ, min}
 use lib.Dec.{leb}
 use lib.IntN.{ℤ}
-use lib.ListN.{length, drop}
+use lib.ListN.{length}
+use Rattle.integers.specs.Lists.{over}
 use Rattle.codes.specs.declared.Check.{Check}
 use Rattle.codes.specs.declared.Outcome.{Outcome}
 use Rattle.codes.specs.declared.Refusal.the-variants.{Short}
@@ -46,8 +47,7 @@ labelsAnswer store m v out = unlessRefused (checkLabels store m v out) (length (
 
 -- "One byte per point is written, the buffer's rest is kept."
 unfoldable pub labelled : List ℕ → Model → List ℤ → List ℕ → List ℕ
-labelled store m v out =
-    ifPassed (checkLabels store m v out) (map (label m v) (pointsOf store) ++ drop (length (pointsOf store)) out) out
+labelled store m v out = ifPassed (checkLabels store m v out) (over (map (label m v) (pointsOf store)) out) out
 
 -- What a search asks of a cost or a bound, again and again, under a model and a store that it has checked: its value, or `cap` if
 -- that is less. Where checks 1 to 4 refuse, 0.

@@ -1,5 +1,5 @@
--- What is shown of costs and bounds. The proofs stand in proofs/Bounds.antt.
-use mathlib.Core.List.{List, _∷_}
+-- What is shown of costs and bounds. The proofs stand in proofs/Bounds.antt, and of frame numbers in proofs/Frames.antt.
+use mathlib.Core.List.{List, _∷_, map}
 use mathlib.Core.Path.{_≡_}
 use Prim.Native.Nat.{ℕ, _≤_}
 use lib.IntN.{ℤ, natAbs}
@@ -21,6 +21,15 @@ pub record BoundLaws (m : Model) (qs : List Point) : Type 0 where
 -- The least loss among the lines is the loss of the least |e|.
 pub record LeastLoss (p ε : ℕ) : Type 0 where
   pub of-least : (size : ℕ → ℕ) (n : ℕ) → 1 ≤ n → least (λ j. lossOf p ε (size j)) n ≡ lossOf p ε (least size n)
+
+-- a point with the frame number that f gives it
+abbrev pub framed : (Point → ℕ) → Point → Point
+framed f q = record { x1 = q .x1; x2 = q .x2; x3 = q .x3; x4 = q .x4; y = q .y; frame = f q }
+
+-- "a frame number, unsigned 16-bit, which no cost uses": other frame numbers, the same cost and bound
+pub record NoFrame (m : Model) (qs : List Point) (f : Point → ℕ) : Type 0 where
+  pub same-cost : (v : List ℤ) → cost m (map (framed f) qs) v ≡ cost m qs v
+  pub same-bound : (B : Box) → bound m (map (framed f) qs) B ≡ bound m qs B
 
 -- every coordinate has the size of a signed 16-bit number
 abbrev pub Small : List ℤ → Type 0

@@ -10,7 +10,7 @@ use Rattle.boxes.specs.declared.Box.{Box}
 use Rattle.jobs.specs.declared.Model.{Model}
 use Rattle.loss.specs.Loss.{lossOf}
 use Rattle.points.specs.declared.Point.{Point}
-use Rattle.points.specs.Points.{unsignedAt, signedAt, pointAt, xs}
+use Rattle.points.specs.Points.{pointAt, xs}
 use Rattle.model.specs.Cost.{dot, dotMax, dotMin, nearestTo0, least}
 
 -- checks 1 to 4 passed, as far as the loops need it
@@ -26,18 +26,6 @@ pub record Ready (bytes : ℕ) (m : Model) : Type 0 where
 
 abbrev pub boxOf : List ℤ → List ℤ → Box
 boxOf low high = record { low = low; high = high }
-
--- the point whose record begins at byte o
-abbrev pub recordAt : List ℕ → ℕ → Point
-recordAt s o =
-    record {
-      x1 = signedAt s o;
-      x2 = signedAt s (o + 2);
-      x3 = signedAt s (o + 4);
-      x4 = signedAt s (o + 6);
-      y = signedAt s (o + 8);
-      frame = unsignedAt s (o + 10);
-    }
 
 -- |e| of a point and the line at place b, and its least size over a box
 abbrev pub sizeOf : Point → List ℤ → ℕ → ℕ → ℕ → ℕ

@@ -3,8 +3,7 @@ use points::Point;
 ghost use mathlib.Core.Path.{_≡_};
 ghost use Prim.Native.Nat.{_+_, _*_, _/_, _%_, _≤_, _<_};
 ghost use lib.ListN.{length, getD};
-ghost use Rattle.points.specs.Points.{signedAt};
-ghost use Rattle.model.specs.Ready.{recordAt};
+ghost use Rattle.points.specs.Points.{signedAt, recordAt};
 
 pub fn joined(first: u8, second: u8) -> u16
     ensures first { λ r. ⌜ r % 256 ≡ first ⌝ }

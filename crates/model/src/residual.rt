@@ -5,10 +5,11 @@ use crate::record::read_record;
 use jobs::Model;
 use points::Point;
 ghost use mathlib.Core.Path.{_≡_};
-ghost use mathlib.Core.List.{_++_, map};
+ghost use mathlib.Core.List.{map};
 ghost use Prim.Native.Nat.{_+_, _*_, _^_, _≤_, _<_, min};
 ghost use lib.IntN.{pos, natAbs, _+ℤ_, _*ℤ_};
-ghost use lib.ListN.{length, drop};
+ghost use lib.ListN.{length};
+ghost use Rattle.integers.specs.Lists.{over};
 ghost use Rattle.points.specs.Points.{pointAt, pointsOf, xs};
 ghost use Rattle.model.specs.Cost.{at, dot, sizeAt, least, firstLeast, cost, label};
 ghost use Rattle.model.specs.Ready.{Ready, sizeOf, leastFrom, Begins, lossesFrom};
@@ -207,7 +208,7 @@ pub fn label_record(s: &[u8], i: usize, m: Model, v: &[i16], power: u16) -> u8
 
 pub fn write_labels(s: &[u8], m: Model, v: &[i16], out: &mut [u8])
     requires { ⌜ Ready (length (now s)) m × (8 ≤ length (now v)) × (length (pointsOf (now s)) ≤ length (now out)) ⌝ }
-    ensures { λ _. ⌜ now (out .exit) ≡ map (label m (now (v .entry))) (pointsOf (now (s .entry))) ++ drop (length (pointsOf (now (s .entry)))) (now (out .entry)) ⌝ }
+    ensures { λ _. ⌜ now (out .exit) ≡ over (map (label m (now (v .entry))) (pointsOf (now (s .entry)))) (now (out .entry)) ⌝ }
 {
     let power = scale::power(m.scale);
     let count = s.len() / 12;

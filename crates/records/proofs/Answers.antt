@@ -9,12 +9,12 @@ use lib.ListN.{length, take, drop, getD, length-append}
 use lib.Pow.{areBytes}
 use lib.Seq.{take-at, drop-at, drop-drop, getD-drop, take-add, take-all}
 use Rattle.codes.proofs.Checks.{passed, first-passed}
-use Rattle.codes.specs.Codes.{passIf, inOrder}
+use Rattle.codes.specs.Codes.{passIf, ifPassed, inOrder}
 use Rattle.codes.specs.declared.Check.the-variants.{Pass, Refuse}
 use Rattle.codes.specs.declared.Check.{Check}
 use Rattle.codes.specs.declared.Refusal.the-variants.{Answer, Short}
 use Rattle.codes.specs.declared.Refusal.{Refusal}
-use Rattle.records.specs.Answers.{answerBytes, answerOf, answerUnlessRefused, checkAnswer, checkAnswerWrite, noAnswer, readAnswer}
+use Rattle.records.specs.Answers.{answerBytes, answerOf, checkAnswer, checkAnswerWrite, readAnswer, zeroAnswer}
 use Rattle.records.specs.Buffers.{checkRoom}
 use Rattle.records.specs.Fields.{bigEndian, fromBigEndian, vectorBytes, vectorOf}
 use Rattle.records.specs.Laws.{IsAnswer, AnswerRoundTrip}
@@ -23,11 +23,11 @@ use Rattle.records.proofs.BigEndian.{written-reads-whole}
 use Rattle.records.proofs.Parts.{four-at}
 use Rattle.records.proofs.Vectors.{vector-long, written-reads as vector-reads, number-back, vector-back}
 
-pub read-no-length : (bytes : List ℕ) → (length bytes ≡ 40 → ⊥) → readAnswer bytes ≡ noAnswer Answer
+pub read-no-length : (bytes : List ℕ) → (length bytes ≡ 40 → ⊥) → readAnswer bytes ≡ record { check = Refuse Answer; answer = zeroAnswer }
 unfolding readAnswer inOrder
 read-no-length bytes h = simp (ne-eqb (length bytes) 40 h)
 
-pub read-refused : (bytes : List ℕ) (r : Refusal) → length bytes ≡ 40 → checkAnswer (answerOf bytes) ≡ Refuse r → readAnswer bytes ≡ noAnswer r
+pub read-refused : (bytes : List ℕ) (r : Refusal) → length bytes ≡ 40 → checkAnswer (answerOf bytes) ≡ Refuse r → readAnswer bytes ≡ record { check = Refuse r; answer = zeroAnswer }
 unfolding readAnswer inOrder
 read-refused bytes r h e = simp (eq-eqb (length bytes) 40 h, e)
 
@@ -99,18 +99,12 @@ module _ (bytes : List ℕ) (ok : T (areBytes bytes)) (h : length bytes ≡ 40) 
       ∙ joined
       ∙ take-all 40 bytes (omega arith)
 
--- an answer that was read passed its checks
-read-passed : (k : Check) (a : AnswerRecord) → answerUnlessRefused k a .check ≡ Pass → k ≡ Pass
-read-passed Pass a e = refl
-read-passed (Refuse r) a e = e
-
 pub answer-round-trip : AnswerRoundTrip
 unfolding readAnswer
 answer-round-trip = record {
   size = size;
   written-reads = λ a ok e. read-accepted (answerBytes a) (size a ok) (ap checkAnswer (reads a ok) ∙ e) ∙ (λ i. record { check = Pass; answer = reads a ok i });
   read-writes = λ bytes ok e.
-      let both = read-passed (inOrder (passIf (eqb (length bytes) 40) Answer ∷ checkAnswer (answerOf bytes) ∷ [])) (answerOf bytes) e in
-      let h = eqb→eq (length bytes) 40 (passed (eqb (length bytes) 40) Answer (first-passed (passIf (eqb (length bytes) 40) Answer) (checkAnswer (answerOf bytes) ∷ []) both)) in
-      ap (λ (k : Check). answerBytes (answerUnlessRefused k (answerOf bytes) .answer)) both ∙ writes bytes ok h;
+      let h = eqb→eq (length bytes) 40 (passed (eqb (length bytes) 40) Answer (first-passed (passIf (eqb (length bytes) 40) Answer) (checkAnswer (answerOf bytes) ∷ []) e)) in
+      ap (λ (k : Check). answerBytes (ifPassed k (answerOf bytes) zeroAnswer)) e ∙ writes bytes ok h;
 }

@@ -10,6 +10,7 @@ use lib.ListN.{length, take, drop, getD, set, length-append, length-drop}
 use lib.Pow.{areBytes}
 use lib.Seq.{getD-drop, take-suc, append-snoc, set-at, paste-suc, take-at, drop-at, drop-drop, length-take-le}
 use mir.Facts.{and-yes, yes-and}
+use Rattle.integers.specs.Lists.{over}
 
 -- an element stored before what stands behind it already
 pub set-before : (p q : List ℕ) (j b : ℕ) → j < length p → set (take (suc j) p ++ q) j b ≡ take j p ++ b ∷ q
@@ -44,7 +45,8 @@ and-then {p} {t} {b} {b′} {n} q k s h e =
       long = omega (arith, length-append p q, s .long);
     }
 
-pub all-stored : {p t b : List ℕ} {n : ℕ} → Stored p n t b → b ≡ p ++ drop (length p) t
+pub all-stored : {p t b : List ℕ} {n : ℕ} → Stored p n t b → b ≡ over p t
+unfolding over
 all-stored {p} {t} s = s .is ∙ ap (λ (k : ℕ). p ++ drop k t) (sym (s .long))
 
 -- the next element, copied from another list

@@ -6,10 +6,8 @@ use lib.Dec.{leb, eqb}
 use lib.IntN.{pos}
 use lib.ListN.{length, replicate}
 use Rattle.codes.specs.Codes.{passIf, ifPassed, inOrder, within}
-use Rattle.codes.specs.declared.Check.the-variants.{Pass, Refuse}
 use Rattle.codes.specs.declared.Check.{Check}
 use Rattle.codes.specs.declared.Refusal.the-variants.{Answer}
-use Rattle.codes.specs.declared.Refusal.{Refusal}
 use Rattle.scale.specs.Scale.{checkScale}
 use Rattle.boxes.specs.Shape.{checkShape, unusedZero}
 use Rattle.records.specs.Buffers.{checkRoom}
@@ -73,16 +71,8 @@ zeroAnswer = record {
   scale = 0;
 }
 
-abbrev pub noAnswer : Refusal → AnswerRead
-noAnswer r = record { check = Refuse r; answer = zeroAnswer }
-
-abbrev pub answerUnlessRefused : Check → AnswerRecord → AnswerRead
-answerUnlessRefused Pass a = record { check = Pass; answer = a }
-answerUnlessRefused (Refuse r) a = noAnswer r
-
 -- Check 9 of a record to read: "to read, length not 40".
 unfoldable pub readAnswer : List ℕ → AnswerRead
 readAnswer bytes =
-    answerUnlessRefused
-    (inOrder (passIf (eqb (length bytes) 40) Answer ∷ checkAnswer (answerOf bytes) ∷ []))
-    (answerOf bytes)
+    let check = inOrder (passIf (eqb (length bytes) 40) Answer ∷ checkAnswer (answerOf bytes) ∷ []) in
+    record { check = check; answer = ifPassed check (answerOf bytes) zeroAnswer }

@@ -1,8 +1,9 @@
 -- A record written into a lent buffer.
-use mathlib.Core.List.{List, _++_}
+use mathlib.Core.List.{List}
 use Prim.Native.Nat.{ℕ}
 use lib.Dec.{leb}
-use lib.ListN.{length, drop}
+use lib.ListN.{length}
+use Rattle.integers.specs.Lists.{over}
 use Rattle.codes.specs.Codes.{passIf, ifPassed}
 use Rattle.codes.specs.declared.Check.{Check}
 use Rattle.codes.specs.declared.Refusal.the-variants.{Short}
@@ -13,4 +14,4 @@ checkRoom size out = passIf (leb size (length out)) Short
 
 -- The buffer after a write: the record and then "the buffer's rest", which "is kept"; at a refusal nothing is written.
 abbrev pub written : Check → List ℕ → List ℕ → List ℕ
-written check bytes out = ifPassed check (bytes ++ drop (length bytes) out) out
+written check bytes out = ifPassed check (over bytes out) out

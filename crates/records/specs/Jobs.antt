@@ -4,11 +4,8 @@ use Prim.Native.Nat.{ℕ}
 use lib.Dec.{leb}
 use lib.IntN.{pos}
 use lib.ListN.{length, replicate}
-use Rattle.codes.specs.Codes.{passIf}
-use Rattle.codes.specs.declared.Check.the-variants.{Pass, Refuse}
-use Rattle.codes.specs.declared.Check.{Check}
+use Rattle.codes.specs.Codes.{passIf, ifPassed}
 use Rattle.codes.specs.declared.Refusal.the-variants.{Length}
-use Rattle.codes.specs.declared.Refusal.{Refusal}
 use Rattle.boxes.specs.Split.{zeroBox}
 use Rattle.jobs.specs.declared.Job.{Job}
 use Rattle.records.specs.Fields.{bigEndian, vectorBytes, byteAt, numberAt, vectorAt}
@@ -54,13 +51,8 @@ zeroJob = record {
   start = replicate 8 (pos 0);
 }
 
-abbrev pub noJob : Refusal → JobRead
-noJob r = record { check = Refuse r; job = zeroJob }
-
-abbrev pub jobUnlessRefused : Check → Job → JobRead
-jobUnlessRefused Pass job = record { check = Pass; job = job }
-jobUnlessRefused (Refuse r) job = noJob r
-
 -- Check 1: "input of fit under 72 bytes".
 unfoldable pub readJob : List ℕ → JobRead
-readJob bytes = jobUnlessRefused (passIf (leb 72 (length bytes)) Length) (jobOf bytes)
+readJob bytes =
+    let check = passIf (leb 72 (length bytes)) Length in
+    record { check = check; job = ifPassed check (jobOf bytes) zeroJob }

@@ -12,8 +12,7 @@ use jobs::Model;
 ghost use mathlib.Core.Path.{_≡_};
 ghost use Prim.Native.Nat.{_≤_};
 ghost use lib.ListN.{length};
-ghost use Rattle.codes.specs.declared.Check.the-variants.{Pass};
-ghost use Rattle.records.specs.Buffers.{written};
+ghost use Rattle.integers.specs.Lists.{over};
 ghost use Rattle.records.specs.Answers.{answerBytes, answerOf};
 ghost use Rattle.records.specs.Jobs.{jobBytes, jobOf};
 
@@ -43,7 +42,7 @@ pub fn get_job(bytes: &[u8]) -> Job
 // The record in the first 72 bytes.
 pub fn put_job(job: Job, bytes: &mut [u8])
     requires { ⌜ 72 ≤ length (now bytes) ⌝ }
-    ensures { λ _. ⌜ now (bytes .exit) ≡ written Pass (jobBytes job) (now (bytes .entry)) ⌝ }
+    ensures { λ _. ⌜ now (bytes .exit) ≡ over (jobBytes job) (now (bytes .entry)) ⌝ }
 {
     let model = job.model;
     let domain = job.domain;
@@ -79,7 +78,7 @@ pub fn get_answer(bytes: &[u8]) -> AnswerRecord
 // The record in the first 40 bytes.
 pub fn put_answer(a: AnswerRecord, bytes: &mut [u8])
     requires { ⌜ 40 ≤ length (now bytes) ⌝ }
-    ensures { λ _. ⌜ now (bytes .exit) ≡ written Pass (answerBytes a) (now (bytes .entry)) ⌝ }
+    ensures { λ _. ⌜ now (bytes .exit) ≡ over (answerBytes a) (now (bytes .entry)) ⌝ }
 {
     let vector = a.vector;
     put_vector(bytes, 0, vector);

@@ -8,9 +8,10 @@ use codes::Refusal;
 use jobs::Job;
 use jobs::Model;
 ghost use mathlib.Core.Path.{_≡_};
+ghost use Rattle.codes.specs.declared.Check.the-variants.{Refuse};
 ghost use Rattle.records.specs.Buffers.{checkRoom, written};
-ghost use Rattle.records.specs.Answers.{answerBytes, checkAnswer, checkAnswerWrite, noAnswer, passing, readAnswer};
-ghost use Rattle.records.specs.Jobs.{jobBytes, noJob, readJob};
+ghost use Rattle.records.specs.Answers.{answerBytes, checkAnswer, checkAnswerWrite, passing, readAnswer, zeroAnswer};
+ghost use Rattle.records.specs.Jobs.{jobBytes, readJob, zeroJob};
 
 // What reading a job record comes to: at a refusal the job is all 0.
 pub struct JobRead {
@@ -19,7 +20,7 @@ pub struct JobRead {
 }
 
 fn refused_job(r: Refusal) -> JobRead
-    ensures { λ h. ⌜ h ≡ noJob r ⌝ }
+    ensures { λ h. ⌜ h ≡ record { check = Refuse r; job = zeroJob } ⌝ }
 {
     let zeros = [0i16; 8];
     JobRead {
@@ -134,7 +135,7 @@ pub fn write_answer(a: AnswerRecord, out: &mut [u8]) -> Check
 }
 
 fn refused_answer(r: Refusal) -> AnswerRead
-    ensures { λ h. ⌜ h ≡ noAnswer r ⌝ }
+    ensures { λ h. ⌜ h ≡ record { check = Refuse r; answer = zeroAnswer } ⌝ }
 {
     AnswerRead {
         check: Check::Refuse(r),

@@ -11,6 +11,7 @@ use lib.Dec.{T, leb}
 use lib.IntN.{ℤ}
 use lib.ListN.{length, take, drop, take-append-drop, length-drop, drop-of-length-le}
 use lib.Seq.{length-take-le, take-all, take-at, drop-at}
+use Rattle.integers.specs.Lists.{over}
 use Rattle.integers.proofs.Tests.{le-or-lt}
 use Rattle.codes.proofs.Checks.{refused-not-passed}
 use Rattle.codes.specs.Codes.{inOrder, within}
@@ -26,7 +27,7 @@ use Rattle.rows.specs.Rows.{rowCount}
 use Rattle.search.proofs.Accepted.{accepted}
 use Rattle.search.specs.Search.{checkSearch, searchAnswer, TableAfter, Certified}
 use Rattle.search.specs.declared.Answer.{Answer}
-use Rattle.text.specs.Line.{line, lineIn, written}
+use Rattle.text.specs.Line.{line, lineIn}
 use Rattle.report.specs.Inside.{Searched, numbersLent}
 use Rattle.report.specs.Report.{FitCertified, TableAfterFit, TableLent, checkFit, enough, fitAnswer, fitLine, reportLine, storeOf}
 
@@ -80,7 +81,7 @@ lent-back store job table part a n e few q =
 -- what a report says of the length of the line, the buffer and the table
 abbrev Reported : List ℕ → List ℤ → List ℕ → ℕ → List ℕ → List ℤ → Type 0
 Reported input table out n text after =
-    (n ≡ length (fitLine input table)) × ((text ≡ written (fitLine input table) out) × (TableAfterFit input table after × FitCertified input table))
+    (n ≡ length (fitLine input table)) × ((text ≡ over (fitLine input table) out) × (TableAfterFit input table after × FitCertified input table))
 
 module _ (input : List ℕ) (table : List ℤ) (long : 32768 ≤ length table) where
   abbrev Promised : Answer → List ℤ → Type 0
@@ -166,14 +167,14 @@ module _ (input : List ℕ) (table : List ℤ) (long : 32768 ≤ length table) w
         (out text : List ℕ) (n : ℕ) →
         (72 ≤ length input → job ≡ jobOf input) →
         200 ≤ length out →
-        (n ≡ length (lineIn (job .model) a out)) × (text ≡ written (lineIn (job .model) a out) out) →
+        (n ≡ length (lineIn (job .model) a out)) × (text ≡ over (lineIn (job .model) a out) out) →
         Reported input table out n text after
     unfolding lineIn
     reported out text n read room q =
         let p = promised read in
         let is = same-line read (p .0) in
         let fits = le-leb 200 (length out) room in
-        (rw fits at (q .0) ∙ ap length is, (rw fits at (q .1) ∙ ap (λ (l : List ℕ). written l out) is, p .1))
+        (rw fits at (q .0) ∙ ap length is, (rw fits at (q .1) ∙ ap (λ (l : List ℕ). over l out) is, p .1))
 
 -- the job record is there, and what follows it is the store
 pub record-read : (input : List ℕ) (r : JobRead) → r ≡ readJob input → 72 ≤ length input → r .job ≡ jobOf input
@@ -196,17 +197,17 @@ module _ (input : List ℕ) (table : List ℤ) (out : List ℕ) where
   abbrev Lent : ℕ → List ℕ → List ℤ → Type 0
   Lent n text after =
       (n ≡ length (reportLine input table out))
-      × ((text ≡ written (reportLine input table out) out) × (TableLent input table out after × (enough table out ≡ true → FitCertified input table)))
+      × ((text ≡ over (reportLine input table out) out) × (TableLent input table out after × (enough table out ≡ true → FitCertified input table)))
 
   pub nothing-lent : enough table out ≡ false → Lent 0 out table
-  unfolding reportLine written
+  unfolding reportLine over
   nothing-lent e = (
     rw e refl,
     (rw e refl, (record { idle = λ h. refl; kept = λ h. true-not-false (sym h ∙ e) }, λ h. true-not-false (sym h ∙ e))),
   )
 
   pub all-lent : (n : ℕ) (text : List ℕ) (after : List ℤ) → enough table out ≡ true → Reported input table out n text after → Lent n text after
-  unfolding reportLine
+  unfolding reportLine over
   all-lent n text after e r = (
     rw e (r .0),
     (rw e (r .1 .0), (record { idle = λ h. true-not-false (sym e ∙ h); kept = λ h. r .1 .1 .0 }, λ h. r .1 .1 .1)),

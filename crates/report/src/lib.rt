@@ -5,9 +5,9 @@ ghost use mathlib.Core.Path.{_≡_};
 ghost use mathlib.Core.Bool.{true};
 ghost use Prim.Native.Nat.{_≤_, min};
 ghost use lib.ListN.{length};
+ghost use Rattle.integers.specs.Lists.{over};
 ghost use Rattle.report.specs.Inside.{Searched, numbersLent};
 ghost use Rattle.report.specs.Report.{FitCertified, TableAfterFit, TableLent, enough, fitLine, reportLine};
-ghost use Rattle.text.specs.Line.{written};
 
 // How many numbers of the table a search in r rows is lent: none if r is over 2,048, so that check 8 refuses it, as it does for 0 rows.
 fn numbers_lent(rows: u32) -> usize
@@ -40,7 +40,7 @@ fn store_start(bytes: usize) -> usize
 fn write_line(input: &[u8], table: &mut [i16], out: &mut [u8]) -> usize
     requires { ⌜ (32768 ≤ length (now table)) × (200 ≤ length (now out)) ⌝ }
     ensures length { λ r. ⌜ r ≡ length (fitLine (now (input .entry)) (now (table .entry))) ⌝ }
-    ensures line { λ _. ⌜ now (out .exit) ≡ written (fitLine (now (input .entry)) (now (table .entry))) (now (out .entry)) ⌝ }
+    ensures line { λ _. ⌜ now (out .exit) ≡ over (fitLine (now (input .entry)) (now (table .entry))) (now (out .entry)) ⌝ }
     ensures table { λ _. ⌜ TableAfterFit (now (input .entry)) (now (table .entry)) (now (table .exit)) ⌝ }
     ensures certificate { λ _. ⌜ FitCertified (now (input .entry)) (now (table .entry)) ⌝ }
 {
@@ -56,7 +56,7 @@ fn write_line(input: &[u8], table: &mut [i16], out: &mut [u8]) -> usize
 // buffer that some line does not fit into, it does nothing and answers 0.
 pub fn report(input: &[u8], table: &mut [i16], out: &mut [u8]) -> usize
     ensures length { λ r. ⌜ r ≡ length (reportLine (now (input .entry)) (now (table .entry)) (now (out .entry))) ⌝ }
-    ensures line { λ _. ⌜ now (out .exit) ≡ written (reportLine (now (input .entry)) (now (table .entry)) (now (out .entry))) (now (out .entry)) ⌝ }
+    ensures line { λ _. ⌜ now (out .exit) ≡ over (reportLine (now (input .entry)) (now (table .entry)) (now (out .entry))) (now (out .entry)) ⌝ }
     ensures table { λ _. ⌜ TableLent (now (input .entry)) (now (table .entry)) (now (out .entry)) (now (table .exit)) ⌝ }
     ensures certificate { λ _. ⌜ (enough (now (table .entry)) (now (out .entry)) ≡ true → FitCertified (now (input .entry)) (now (table .entry))) ⌝ }
 {

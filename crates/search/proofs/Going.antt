@@ -27,7 +27,7 @@ use Rattle.search.specs.declared.branch.Best.{Best}
 use Rattle.search.specs.declared.branch.State.{State}
 use Rattle.search.specs.declared.branch.Stepped.{Stepped}
 use Rattle.search.specs.Search.{kindOf, told}
-use Rattle.search.specs.Inside.{bestOf, stateOf, Steppable, Moved, Outcome, Begun, answerWith, Ran}
+use Rattle.search.specs.Inside.{bestOf, stateIn, Steppable, Moved, Outcome, Begun, answerWith, Ran}
 
 module _
     (cost : List ℤ → ℕ) (bound : Box → ℕ) (laws : Bounds cost bound) (budget tol : ℕ) (start : List ℤ) (domain : Box) (inside : InBox start domain)
@@ -37,7 +37,7 @@ module _
     def = search cost bound budget (rowCount t) tol start domain
 
     pub record Going (s : State) (u : List ℤ) : Type 0 where
-      pub running : Running cost bound budget (rowCount t) tol start domain (stateOf u s)
+      pub running : Running cost bound budget (rowCount t) tol start domain (stateIn u s)
       pub best : s .best ≡ bestOf cost (s .best .vector)
       pub long : length u ≡ length t
       pub longer : first .peak ≤ s .peak
@@ -57,8 +57,8 @@ module _
       abbrev list : List Box
       list = rowsOf u (s .«open»)
 
-      sound : Sound cost bound budget (rowCount t) domain (stateOf u s)
-      sound = running-sound cost bound budget (rowCount t) tol start domain (stateOf u s) (g .running) laws inside
+      sound : Sound cost bound budget (rowCount t) domain (stateIn u s)
+      sound = running-sound cost bound budget (rowCount t) tol start domain (stateIn u s) (g .running) laws inside
 
       exact : s .best .cost ≡ cost (s .best .vector)
       exact = ap (λ (b : Best). b .cost) (g .best)
@@ -82,10 +82,10 @@ module _
         low-is : low ≡ lowerBound bound (cost (s .best .vector)) list
         low-is = lowest ∙ ap (λ (c : ℕ). lowerBound bound c list) exact
 
-        gap-is : gap cost bound (stateOf u s) ≡ s .best .cost - low
+        gap-is : gap cost bound (stateIn u s) ≡ s .best .cost - low
         gap-is = omega (arith, exact, low-is)
 
-        answers : (kind : Search.Kind) → def ≡ answer cost bound kind (stateOf u s) → Ran def t first (answerWith (kindOf kind) s low) u
+        answers : (kind : Search.Kind) → def ≡ answer cost bound kind (stateIn u s) → Ran def t first (answerWith (kindOf kind) s low) u
         unfolding answer
         answers kind e =
             rw e
@@ -100,16 +100,16 @@ module _
         -- (a)
         pub going-solved : s .best .cost - low ≤ tol → Ran def t first (answerWith (kindOf solved) s low) u
         going-solved near =
-            answers solved (running-solved cost bound budget (rowCount t) tol start domain (stateOf u s) (g .running) (omega (arith, gap-is)))
+            answers solved (running-solved cost bound budget (rowCount t) tol start domain (stateIn u s) (g .running) (omega (arith, gap-is)))
 
         module _ (far : tol < s .best .cost - low) where
-          far-gap : tol < gap cost bound (stateOf u s)
+          far-gap : tol < gap cost bound (stateIn u s)
           far-gap = omega (arith, gap-is)
 
           -- (b)
           pub going-spent : s .count ≡ budget → Ran def t first (answerWith (kindOf spent) s low) u
           going-spent all =
-              answers spent (running-spent cost bound budget (rowCount t) tol start domain (stateOf u s) (g .running) far-gap all)
+              answers spent (running-spent cost bound budget (rowCount t) tol start domain (stateIn u s) (g .running) far-gap all)
 
           -- (c)
           module _ (left : s .count ≡ budget → ⊥) where
@@ -134,10 +134,10 @@ module _
             module _ (r : Stepped) (v : List ℤ) (o : Outcome cost bound u s r v) where
               pub going-full : r .full ≡ true → Ran def t first (answerWith (kindOf full) s low) v
               going-full e =
-                  let many = ltb-true (rowCount u) (length ((split cost bound (stateOf u s)) .list)) (sym (o .told) ∙ e) in
+                  let many = ltb-true (rowCount u) (length ((split cost bound (stateIn u s)) .list)) (sym (o .told) ∙ e) in
                   rw (o .kept e)
                   (answers full
-                  (running-full cost bound budget (rowCount t) tol start domain (stateOf u s) (g .running) far-gap less (omega (arith, g .long))))
+                  (running-full cost bound budget (rowCount t) tol start domain (stateIn u s) (g .running) far-gap less (omega (arith, g .long))))
 
               -- one split less is left
               pub going-counts : r .full ≡ false → budget - r .state .count < budget - s .count
@@ -146,13 +146,13 @@ module _
 
               pub going-on : r .full ≡ false → Going (r .state) v
               going-on e =
-                  let few = ltb-false (rowCount u) (length ((split cost bound (stateOf u s)) .list)) (sym (o .told) ∙ e) in
+                  let few = ltb-false (rowCount u) (length ((split cost bound (stateIn u s)) .list)) (sym (o .told) ∙ e) in
                   let m = o .moved e in
                   let peaks = grows (r .state) v m in
                   record {
                     running =
                         rw (m .state)
-                        (running-goes cost bound budget (rowCount t) tol start domain (stateOf u s) (g .running) far-gap less (omega (arith, g .long)));
+                        (running-goes cost bound budget (rowCount t) tol start domain (stateIn u s) (g .running) far-gap less (omega (arith, g .long)));
                     best = m .best;
                     long = m .long ∙ g .long;
                     longer = omega (arith, g .longer);

@@ -19,7 +19,7 @@ use Rattle.certificate.specs.Search.{keepBelow, boxAt, without, split}
 use Rattle.certificate.proofs.Kept.{keep-append}
 use Rattle.search.specs.declared.branch.Branches.{Branches}
 use Rattle.search.specs.declared.branch.State.{State}
-use Rattle.search.specs.Inside.{Listed, branchesOf, Placeable, stateOf, Steppable, Moved}
+use Rattle.search.specs.Inside.{Listed, branchesOf, Placeable, stateIn, Steppable, Moved}
 use Rattle.search.proofs.Placing.{listed-number}
 
 -- one box, kept or not
@@ -45,7 +45,7 @@ module _
     kept = keepBelow bound (br .best .cost) (stay ++ (br .left .half ∷ br .right .half ∷ []))
 
     abbrev after : Search.State
-    after = split cost bound (stateOf t s)
+    after = split cost bound (stateIn t s)
 
     taken : boxAt (rowsOf t n) at ≡ rowAt t at
     taken = rows-at t n at zeroBox (p .inside)

@@ -55,8 +55,8 @@ pub record Placeable (bound : Box → ℕ) (t : List ℤ) (n at : ℕ) (br : Bra
       length (keepBelow bound (br .best .cost) (without (rowsOf t n) at)) + (cond (br .left .kept) 1 0 + cond (br .right .kept) 1 0) ≤ rowCount t
 
 -- the state of a search whose open boxes are the first rows of t
-abbrev pub stateOf : List ℤ → State → Search.State
-stateOf t s = record { best = s .best .vector; list = rowsOf t (s .«open»); count = s .count; peak = s .peak }
+abbrev pub stateIn : List ℤ → State → Search.State
+stateIn t s = record { best = s .best .vector; list = rowsOf t (s .«open»); count = s .count; peak = s .peak }
 
 -- What a step is handed: a box that can be cut, at the place of the first smallest bound.
 pub record Steppable (cost : List ℤ → ℕ) (bound : Box → ℕ) (t : List ℤ) (s : State) (at : ℕ) : Type 0 where
@@ -72,7 +72,7 @@ pub record Steppable (cost : List ℤ → ℕ) (bound : Box → ℕ) (t : List �
 -- The state s₂ and the table u are those after a split of s₁ and t.
 pub record Moved (cost : List ℤ → ℕ) (bound : Box → ℕ) (t : List ℤ) (s₁ s₂ : State) (u : List ℤ) : Type 0 where
   pub best : s₂ .best ≡ bestOf cost (s₂ .best .vector)
-  pub state : stateOf u s₂ ≡ split cost bound (stateOf t s₁)
+  pub state : stateIn u s₂ ≡ split cost bound (stateIn t s₁)
   pub long : length u ≡ length t
   pub rest : drop (16 * s₂ .peak) u ≡ drop (16 * s₂ .peak) t
 
@@ -80,13 +80,13 @@ pub record Moved (cost : List ℤ → ℕ) (bound : Box → ℕ) (t : List ℤ) 
 pub record Outcome (cost : List ℤ → ℕ) (bound : Box → ℕ) (t : List ℤ) (s : State) (r : Stepped) (u : List ℤ) : Type 0 where
   pub same : r .full ≡ true → r .state ≡ s
   pub kept : r .full ≡ true → u ≡ t
-  pub told : r .full ≡ ltb (rowCount t) (length ((split cost bound (stateOf t s)) .list))
+  pub told : r .full ≡ ltb (rowCount t) (length ((split cost bound (stateIn t s)) .list))
   pub moved : r .full ≡ false → Moved cost bound t s (r .state) u
 
 -- The state s and the table u are those of the beginning, where the table was t.
 pub record Begun (cost : List ℤ → ℕ) (bound : Box → ℕ) (start : List ℤ) (domain : Box) (t : List ℤ) (s : State) (u : List ℤ) : Type 0 where
   pub best : s .best ≡ bestOf cost (s .best .vector)
-  pub state : stateOf u s ≡ begin cost bound start domain
+  pub state : stateIn u s ≡ begin cost bound start domain
   pub long : length u ≡ length t
   pub rest : drop (16 * s .peak) u ≡ drop (16 * s .peak) t
 

@@ -8,7 +8,7 @@ use native.Mathlib.Omega.{arith}
 use lib.ListN.{length, take, drop, set, length-append, length-set, take-append-drop}
 use lib.Seq.{drop-drop, drop-set-lt, take-suc-set}
 use Rattle.text.specs.Inside.{Put}
-use Rattle.text.specs.Line.{written}
+use Rattle.integers.specs.Lists.{over}
 use Rattle.text.specs.Text.{byte}
 
 -- lists that are the same from one place on are so from each later place on
@@ -46,6 +46,6 @@ at-front {b} {t} {a} {n} p =
     (n-is, sym (take-append-drop n a) ∙ rw (p .front, p .rest, n-is) refl)
 
 -- a text that was written is no longer than what it was written into is now
-pub written-long : (text out : List ℕ) → length text ≤ length (written text out)
-unfolding written
-written-long text out = omega (arith, length-append text (drop (length text) out))
+pub over-long : (text out : List ℕ) → length text ≤ length (over text out)
+unfolding over
+over-long text out = omega (arith, length-append text (drop (length text) out))

@@ -4,7 +4,7 @@ use mathlib.Core.List.{List, [], _++_}
 use Prim.Native.Nat.{ℕ, _*_}
 use Prim.Native.String.{String}
 use lib.Dec.{leb}
-use lib.ListN.{length, take, drop}
+use lib.ListN.{length, take}
 use Rattle.codes.specs.Codes.{numberOf}
 use Rattle.jobs.specs.declared.Model.{Model}
 use Rattle.search.specs.declared.Answer.{Answer}
@@ -44,7 +44,3 @@ takesLines out = leb 200 (length out)
 -- the line that goes into a buffer: none where some line would not fit
 unfoldable pub lineIn : Model → Answer → List ℕ → List ℕ
 lineIn m a out = cond (takesLines out) (line m a) []
-
--- The line, and then what stood there before.
-unfoldable pub written : List ℕ → List ℕ → List ℕ
-written text out = text ++ drop (length text) out

@@ -14,8 +14,9 @@ ghost use mathlib.Core.Path.{_≡_};
 ghost use Prim.Native.Nat.{_+_, _*_, _≤_, min};
 ghost use lib.ListN.{length};
 ghost use Rattle.codes.specs.Codes.{numberOf};
+ghost use Rattle.integers.specs.Lists.{over};
 ghost use Rattle.text.specs.Inside.{Put};
-ghost use Rattle.text.specs.Line.{field, fields, numbers, worded, lineIn, written};
+ghost use Rattle.text.specs.Line.{field, fields, numbers, worded, lineIn};
 ghost use Rattle.text.specs.Text.{byte};
 
 // The n × d used coordinates, of which a vector has 8 at most.
@@ -102,7 +103,7 @@ fn put_line(out: &mut [u8], m: Model, a: Answer) -> usize
 // into is kept, and the answer is 0.
 pub fn line(m: Model, a: Answer, out: &mut [u8]) -> usize
     ensures length { λ r. ⌜ r ≡ length (lineIn m a (now (out .entry))) ⌝ }
-    ensures line { λ _. ⌜ now (out .exit) ≡ written (lineIn m a (now (out .entry))) (now (out .entry)) ⌝ }
+    ensures line { λ _. ⌜ now (out .exit) ≡ over (lineIn m a (now (out .entry))) (now (out .entry)) ⌝ }
 {
     if out.len() < 200 {
         return 0;

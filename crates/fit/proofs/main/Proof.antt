@@ -3,7 +3,7 @@ use mathlib.Core.Path.{sym}
 use Prim.Native.Nat.{_≤_}
 use lib.ListN.{length}
 use lib.Seq.{length-take-le}
-use Rattle.text.proofs.Putting.{written-long}
+use Rattle.text.proofs.Putting.{over-long}
 use borrow.Author.Needs.{needs}
 use Rattle.fit.proofs.main.Statement.{statement}
 use Rattle.fit.proofs.main.Tie as tie
@@ -39,7 +39,7 @@ report-requires : tie.Need-report-requires
 report-requires c κs = search needs
 
 short : (c : tie.After-report) → c .report .result ≤ length (c .report .last .1 .1 .0)
-short c = rw (c .report .ensures .0, c .report .ensures .1 .0) (written-long _ _)
+short c = rw (c .report .ensures .0, c .report .ensures .1 .0) (over-long _ _)
 
 array-share-prefix-line : tie.Need-array-share-prefix-line
 array-share-prefix-line c = short (c .before .before)

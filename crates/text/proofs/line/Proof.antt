@@ -3,13 +3,14 @@ use mathlib.Core.Path.{refl}
 use lib.ListN.{length}
 use borrow.Author.Needs.{needs}
 use borrow.Author.Tests.{le-leb, lt-leb}
-use Rattle.text.specs.Line.{line, lineIn, written}
+use Rattle.integers.specs.Lists.{over}
+use Rattle.text.specs.Line.{line, lineIn}
 use Rattle.text.proofs.Putting.{at-front}
 use Rattle.text.proofs.line.Statement.{statement}
 use Rattle.text.proofs.line.Tie as tie
 
 returns : tie.Need-returns
-unfolding lineIn written
+unfolding lineIn over
 returns c = rw (lt-leb 200 (length (c .before .before .args .out .now)) (c .if1 .taken)) (refl, refl)
 
 put-line-requires : tie.Need-put-line-requires
@@ -19,7 +20,7 @@ same-length : tie.Need-same-length
 same-length c = search needs
 
 returns-2 : tie.Need-returns-2
-unfolding line lineIn written
+unfolding line lineIn over
 returns-2 c =
     let e = c .before .before .before .before in
     rw (le-leb 200 (length (e .before .before .args .out .now)) (e .if1 .left)) (at-front (c .before .before .put-line .ensures))
