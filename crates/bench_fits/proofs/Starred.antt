@@ -18,13 +18,12 @@ use Rattle.points.specs.Points.{unsignedAt, signedAt, pointAt, firstPoints, poi
 use Rattle.model.specs.Calls.{checkModel}
 use Rattle.records.specs.Fields.{bigEndian, fromBigEndian, vectorBytes, vectorOf}
 use Rattle.records.specs.Jobs.{jobBytes, jobOf}
-use Rattle.search.specs.Search.{searched}
 use Rattle.text.specs.Text.{digitsOf, decimal, signed, behindCommas, joined}
 use Rattle.text.specs.Line.{fields, line}
 use Rattle.report.specs.Report.{checkFit, fitAnswer, fitLine}
 use Rattle.bench_fits.specs.Starred.{StarredHold}
 
 pub starred-hold : StarredHold
-unfolding maxZ minZ floorHalf allZero inOrder checkShape atMost sideSize sides product checkBox firstLargest leftHalf rightHalf splitChecks splitAnswer lossOf dot residual sizeAt dotMax dotMin eMin eMax nearestTo0 leastSize least firstLeast label totalLoss cost bound keepBelow lowerBound firstSmallest cheaper begin split answer ifRoom step follow run search exponentOf fractionOf fieldsOf patternOf size checkScale checkLoss checkStart unsignedAt signedAt pointAt firstPoints pointsOf checkStore strayFrom checkStray checkModel bigEndian fromBigEndian vectorBytes vectorOf jobBytes jobOf searched digitsOf decimal signed behindCommas joined fields line checkFit fitAnswer fitLine
+unfolding maxZ minZ floorHalf allZero inOrder checkShape atMost sideSize sides product checkBox firstLargest leftHalf rightHalf splitChecks splitAnswer lossOf dot residual sizeAt dotMax dotMin eMin eMax nearestTo0 leastSize least firstLeast label totalLoss cost bound keepBelow lowerBound firstSmallest cheaper begin split answer ifRoom step follow run search exponentOf fractionOf fieldsOf patternOf size checkScale checkLoss checkStart unsignedAt signedAt pointAt firstPoints pointsOf checkStore strayFrom checkStray checkModel bigEndian fromBigEndian vectorBytes vectorOf jobBytes jobOf digitsOf decimal signed behindCommas joined fields line checkFit fitAnswer fitLine
 starred-hold =
     also refl (also refl (also refl (also refl (also refl (also refl (also refl (also refl (also refl (also refl (also refl (also refl (also refl (also refl (also refl (also refl (also refl (also refl (also refl none))))))))))))))))))

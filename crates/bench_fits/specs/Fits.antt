@@ -1,7 +1,7 @@
 -- What a bench fit can say of the definitions.
 use mathlib.Core.List.{List, [], _∷_, _++_}
 use mathlib.Core.Path.{_≡_}
-use Prim.Native.Nat.{ℕ, _-_, _*_}
+use Prim.Native.Nat.{ℕ, _-_}
 use Prim.Native.String.{String}
 use lib.IntN.{ℤ, pos, natAbs}
 use lib.ListN.{length, replicate}
@@ -19,11 +19,13 @@ use Rattle.records.specs.Jobs.{jobBytes}
 use Rattle.text.specs.Text.{ascii, byte}
 use Rattle.report.specs.Report.{fitLine}
 
+-- What the paper says in a bench fit: a thing worked out, and behind it the value that it has.
 pub data Fit : Type 0 where
   -- the residual of the first line
   residual-is : Model → List ℤ → Point → ℤ → Fit
   -- the loss, by p, ε and e
   loss-is : ℕ → ℕ → ℤ → ℕ → Fit
+  -- the label of a point
   label-is : Model → List ℤ → Point → ℕ → Fit
   -- the least size of the first line's residual over a box
   least-size-is : Model → Box → Point → ℕ → Fit
@@ -39,22 +41,25 @@ abbrev pub store : List ℤ → List ℕ
 store [] = []
 store (y ∷ ys) = vectorBytes (pos 1 ∷ pos 0 ∷ pos 0 ∷ pos 0 ∷ y ∷ pos 0 ∷ []) ++ store ys
 
+-- that the definition gives the value of the fit
 abbrev pub Holds : Fit → Type 0
 Holds (residual-is m v q e) = residual m v q 0 ≡ e
 Holds (loss-is p ε e value) = lossOf p ε (natAbs e) ≡ value
 Holds (label-is m v q value) = label m v q ≡ value
 Holds (least-size-is m B q value) = leastSize m B q 0 ≡ value
 Holds (splits-into n d B first second) = splitAnswer n d B ≡ record { check = Pass; left = first; right = second }
-Holds (fit-writes job ys line) = fitLine (jobBytes job ++ store ys) (replicate (16 * job .rows) (pos 0)) ≡ ascii line ++ byte 10
+Holds (fit-writes job ys line) = fitLine (jobBytes job ++ store ys) ≡ ascii line ++ byte 10
 Holds (pattern-is S w bits) = patternOf S w ≡ bits
 
 -- a vector with these coordinates and 0 after them
 abbrev pub vector : List ℤ → List ℤ
 vector ws = ws ++ replicate (8 - length ws) (pos 0)
 
+-- a box from these low to these high coordinates
 abbrev pub box : List ℤ → List ℤ → Box
 box low high = record { low = vector low; high = vector high }
 
+-- a point with this x1 and y and 0 else, as d = 1 asks
 abbrev pub point : ℤ → ℤ → Point
 point x y = record { x1 = x; x2 = pos 0; x3 = pos 0; x4 = pos 0; y = y; frame = 0 }
 

@@ -9,7 +9,7 @@ use native.Mathlib.Nat.{le-of-lt, min-eq-left}
 use native.Mathlib.Omega.{arith}
 use lib.Dec.{T, leb}
 use lib.IntN.{ℤ}
-use lib.ListN.{length, take, drop, take-append-drop, length-drop, drop-of-length-le}
+use lib.ListN.{length, take, drop, take-append-drop, length-append, length-drop, drop-of-length-le}
 use lib.Seq.{length-take-le, take-all, take-at, drop-at}
 use Rattle.integers.specs.Lists.{over}
 use Rattle.integers.proofs.Tests.{le-or-lt}
@@ -25,11 +25,11 @@ use Rattle.records.specs.Jobs.{jobOf, readJob}
 use Rattle.records.specs.declared.JobRead.{JobRead}
 use Rattle.rows.specs.Rows.{rowCount}
 use Rattle.search.proofs.Accepted.{accepted}
-use Rattle.search.specs.Search.{checkSearch, searchAnswer, TableAfter, Certified}
+use Rattle.search.specs.Search.{checkSearch, searched, searchAnswer, TableAfter, Certified}
 use Rattle.search.specs.declared.Answer.{Answer}
 use Rattle.text.specs.Line.{line, lineIn}
 use Rattle.report.specs.Inside.{Searched, numbersLent}
-use Rattle.report.specs.Report.{FitCertified, TableAfterFit, TableLent, checkFit, enough, fitAnswer, fitLine, reportLine, storeOf}
+use Rattle.report.specs.Report.{FitCertified, TableAfterFit, TableLent, checkFit, enough, fitAnswer, fitLine, fitSearch, reportLine, storeOf}
 
 -- no more numbers are lent than a table of 2,048 rows has
 pub lent-few : (r : ℕ) → numbersLent r ≤ 32768
@@ -62,6 +62,10 @@ lent-all r some =
     (λ many. absurd (omega (arith, rw (lt-leb r 2048 many) at some)))
     (le-or-lt r 2048)
 
+-- r rows of a table that has 2,048 are r rows
+row-count : (table : List ℤ) (r : ℕ) → 32768 ≤ length table → r ≤ 2048 → rowCount (take (16 * r) table) ≡ r
+row-count table r long few = omega (arith, length-take-le (16 * r) table (omega arith))
+
 -- what a search says of the front of the table, said of the whole
 pub lent-back :
     (store : List ℕ) (job : Job) (table part : List ℤ) (a : Answer) (n : ℕ) →
@@ -78,14 +82,19 @@ lent-back store job table part a n e few q =
       certificate = rw (← e) (q .1 .1);
     }
 
--- what a report says of the length of the line, the buffer and the table
+-- a text that was written over a buffer is the front of it
+written-front : (text out : List ℕ) → take (length text) (over text out) ≡ text
+unfolding over
+written-front text out = take-at text (drop (length text) out) (length text) refl
+
+-- what a report says of the length of the line, the buffer, the table and the line
 abbrev Reported : List ℕ → List ℤ → List ℕ → ℕ → List ℕ → List ℤ → Type 0
 Reported input table out n text after =
-    (n ≡ length (fitLine input table)) × ((text ≡ over (fitLine input table) out) × (TableAfterFit input table after × FitCertified input table))
+    (n ≡ length (fitLine input)) × ((text ≡ over (fitLine input) out) × (TableAfterFit input table after × FitCertified input (take n text)))
 
 module _ (input : List ℕ) (table : List ℤ) (long : 32768 ≤ length table) where
   abbrev Promised : Answer → List ℤ → Type 0
-  Promised a after = (a ≡ fitAnswer input table) × (TableAfterFit input table after × FitCertified input table)
+  Promised a after = (a ≡ fitAnswer input) × (TableAfterFit input table after × FitCertified input (fitLine input))
 
   by-length : {A : Type 0} → (72 ≤ length input → A) → (length input < 72 → A) → A
   by-length f g = ⊎-elim f g (le-or-lt 72 (length input))
@@ -110,6 +119,18 @@ module _ (input : List ℕ) (table : List ℤ) (long : 32768 ≤ length table) w
     unfolding checkFit checkSearch inOrder
     same-checks whole read = rw (le-leb 72 (length input) whole, lent-long, lent-row (job .rows), ← read) refl
 
+    same-long : length after ≡ length table
+    same-long =
+        omega (
+          arith,
+          length-append (take lent after) (drop lent after),
+          length-append (take lent table) (drop lent table),
+          ap length (take-append-drop lent after),
+          ap length (take-append-drop lent table),
+          s .rows .long,
+          ap length (s .rest),
+        )
+
     refused-fit : (why : Refusal) → checkFit input ≡ Refuse why → checkSearch (storeOf input) job (length (take lent table)) ≡ Refuse why → Promised a after
     unfolding fitAnswer searchAnswer
     refused-fit why e refuses =
@@ -117,6 +138,7 @@ module _ (input : List ℕ) (table : List ℤ) (long : 32768 ≤ length table) w
           s .told ∙ rw (refuses, e) refl,
           (
             record {
+              long = same-long;
               untouched = λ w h. same;
               open-rows = λ h. refused-not-passed why (sym e ∙ h);
               unused = λ h. refused-not-passed why (sym e ∙ h);
@@ -126,22 +148,30 @@ module _ (input : List ℕ) (table : List ℤ) (long : 32768 ≤ length table) w
           ),
         )
 
+    -- the search of the rows that were lent is the one of the definition
+    lent-rows : lent ≡ 16 * job .rows → rowCount (take lent table) ≡ job .rows
+    lent-rows all = rw all (row-count table (job .rows) long (omega (arith, lent-few (job .rows), all)))
+
+    same-search : job ≡ jobOf input → lent ≡ 16 * job .rows → searched (storeOf input) job (take lent table) ≡ fitSearch input
+    unfolding searched
+    same-search read all = rw (lent-rows all, read) refl
+
     accepted-fit : job ≡ jobOf input → checkFit input ≡ Pass → checkSearch (storeOf input) job (length (take lent table)) ≡ Pass → Promised a after
-    unfolding fitAnswer searchAnswer
+    unfolding fitAnswer fitLine searchAnswer
     accepted-fit read e pass =
         let some = accepted (storeOf input) job (length (take lent table)) pass .rows in
         let all : lent ≡ 16 * job .rows = lent-all (job .rows) (omega (arith, lent-long, some)) in
-        let rows : rowCount (take lent table) ≡ job .rows = omega (arith, lent-long, all) in
-        rw (← read) (
-          s .told ∙ rw (pass, e, all) refl,
+        let same = same-search read all in (
+          s .told ∙ rw (pass, e, same) refl,
           (
             record {
+              long = same-long;
               untouched = λ why h. refused-not-passed why (sym h ∙ e);
-              open-rows = λ h. rw (← read) (rw all at (s .rows .open-rows pass));
-              unused = λ h. rw (← read) (rw all at (s .rows .rest pass));
-              rest = λ h. rw (← read, ← all) (s .rest);
+              open-rows = λ h. rw (same, all, read) at (s .rows .open-rows pass);
+              unused = λ h. rw (same, all, read) at (s .rows .rest pass);
+              rest = λ h. rw (all, read) at (s .rest);
             },
-            λ h. rw (rows, all) at (s .certificate pass .1),
+            λ h. (rw e refl, rw (same, lent-rows all, read) at (s .certificate pass .1)),
           ),
         )
 
@@ -155,7 +185,7 @@ module _ (input : List ℕ) (table : List ℤ) (long : 32768 ≤ length table) w
         (λ whole. by-check (checkFit input) refl whole (read whole))
         (λ short. refused-fit Refusal.Length (short-refused short) (empty-refused job (length (take lent table)) short))
 
-    same-line : (72 ≤ length input → job ≡ jobOf input) → a ≡ fitAnswer input table → line (job .model) a ≡ fitLine input table
+    same-line : (72 ≤ length input → job ≡ jobOf input) → a ≡ fitAnswer input → line (job .model) a ≡ fitLine input
     unfolding fitLine fitAnswer line
     same-line read e =
         by-length
@@ -174,7 +204,9 @@ module _ (input : List ℕ) (table : List ℤ) (long : 32768 ≤ length table) w
         let p = promised read in
         let is = same-line read (p .0) in
         let fits = le-leb 200 (length out) room in
-        (rw fits at (q .0) ∙ ap length is, (rw fits at (q .1) ∙ ap (λ (l : List ℕ). over l out) is, p .1))
+        let long-as : n ≡ length (fitLine input) = rw fits at (q .0) ∙ ap length is in
+        let written : text ≡ over (fitLine input) out = rw fits at (q .1) ∙ ap (λ (l : List ℕ). over l out) is in
+        (long-as, (written, (p .1 .0, rw (long-as, written, written-front (fitLine input) out) (p .1 .1))))
 
 -- the job record is there, and what follows it is the store
 pub record-read : (input : List ℕ) (r : JobRead) → r ≡ readJob input → 72 ≤ length input → r .job ≡ jobOf input
@@ -197,7 +229,7 @@ module _ (input : List ℕ) (table : List ℤ) (out : List ℕ) where
   abbrev Lent : ℕ → List ℕ → List ℤ → Type 0
   Lent n text after =
       (n ≡ length (reportLine input table out))
-      × ((text ≡ over (reportLine input table out) out) × (TableLent input table out after × (enough table out ≡ true → FitCertified input table)))
+      × ((text ≡ over (reportLine input table out) out) × (TableLent input table out after × (enough table out ≡ true → FitCertified input (take n text))))
 
   pub nothing-lent : enough table out ≡ false → Lent 0 out table
   unfolding reportLine over

@@ -9,6 +9,7 @@ use lib.ListN.{length, take, drop}
 use Rattle.boxes.specs.Boxes.{checkBox, checkStart}
 use Rattle.certificate.specs.Certificate.{Certificate}
 use Rattle.certificate.specs.Search as Search
+use Rattle.certificate.specs.Search.{search}
 use Rattle.codes.specs.Codes.{passIf, inOrder, within}
 use Rattle.codes.specs.declared.Check.{Check}
 use Rattle.codes.specs.declared.Check.the-variants.{Pass, Refuse}
@@ -18,7 +19,7 @@ use Rattle.model.specs.Cost.{cost, bound}
 use Rattle.points.specs.Points.{pointsOf, checkStray}
 use Rattle.records.specs.Jobs.{jobOf}
 use Rattle.rows.specs.Rows.{rowsOf}
-use Rattle.search.specs.Search.{answerUnlessRefused, searched}
+use Rattle.search.specs.Search.{answerUnlessRefused, told}
 use Rattle.search.specs.declared.Answer.{Answer}
 use Rattle.text.specs.Line.{line, takesLines}
 
@@ -40,20 +41,24 @@ checkFit input =
     ∷ passIf (within 1 (job .rows) 2048) Refusal.Table
     ∷ [])
 
--- the numbers of the job's r rows
-abbrev pub numbersOf : List ℕ → ℕ
-numbersOf input = 16 * (jobOf input) .rows
+-- how many numbers the job's r rows have
+abbrev pub rowNumbers : List ℕ → ℕ
+rowNumbers input = 16 * (jobOf input) .rows
 
--- the search of the job, in its r rows of the table
-abbrev pub fitSearch : List ℕ → List ℤ → Search.Answer
-fitSearch input table = searched (storeOf input) (jobOf input) (take (numbersOf input) table)
+-- the search of the job, in its r rows
+abbrev pub fitSearch : List ℕ → Search.Answer
+fitSearch input =
+    let job = jobOf input in
+    let points = pointsOf (storeOf input) in
+    search (cost (job .model) points) (bound (job .model) points) (job .budget) (job .rows) (job .t) (job .start) (job .domain)
 
-unfoldable pub fitAnswer : List ℕ → List ℤ → Answer
-fitAnswer input table = answerUnlessRefused (checkFit input) (fitSearch input table)
+-- what fit answers: a refusal by the first check that refuses the input, else what the search comes to
+unfoldable pub fitAnswer : List ℕ → Answer
+fitAnswer input = answerUnlessRefused (checkFit input) (fitSearch input)
 
--- the line that fit writes
-unfoldable pub fitLine : List ℕ → List ℤ → List ℕ
-fitLine input table = line ((jobOf input) .model) (fitAnswer input table)
+-- "Its one line", of that answer
+unfoldable pub fitLine : List ℕ → List ℕ
+fitLine input = line ((jobOf input) .model) (fitAnswer input)
 
 -- whether the table has 2,048 rows and the buffer takes every line
 abbrev pub enough : List ℤ → List ℕ → Bool
@@ -61,28 +66,30 @@ enough table out = leb 32768 (length table) && takesLines out
 
 -- the line that a report writes: none where it is lent too little
 unfoldable pub reportLine : List ℕ → List ℤ → List ℕ → List ℕ
-reportLine input table out = cond (enough table out) (fitLine input table) []
+reportLine input table out = cond (enough table out) (fitLine input) []
 
 -- The table afterwards. At a refusal it is as it was. Else, of the job's rows, "the first rows hold the open boxes in list order" and from peak
 -- on nothing changed; the other rows are kept.
 pub record TableAfterFit (input : List ℕ) (table after : List ℤ) : Type 0 where
+  pub long : length after ≡ length table
   pub untouched : (why : Refusal) → checkFit input ≡ Refuse why → after ≡ table
-  pub open-rows : checkFit input ≡ Pass → rowsOf (take (numbersOf input) after) (length ((fitSearch input table) .list)) ≡ (fitSearch input table) .list
+  pub open-rows : checkFit input ≡ Pass → rowsOf (take (rowNumbers input) after) (length ((fitSearch input) .list)) ≡ (fitSearch input) .list
   pub unused :
       checkFit input ≡ Pass →
-      drop (16 * (fitSearch input table) .peak) (take (numbersOf input) after) ≡ drop (16 * (fitSearch input table) .peak) (take (numbersOf input) table)
-  pub rest : checkFit input ≡ Pass → drop (numbersOf input) after ≡ drop (numbersOf input) table
+      drop (16 * (fitSearch input) .peak) (take (rowNumbers input) after) ≡ drop (16 * (fitSearch input) .peak) (take (rowNumbers input) table)
+  pub rest : checkFit input ≡ Pass → drop (rowNumbers input) after ≡ drop (rowNumbers input) table
 
 -- where too little is lent it stays as it was
 pub record TableLent (input : List ℕ) (table : List ℤ) (out : List ℕ) (after : List ℤ) : Type 0 where
   pub idle : enough table out ≡ false → after ≡ table
   pub kept : enough table out ≡ true → TableAfterFit input table after
 
--- What demand 3 asks of the answer to an accepted job, with its r rows.
-abbrev pub FitCertified : List ℕ → List ℤ → Type 0
-FitCertified input table =
+-- A text handed over for an accepted job is certified: it tells what the search comes to, and of that demand 3 holds, with the job's r rows.
+abbrev pub FitCertified : List ℕ → List ℕ → Type 0
+FitCertified input text =
     let job = jobOf input in
     let points = pointsOf (storeOf input) in
     checkFit input ≡ Pass →
-    Certificate (cost (job .model) points) (bound (job .model) points) (job .budget) (job .rows) (job .t) (job .start) (job .domain)
-    (fitSearch input table)
+    (text ≡ line (job .model) (told (fitSearch input)))
+    × Certificate (cost (job .model) points) (bound (job .model) points) (job .budget) (job .rows) (job .t) (job .start) (job .domain)
+    (fitSearch input)

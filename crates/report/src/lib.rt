@@ -4,7 +4,7 @@ use search::Answer;
 ghost use mathlib.Core.Path.{_≡_};
 ghost use mathlib.Core.Bool.{true};
 ghost use Prim.Native.Nat.{_≤_, min};
-ghost use lib.ListN.{length};
+ghost use lib.ListN.{length, take};
 ghost use Rattle.integers.specs.Lists.{over};
 ghost use Rattle.report.specs.Inside.{Searched, numbersLent};
 ghost use Rattle.report.specs.Report.{FitCertified, TableAfterFit, TableLent, enough, fitLine, reportLine};
@@ -39,10 +39,10 @@ fn store_start(bytes: usize) -> usize
 // The line, where there are 2,048 rows and every line fits.
 fn write_line(input: &[u8], table: &mut [i16], out: &mut [u8]) -> usize
     requires { ⌜ (32768 ≤ length (now table)) × (200 ≤ length (now out)) ⌝ }
-    ensures length { λ r. ⌜ r ≡ length (fitLine (now (input .entry)) (now (table .entry))) ⌝ }
-    ensures line { λ _. ⌜ now (out .exit) ≡ over (fitLine (now (input .entry)) (now (table .entry))) (now (out .entry)) ⌝ }
+    ensures length { λ r. ⌜ r ≡ length (fitLine (now (input .entry))) ⌝ }
+    ensures line { λ _. ⌜ now (out .exit) ≡ over (fitLine (now (input .entry))) (now (out .entry)) ⌝ }
     ensures table { λ _. ⌜ TableAfterFit (now (input .entry)) (now (table .entry)) (now (table .exit)) ⌝ }
-    ensures certificate { λ _. ⌜ FitCertified (now (input .entry)) (now (table .entry)) ⌝ }
+    ensures certificate { λ r. ⌜ FitCertified (now (input .entry)) (take r (now (out .exit))) ⌝ }
 {
     let read = records::read_job(input);
     let job = read.job;
@@ -58,7 +58,7 @@ pub fn report(input: &[u8], table: &mut [i16], out: &mut [u8]) -> usize
     ensures length { λ r. ⌜ r ≡ length (reportLine (now (input .entry)) (now (table .entry)) (now (out .entry))) ⌝ }
     ensures line { λ _. ⌜ now (out .exit) ≡ over (reportLine (now (input .entry)) (now (table .entry)) (now (out .entry))) (now (out .entry)) ⌝ }
     ensures table { λ _. ⌜ TableLent (now (input .entry)) (now (table .entry)) (now (out .entry)) (now (table .exit)) ⌝ }
-    ensures certificate { λ _. ⌜ (enough (now (table .entry)) (now (out .entry)) ≡ true → FitCertified (now (input .entry)) (now (table .entry))) ⌝ }
+    ensures certificate { λ r. ⌜ (enough (now (table .entry)) (now (out .entry)) ≡ true → FitCertified (now (input .entry)) (take r (now (out .exit)))) ⌝ }
 {
     if table.len() < 32768 {
         return 0;
