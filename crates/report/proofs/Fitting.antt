@@ -40,6 +40,15 @@ lent-few r =
     (λ many. rw (lt-leb r 2048 many) (omega arith))
     (le-or-lt r 2048)
 
+-- where a row is lent, all are
+lent-all : (r : ℕ) → 16 ≤ numbersLent r → numbersLent r ≡ 16 * r
+unfolding numbersLent
+lent-all r some =
+    ⊎-elim
+    (λ few. rw (le-leb r 2048 few) refl)
+    (λ many. absurd (omega (arith, rw (lt-leb r 2048 many) at some)))
+    (le-or-lt r 2048)
+
 -- a row is lent exactly if r is 1 to 2,048
 lent-row : (r : ℕ) → leb 16 (numbersLent r) ≡ within 1 r 2048
 unfolding numbersLent
@@ -51,15 +60,6 @@ lent-row r =
     (λ none. rw (le-leb r 2048 few, lt-leb 1 r none, lt-leb 16 (16 * r) (omega arith)) refl)
     (le-or-lt 1 r))
     (λ many. rw (lt-leb r 2048 many, le-leb 1 r (omega arith)) refl)
-    (le-or-lt r 2048)
-
--- where a row is lent, all are
-lent-all : (r : ℕ) → 16 ≤ numbersLent r → numbersLent r ≡ 16 * r
-unfolding numbersLent
-lent-all r some =
-    ⊎-elim
-    (λ few. rw (le-leb r 2048 few) refl)
-    (λ many. absurd (omega (arith, rw (lt-leb r 2048 many) at some)))
     (le-or-lt r 2048)
 
 -- r rows of a table that has 2,048 are r rows
@@ -87,7 +87,7 @@ written-front : (text out : List ℕ) → take (length text) (over text out) ≡
 unfolding over
 written-front text out = take-at text (drop (length text) out) (length text) refl
 
--- what a report says of the length of the line, the buffer, the table and the line
+-- what a report says of the length of the line, the buffer, the table and the text handed over
 abbrev Reported : List ℕ → List ℤ → List ℕ → ℕ → List ℕ → List ℤ → Type 0
 Reported input table out n text after =
     (n ≡ length (fitLine input)) × ((text ≡ over (fitLine input) out) × (TableAfterFit input table after × FitCertified input (take n text)))
@@ -148,10 +148,11 @@ module _ (input : List ℕ) (table : List ℤ) (long : 32768 ≤ length table) w
           ),
         )
 
-    -- the search of the rows that were lent is the one of the definition
+    -- where rows are lent they are the job's r
     lent-rows : lent ≡ 16 * job .rows → rowCount (take lent table) ≡ job .rows
     lent-rows all = rw all (row-count table (job .rows) long (omega (arith, lent-few (job .rows), all)))
 
+    -- and their search is the one of the definition
     same-search : job ≡ jobOf input → lent ≡ 16 * job .rows → searched (storeOf input) job (take lent table) ≡ fitSearch input
     unfolding searched
     same-search read all = rw (lent-rows all, read) refl

@@ -1,4 +1,5 @@
 -- By the test of the rows.
+use mathlib.Core.Path.{refl}
 use borrow.Author.Tests.{le-leb, lt-leb}
 use borrow.Author.Needs.{needs}
 use Rattle.report.specs.Inside.{numbersLent}
@@ -10,11 +11,11 @@ mul-result c = search needs
 
 returns : tie.Need-returns
 unfolding numbersLent
-returns c = rw (le-leb _ _ (c .if1 .taken))
+returns c = rw (le-leb (c .before .args .rows) 2048 (c .if1 .taken)) refl
 
 returns-2 : tie.Need-returns-2
 unfolding numbersLent
-returns-2 c = rw (lt-leb _ _ (c .if1 .left))
+returns-2 c = rw (lt-leb (c .before .args .rows) 2048 (c .if1 .left)) refl
 
 pub numbers-lent-spec : {M : Type 1} → statement M
 numbers-lent-spec = tie.close (tie.spec mul-result returns returns-2)
