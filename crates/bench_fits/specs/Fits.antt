@@ -59,7 +59,7 @@ vector ws = ws ++ replicate (8 - length ws) (pos 0)
 abbrev pub box : List ℤ → List ℤ → Box
 box low high = record { low = vector low; high = vector high }
 
--- a point with this x1 and y and 0 else, as d = 1 asks
+-- a point with this x1 and y; x2 to x4 are 0, as d = 1 asks, and so is the frame number
 abbrev pub point : ℤ → ℤ → Point
 point x y = record { x1 = x; x2 = pos 0; x3 = pos 0; x4 = pos 0; y = y; frame = 0 }
 

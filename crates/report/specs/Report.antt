@@ -41,18 +41,18 @@ checkFit input =
     ∷ passIf (within 1 (job .rows) 2048) Refusal.Table
     ∷ [])
 
--- how many numbers the job's r rows have
+-- the numbers of the job's r rows, each box "its own 16-number part"
 abbrev pub rowNumbers : List ℕ → ℕ
 rowNumbers input = 16 * (jobOf input) .rows
 
--- the search of the job, in its r rows
+-- The search that the job asks for: the costs and bounds are those of the store's points, and r is the job record's, "rows r (32)".
 abbrev pub fitSearch : List ℕ → Search.Answer
 fitSearch input =
     let job = jobOf input in
     let points = pointsOf (storeOf input) in
     search (cost (job .model) points) (bound (job .model) points) (job .budget) (job .rows) (job .t) (job .start) (job .domain)
 
--- what fit answers: a refusal by the first check that refuses the input, else what the search comes to
+-- what fit answers: the refusal of the first check that refuses, else what the search comes to
 unfoldable pub fitAnswer : List ℕ → Answer
 fitAnswer input = answerUnlessRefused (checkFit input) (fitSearch input)
 
@@ -68,8 +68,8 @@ enough table out = leb 32768 (length table) && takesLines out
 unfoldable pub reportLine : List ℕ → List ℤ → List ℕ → List ℕ
 reportLine input table out = cond (enough table out) (fitLine input) []
 
--- The table afterwards. At a refusal it is as it was. Else, of the job's rows, "the first rows hold the open boxes in list order" and from peak
--- on nothing changed; the other rows are kept.
+-- The table afterwards. It keeps its length, and at a refusal it is as it was. Else, of the job's rows, "the first rows hold the open
+-- boxes in list order" and from peak on nothing changed; the other rows are kept.
 pub record TableAfterFit (input : List ℕ) (table after : List ℤ) : Type 0 where
   pub long : length after ≡ length table
   pub untouched : (why : Refusal) → checkFit input ≡ Refuse why → after ≡ table
