@@ -1,5 +1,6 @@
 -- Where too little is lent nothing is written, and the line is none.
 use mathlib.Core.Path.{refl}
+use native.Mathlib.Omega.{arith}
 use lib.ListN.{length}
 use borrow.Author.Needs.{needs}
 use borrow.Author.Tests.{le-leb, lt-leb}
@@ -10,13 +11,16 @@ use Rattle.report.proofs.report.Tie as tie
 returns : tie.Need-returns
 returns c =
     let a = c .before .before .before .args in
-    nothing-lent (a .input .now) (a .table .now) (a .out .now) (rw (lt-leb 32768 (length (a .table .now)) (c .if1 .taken)) refl)
+    nothing-lent (a .input .now) (a .table .now) (a .out .now) (rw (lt-leb 32768 (length (a .table .now)) (omega (arith, c .if1 .taken))) refl)
 
 returns-2 : tie.Need-returns-2
 returns-2 c =
     let a = c .before .before .before .before .args in
     nothing-lent (a .input .now) (a .table .now) (a .out .now)
-    (rw (le-leb 32768 (length (a .table .now)) (c .before .if1 .left), lt-leb 200 (length (a .out .now)) (c .if2 .taken)) refl)
+    (rw (
+      le-leb 32768 (length (a .table .now)) (omega (arith, c .before .if1 .left)),
+      lt-leb 200 (length (a .out .now)) (omega (arith, c .if2 .taken)),
+    ) refl)
 
 write-line-requires : tie.Need-write-line-requires
 write-line-requires c κs = search needs
