@@ -377,8 +377,8 @@ impl Calls for Library {
         let mut output = Vec::new();
         program.stdout.take().unwrap().read_to_end(&mut output).unwrap();
         let status = program.wait().unwrap();
-        if status.code().is_none() {
-            output.extend(format!("fit was ended: {status}").bytes());
+        if !status.success() {
+            output.extend(format!("fit ended with {status}").bytes());
         }
         output
     }
