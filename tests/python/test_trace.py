@@ -7,44 +7,49 @@ import unittest
 ROOT = pathlib.Path(__file__).resolve().parents[2]
 CRATES = ROOT / "crates"
 COMPARE = ROOT / "tests" / "compare" / "src"
+NAME = re.compile(r"`([^`]+)`(?: \(([\w-]+(?:, [\w-]+)*)\))?")
 
 
 def text(path):
     return path.read_text(encoding="utf-8") if path.is_file() else ""
 
 
-def declared(source, name):
-    """A definition, a field, a law or a proof: `name : type`, or a record or a data type."""
-    word = re.escape(name)
-    return re.search(rf"^ *(?:(?:unfoldable |abbrev )?pub )?{word} :|^ *pub (?:record|data) {word}\b", source, re.M)
+def declarations(source):
+    """Each name that a file of definitions or proofs declares, as (kind, owner, name): a field of a record and a case of a
+    data type are what is indented below it; all else has neither kind nor owner."""
+    kind, owner, margin = None, None, -1
+    for line in source.splitlines():
+        indent = len(line) - len(line.lstrip())
+        if line.strip() and indent <= margin:
+            kind, owner, margin = None, None, -1
+        if found := re.match(r" *pub (record|data) ([^\s:]+)", line):
+            yield None, None, found[2]
+            kind, owner, margin = found[1], found[2], indent
+        elif found := re.match(r" *(?:(?:unfoldable |abbrev )?pub )?([^\s:]+) :", line):
+            yield kind, owner, found[1]
 
 
 def stands_in_logic(place, names, fields):
+    """A field stands in brackets behind its record, not alone; a case of a data type may do either."""
     crate, folder, file = re.fullmatch(r"(\w+)/(?:(proofs)/)?(\w+)", place).groups()
-    source = text(CRATES / crate / (folder or "specs") / f"{file}.antt")
-    return all(declared(source, name) for name in names.split(", ") + fields)
+    found = set(declarations(text(CRATES / crate / (folder or "specs") / f"{file}.antt")))
+    alone = {name for kind, _, name in found if kind != "record"}
+    owned = {(owner, name) for _, owner, name in found}
+    return set(names.split(", ")) <= alone and all((names, field) in owned for field in fields)
 
 
 def stands_in_code(crate, name, clauses):
+    """A public type, or a public function with these clauses in its own contract, which goes up to its body's brace."""
     source = "\n".join(text(path) for path in (CRATES / crate / "src").rglob("*.rt"))
-    public = rf'\bpub (?:extern "C" )?(?:fn|struct|enum) {name}\b'
-    return re.search(public, source) and all(re.search(rf"\bensures {clause} ", source) for clause in clauses)
+    if not clauses and re.search(rf"^ *pub (?:struct|enum) {name}\b", source, re.M):
+        return True
+    contracts = re.findall(rf'^( *)pub (?:extern "C" )?fn {name}\b(.*?)^\1[{{}}]', source, re.M | re.S)
+    return any(all(re.search(rf"^ *ensures {clause} ", found, re.M) for clause in clauses) for _, found in contracts)
 
 
-def compared(group, off):
-    """A group of cases, on if its call is in the list `exported`; the page says of the others that they are off."""
-    found = re.search(rf'group!\("{group}", "(\w+)",', text(COMPARE / "cases" / "mod.rs"))
-    exported = re.search(r"^exported = \[(.*?)\]", text(COMPARE.parent / "Cargo.toml"), re.M | re.S)[1]
-    return found and (f'"{found[1]}"' in exported) != off
-
-
-def stands(name, parts=(), off=False):
+def stands(name, parts=()):
     """Whether what a name of the page means is there, with the fields or clauses in brackets behind it."""
     parts = list(parts)
-    if found := re.fullmatch(r"compare ([\w-]+)", name):
-        return compared(found[1], off) and not parts
-    if off:
-        return False
     if found := re.fullmatch(r"(\w+(?:/proofs)?/\w+): (.+)", name):
         return stands_in_logic(*found.groups(), parts)
     if found := re.fullmatch(r"(\w+)::(\w+)", name):
@@ -53,6 +58,8 @@ def stands(name, parts=(), off=False):
         return False
     if found := re.fullmatch(r"must-fail (\w+)/(\w+)", name):
         return (CRATES / found[1] / "must-fail" / f"{found[2]}.edit").is_file()
+    if found := re.fullmatch(r"compare ([\w-]+)", name):
+        return f'group("{found[1]}", ' in text(COMPARE / "cases" / "mod.rs")
     if found := re.fullmatch(r"slip (\w+)", name):
         return re.search(rf"^ +{found[1]},$", text(COMPARE / "slips" / "mod.rs"), re.M)
     if found := re.fullmatch(r"program (\w+)", name):
@@ -62,33 +69,77 @@ def stands(name, parts=(), off=False):
     return False
 
 
-def rows():
-    """The rows of the tables of sentences: the sentence, and the three cells behind it."""
-    for line in text(ROOT / "docs" / "TRACE.md").splitlines():
-        cells = [cell.strip() for cell in re.split(r"(?<!\\)\|", line)[1:-1]]
-        if len(cells) == 4 and cells[0] not in ("Sentence", "---"):
-            yield cells[0], cells[1:]
+def parts_of(page):
+    """The page's legend, its tables of sentences and the words between these, each as lines. The first heading of the second
+    rank ends the legend; behind it a line with a bar is a row, or the head of a table."""
+    legend, sentences = re.split(r"^(?=## )", page, maxsplit=1, flags=re.M)
+    lines = sentences.splitlines()
+    heads = ("| Sentence | Stated | Proved | Run |", "|---|---|---|---|")
+    rows = [line for line in lines if "|" in line and line not in heads]
+    return legend.splitlines(), rows, [line for line in lines if "|" not in line]
+
+
+def cells(line):
+    """Of a row the four cells; of a line that has not this shape none."""
+    found = [cell.strip() for cell in re.split(r"(?<!\\)\|", line)]
+    return found[1:-1] if len(found) == 6 and found[0] == found[-1] == "" else []
+
+
+def names_of(page):
+    """The names of the page: examples in the first column of the legend, those in the words, and in a row all but the sentence."""
+    legend, rows, words = parts_of(page)
+    examples = [line.split("|")[1] for line in legend if line.startswith("| `")]
+    behind = [cell for row in rows for cell in cells(row)[1:]]
+    return NAME.findall("\n".join(examples + behind + words))
+
+
+def wrong_names(page):
+    return [name for name, parts in names_of(page) if not stands(name, parts.split(", ") if parts else ())]
+
+
+def wrong_rows(page):
+    """Rows that are not a sentence with three cells, none of them empty, behind it."""
+    return [row for row in parts_of(page)[1] if not cells(row) or not all(cells(row))]
 
 
 class Trace(unittest.TestCase):
-    def test_names_stand_where_the_page_says(self):
-        cells = "\n".join(cell for _, row in rows() for cell in row)
-        names = re.findall(r"`([^`]+)`(?: \(([\w-]+(?:, [\w-]+)*)\))?(, off\b)?", cells)
-        self.assertGreater(len(names), 300)
-        wrong = [name for name in names if not stands(name[0], name[1].split(", ") if name[1] else (), bool(name[2]))]
-        self.assertEqual(wrong, [])
+    page = text(ROOT / "docs" / "TRACE.md")
 
-    def test_no_cell_is_empty(self):
-        self.assertEqual([sentence for sentence, row in rows() if not all(row)], [])
+    def test_names_stand_where_the_page_says(self):
+        self.assertGreater(len(names_of(self.page)), 600)
+        self.assertEqual(wrong_names(self.page), [])
+
+    def test_every_row_is_a_sentence_with_three_cells(self):
+        self.assertGreater(len(parts_of(self.page)[1]), 100)
+        self.assertEqual(wrong_rows(self.page), [])
 
     def test_a_wrong_name_is_noticed(self):
         for name in ("loss/Loss: lossOff", "loss/Lost: lossOf", "loss/proofs/Laws: lossOf", "loss::losses", "losses::loss"):
             self.assertFalse(stands(name), name)
         for name in ("must-fail loss/none", "compare none", "slip Nothing", "program loss", "python test_none", "some words"):
             self.assertFalse(stands(name), name)
-        self.assertFalse(stands("loss/Laws: LossLaws", ["falls"]))
+
+    def test_a_part_of_another_owner_is_noticed(self):
+        self.assertTrue(stands("capi::vengutari_search", ["numbers"]))
+        self.assertFalse(stands("capi::vengutari_cost", ["numbers"]))
         self.assertFalse(stands("model::labels", ["outcome"]))
-        self.assertFalse(stands("compare loss", off=True))
+        self.assertFalse(stands("search::Kind", ["answer"]))
+        self.assertFalse(stands("compare loss", ["outcome"]))
+        self.assertTrue(stands("certificate/Certificate: Finished", ["stopped"]))
+        self.assertFalse(stands("certificate/Certificate: Certificate", ["stopped"]))
+        self.assertFalse(stands("certificate/Certificate: Finished, Certificate", ["stopped"]))
+        self.assertFalse(stands("certificate/Certificate: stopped"))
+        self.assertFalse(stands("loss/Laws: LossLaws", ["falls"]))
+
+    def test_a_wrong_page_is_noticed(self):
+        head = "| Name | What is meant |\n|---|---|\n## Part\n| Sentence | Stated | Proved | Run |\n|---|---|---|---|\n"
+        sound = '| A "a" | `loss/Loss: lossOf` | `loss::loss` | – |\n'
+        self.assertEqual((wrong_rows(head + sound), wrong_names(head + sound)), ([], []))
+        for row in ('| A "a" | b | c |', '| A "a" | b | c | d | e |', 'A "a" | b | c | d |', '| A "a" | b | c | d', '| A "a" | b | | d |'):
+            self.assertEqual(wrong_rows(head + sound + row), [row])
+        for line in ('| A "a" | `loss/Loss: lossOff` | c | d |', "Words of `loss/Loss: lossOff`."):
+            self.assertEqual(wrong_names(head + sound + line), ["loss/Loss: lossOff"])
+        self.assertEqual(wrong_names("| `loss::losses` | a function |\n" + head + sound), ["loss::losses"])
 
 
 if __name__ == "__main__":

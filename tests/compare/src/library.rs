@@ -1,7 +1,7 @@
 //! The product: its library through include/vengutari.h, and its program fit. All declarations for C stand
 //! in this file.
 
-use crate::calls::{Calls, Found};
+use compare::calls::{Calls, Found};
 use oracle::{AnswerRecord, Job, Model};
 use std::io::{Read, Write};
 use std::process::{Command, Stdio};
@@ -11,10 +11,9 @@ pub struct Library {
     pub fit: String,
 }
 
+#[link(name = "capi", kind = "static")]
 extern "C" {
-    #[cfg(feature = "loss")]
     fn vengutari_loss(p: u8, epsilon: u32, e: i64, value: *mut u64) -> u32;
-    #[cfg(feature = "cost")]
     fn vengutari_cost(
         store: *const u8,
         store_len: usize,
@@ -27,7 +26,6 @@ extern "C" {
         vector_len: usize,
         value: *mut u64,
     ) -> u32;
-    #[cfg(feature = "bound")]
     fn vengutari_bound(
         store: *const u8,
         store_len: usize,
@@ -40,7 +38,6 @@ extern "C" {
         corners_len: usize,
         value: *mut u64,
     ) -> u32;
-    #[cfg(feature = "split")]
     fn vengutari_split(
         n: u8,
         d: u8,
@@ -49,7 +46,6 @@ extern "C" {
         halves: *mut i16,
         halves_len: usize,
     ) -> u32;
-    #[cfg(feature = "labels")]
     fn vengutari_labels(
         store: *const u8,
         store_len: usize,
@@ -64,7 +60,6 @@ extern "C" {
         labels_len: usize,
         value: *mut u64,
     ) -> u32;
-    #[cfg(feature = "take_in")]
     fn vengutari_take_in(
         store: *mut u8,
         store_len: usize,
@@ -73,7 +68,6 @@ extern "C" {
         beacon_len: usize,
         value: *mut u64,
     ) -> u32;
-    #[cfg(feature = "search")]
     fn vengutari_search(
         store: *const u8,
         store_len: usize,
@@ -96,7 +90,6 @@ extern "C" {
         numbers_len: usize,
         value: *mut u64,
     ) -> u32;
-    #[cfg(feature = "read_job")]
     fn vengutari_read_job(
         bytes: *const u8,
         bytes_len: usize,
@@ -107,7 +100,6 @@ extern "C" {
         start: *mut i16,
         start_len: usize,
     ) -> u32;
-    #[cfg(feature = "write_job")]
     fn vengutari_write_job(
         n: u8,
         d: u8,
@@ -124,7 +116,6 @@ extern "C" {
         bytes: *mut u8,
         bytes_len: usize,
     ) -> u32;
-    #[cfg(feature = "read_answer")]
     fn vengutari_read_answer(
         bytes: *const u8,
         bytes_len: usize,
@@ -133,7 +124,6 @@ extern "C" {
         numbers: *mut u64,
         numbers_len: usize,
     ) -> u32;
-    #[cfg(feature = "write_answer")]
     fn vengutari_write_answer(
         vector: *const i16,
         vector_len: usize,
@@ -147,7 +137,6 @@ extern "C" {
         bytes: *mut u8,
         bytes_len: usize,
     ) -> u32;
-    #[cfg(feature = "write_line")]
     fn vengutari_write_line(
         d: u8,
         s: u8,
@@ -156,7 +145,6 @@ extern "C" {
         patterns: *mut u32,
         patterns_len: usize,
     ) -> u32;
-    #[cfg(feature = "read_line")]
     fn vengutari_read_line(
         d: u8,
         s: u8,
@@ -167,52 +155,32 @@ extern "C" {
     ) -> u32;
 }
 
-#[allow(dead_code)]
-fn off(call: &str) -> u32 {
-    panic!("{call} is not in the list of exported calls")
-}
-
-/// A call of the library where it is exported; groups of other calls are off.
-macro_rules! exported {
-    ($feature:literal, $call:expr) => {{
-        #[cfg(feature = $feature)]
-        let code = unsafe { $call };
-        #[cfg(not(feature = $feature))]
-        let code = off($feature);
-        code
-    }};
-}
-
-#[allow(unused_variables)]
 impl Calls for Library {
     fn loss(&self, p: u8, epsilon: u32, e: i64, value: &mut u64) -> u32 {
-        exported!("loss", vengutari_loss(p, epsilon, e, value))
+        unsafe { vengutari_loss(p, epsilon, e, value) }
     }
 
     fn cost(&self, store: &[u8], model: &Model, vector: &[i16], value: &mut u64) -> u32 {
         let Model { n, d, s, p, epsilon } = *model;
-        exported!(
-            "cost",
-            vengutari_cost(store.as_ptr(), store.len(), n, d, s, p, epsilon, vector.as_ptr(), vector.len(), value,)
-        )
+        unsafe {
+            vengutari_cost(store.as_ptr(), store.len(), n, d, s, p, epsilon, vector.as_ptr(), vector.len(), value)
+        }
     }
 
     fn bound(&self, store: &[u8], model: &Model, corners: &[i16], value: &mut u64) -> u32 {
         let Model { n, d, s, p, epsilon } = *model;
-        exported!(
-            "bound",
-            vengutari_bound(store.as_ptr(), store.len(), n, d, s, p, epsilon, corners.as_ptr(), corners.len(), value,)
-        )
+        unsafe {
+            vengutari_bound(store.as_ptr(), store.len(), n, d, s, p, epsilon, corners.as_ptr(), corners.len(), value)
+        }
     }
 
     fn split(&self, n: u8, d: u8, corners: &[i16], halves: &mut [i16]) -> u32 {
-        exported!("split", vengutari_split(n, d, corners.as_ptr(), corners.len(), halves.as_mut_ptr(), halves.len(),))
+        unsafe { vengutari_split(n, d, corners.as_ptr(), corners.len(), halves.as_mut_ptr(), halves.len()) }
     }
 
     fn labels(&self, store: &[u8], model: &Model, vector: &[i16], labels: &mut [u8], value: &mut u64) -> u32 {
         let Model { n, d, s, p, epsilon } = *model;
-        exported!(
-            "labels",
+        unsafe {
             vengutari_labels(
                 store.as_ptr(),
                 store.len(),
@@ -227,14 +195,11 @@ impl Calls for Library {
                 labels.len(),
                 value,
             )
-        )
+        }
     }
 
     fn take_in(&self, store: &mut [u8], mark: usize, beacon: &[u8], value: &mut u64) -> u32 {
-        exported!(
-            "take_in",
-            vengutari_take_in(store.as_mut_ptr(), store.len(), mark, beacon.as_ptr(), beacon.len(), value,)
-        )
+        unsafe { vengutari_take_in(store.as_mut_ptr(), store.len(), mark, beacon.as_ptr(), beacon.len(), value) }
     }
 
     fn search(
@@ -248,8 +213,7 @@ impl Calls for Library {
     ) -> u32 {
         let Model { n, d, s, p, epsilon } = job.model;
         let (vector, numbers) = (found.vector.part(), found.numbers.part());
-        exported!(
-            "search",
+        unsafe {
             vengutari_search(
                 store.as_ptr(),
                 store.len(),
@@ -272,12 +236,11 @@ impl Calls for Library {
                 numbers.len(),
                 &mut found.value,
             )
-        )
+        }
     }
 
     fn read_job(&self, bytes: &[u8], numbers: &mut [u64], corners: &mut [i16], start: &mut [i16]) -> u32 {
-        exported!(
-            "read_job",
+        unsafe {
             vengutari_read_job(
                 bytes.as_ptr(),
                 bytes.len(),
@@ -288,13 +251,12 @@ impl Calls for Library {
                 start.as_mut_ptr(),
                 start.len(),
             )
-        )
+        }
     }
 
     fn write_job(&self, job: &Job, corners: &[i16], start: &[i16], bytes: &mut [u8]) -> u32 {
         let Model { n, d, s, p, epsilon } = job.model;
-        exported!(
-            "write_job",
+        unsafe {
             vengutari_write_job(
                 n,
                 d,
@@ -311,12 +273,11 @@ impl Calls for Library {
                 bytes.as_mut_ptr(),
                 bytes.len(),
             )
-        )
+        }
     }
 
     fn read_answer(&self, bytes: &[u8], vector: &mut [i16], numbers: &mut [u64]) -> u32 {
-        exported!(
-            "read_answer",
+        unsafe {
             vengutari_read_answer(
                 bytes.as_ptr(),
                 bytes.len(),
@@ -325,13 +286,12 @@ impl Calls for Library {
                 numbers.as_mut_ptr(),
                 numbers.len(),
             )
-        )
+        }
     }
 
     fn write_answer(&self, answer: &AnswerRecord, vector: &[i16], bytes: &mut [u8]) -> u32 {
         let AnswerRecord { c, l, count, kind, n, d, s, .. } = *answer;
-        exported!(
-            "write_answer",
+        unsafe {
             vengutari_write_answer(
                 vector.as_ptr(),
                 vector.len(),
@@ -345,28 +305,19 @@ impl Calls for Library {
                 bytes.as_mut_ptr(),
                 bytes.len(),
             )
-        )
+        }
     }
 
     fn write_line(&self, d: u8, s: u8, coordinates: &[i16], patterns: &mut [u32]) -> u32 {
-        exported!(
-            "write_line",
-            vengutari_write_line(
-                d,
-                s,
-                coordinates.as_ptr(),
-                coordinates.len(),
-                patterns.as_mut_ptr(),
-                patterns.len(),
-            )
-        )
+        unsafe {
+            vengutari_write_line(d, s, coordinates.as_ptr(), coordinates.len(), patterns.as_mut_ptr(), patterns.len())
+        }
     }
 
     fn read_line(&self, d: u8, s: u8, patterns: &[u32], coordinates: &mut [i16]) -> u32 {
-        exported!(
-            "read_line",
-            vengutari_read_line(d, s, patterns.as_ptr(), patterns.len(), coordinates.as_mut_ptr(), coordinates.len(),)
-        )
+        unsafe {
+            vengutari_read_line(d, s, patterns.as_ptr(), patterns.len(), coordinates.as_mut_ptr(), coordinates.len())
+        }
     }
 
     fn fit(&self, input: &[u8]) -> Vec<u8> {

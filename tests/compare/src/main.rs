@@ -1,18 +1,12 @@
-//! Compares the product with the oracle over many cases. Each case comes from a seed, so that one that
-//! differs can be had again; the last line is 'N passed, M failed'.
+//! Compares the product with the oracle over many cases and names the seed of each that differs; the last line
+//! is 'N passed, M failed'.
 
-mod calls;
-mod cases;
-mod inputs;
-mod lent;
 mod library;
-mod random;
-#[cfg(test)]
-mod slips;
 
-use calls::Calls;
-use cases::{Group, Outcome, GROUPS};
-use random::Random;
+use compare::calls::Calls;
+use compare::cases::{Group, GROUPS};
+use compare::random::Random;
+use compare::run_case;
 use std::process::ExitCode;
 
 const USAGE: &str = "usage: compare [OPTIONS]
@@ -22,8 +16,7 @@ const USAGE: &str = "usage: compare [OPTIONS]
   --seed S        this seed alone, for each group
   --only GROUP    one group
   --fit PATH      the program fit
-  --trace         name each case before it is run
-  --list          list the groups";
+  --trace         name each case before it is run";
 
 struct Options {
     seeds: Option<u64>,
@@ -31,18 +24,10 @@ struct Options {
     only: Option<String>,
     fit: String,
     trace: bool,
-    list: bool,
-}
-
-/// One case of a group.
-pub fn run_case(calls: &dyn Calls, group: &Group, seed: u64) -> Outcome {
-    let name = group.name.bytes().fold(0, |hash: u64, byte| hash.wrapping_mul(257) ^ byte as u64);
-    (group.run)(calls, &mut Random::new(Random::new(name).next() ^ seed))
 }
 
 fn options() -> Result<Options, String> {
-    let mut options =
-        Options { seeds: None, from: None, only: None, fit: "fit".to_string(), trace: false, list: false };
+    let mut options = Options { seeds: None, from: None, only: None, fit: "fit".to_string(), trace: false };
     let mut words = std::env::args().skip(1);
     while let Some(word) = words.next() {
         let mut value = || words.next().ok_or(format!("{word} needs a value"));
@@ -54,7 +39,6 @@ fn options() -> Result<Options, String> {
             "--only" => options.only = Some(value()?),
             "--fit" => options.fit = value()?,
             "--trace" => options.trace = true,
-            "--list" => options.list = true,
             _ => return Err(format!("unknown option {word}")),
         }
     }
@@ -92,6 +76,24 @@ fn run_group(calls: &dyn Calls, group: &Group, seeds: std::ops::Range<u64>, trac
     (passed, failed)
 }
 
+/// Runs the groups that the options name and counts their cases.
+fn run(options: Options) -> (u64, u64) {
+    let calls = library::Library { fit: options.fit };
+    let from = options.from.unwrap_or_else(|| if options.seeds.is_some() { fresh_seed() } else { 0 });
+    if options.seeds.is_some() {
+        println!("seeds from {from}");
+    }
+    let (mut passed, mut failed) = (0, 0);
+    for group in GROUPS.iter().filter(|group| options.only.as_ref().is_none_or(|only| group.name == only)) {
+        // A group of one case does not use its seed.
+        let count = if group.cases == 1 { 1 } else { options.seeds.unwrap_or(group.cases) };
+        let (more_passed, more_failed) = run_group(&calls, group, from..from + count, options.trace);
+        passed += more_passed;
+        failed += more_failed;
+    }
+    (passed, failed)
+}
+
 fn main() -> ExitCode {
     let options = match options() {
         Ok(options) => options,
@@ -100,33 +102,7 @@ fn main() -> ExitCode {
             return ExitCode::from(2);
         }
     };
-    if options.list {
-        for group in GROUPS {
-            println!("{} ({}) {}", group.name, group.call, if group.on { "on" } else { "off" });
-        }
-        return ExitCode::SUCCESS;
-    }
-    let calls = library::Library { fit: options.fit };
-    let from = options.from.unwrap_or_else(|| if options.seeds.is_some() { fresh_seed() } else { 0 });
-    if options.seeds.is_some() {
-        println!("seeds from {from}");
-    }
-    let (mut passed, mut failed) = (0, 0);
-    let mut off = vec![];
-    for group in GROUPS.iter().filter(|group| options.only.as_ref().map_or(true, |only| group.name == only)) {
-        if !group.on {
-            off.push(group.name);
-            continue;
-        }
-        // A group of one case does not use its seed.
-        let count = if group.cases == 1 { 1 } else { options.seeds.unwrap_or(group.cases) };
-        let (more_passed, more_failed) = run_group(&calls, group, from..from + count, options.trace);
-        passed += more_passed;
-        failed += more_failed;
-    }
-    if !off.is_empty() {
-        println!("off, not compared and not counted: {}", off.join(", "));
-    }
+    let (passed, failed) = run(options);
     println!("{passed} passed, {failed} failed");
     if failed == 0 {
         ExitCode::SUCCESS

@@ -19,55 +19,53 @@ pub type Outcome = Result<(), String>;
 
 pub struct Group {
     pub name: &'static str,
-    /// The call that is compared, and whether it is in the list `exported` of Cargo.toml.
+    /// The call that is compared.
     pub call: &'static str,
-    pub on: bool,
     /// The number of cases of a run with fixed seeds.
     pub cases: u64,
-    pub run: fn(&dyn Calls, &mut Random) -> Outcome,
+    pub run: Run,
 }
 
-/// A row of the table of groups; the second word is the call in the list `exported` of Cargo.toml.
-macro_rules! group {
-    ($name:literal, $call:literal, $cases:literal, $run:path) => {
-        Group { name: $name, call: $call, on: cfg!(feature = $call), cases: $cases, run: $run }
-    };
+type Run = fn(&dyn Calls, &mut Random) -> Outcome;
+
+const fn group(name: &'static str, call: &'static str, cases: u64, run: Run) -> Group {
+    Group { name, call, cases, run }
 }
 
 pub const GROUPS: &[Group] = &[
-    group!("bench-A", "cost", 1, bench::a),
-    group!("bench-B", "loss", 1, bench::b),
-    group!("bench-C", "labels", 1, bench::c),
-    group!("bench-D", "bound", 1, bench::d),
-    group!("bench-E", "split", 1, bench::e),
-    group!("bench-F", "split", 1, bench::f),
-    group!("bench-G", "fit", 1, bench::g),
-    group!("bench-H", "fit", 1, bench::h),
-    group!("bench-I", "fit", 1, bench::i),
-    group!("bench-J", "fit", 1, bench::j),
-    group!("bench-G-to-J-searched", "search", 1, bench::searched),
-    group!("bench-K-written", "write_line", 1, bench::k_written),
-    group!("bench-K-read", "read_line", 1, bench::k_read),
-    group!("bench-L", "take_in", 1, bench::l),
-    group!("loss", "loss", 3000, model::loss),
-    group!("cost", "cost", 4000, model::cost),
-    group!("bound", "bound", 4000, model::bound),
-    group!("split", "split", 3000, model::split),
-    group!("labels", "labels", 3000, model::labels),
-    group!("take_in", "take_in", 3000, beacon::take_in),
-    group!("search-exhaustive", "search", 4000, search::exhaustive),
-    group!("search-wide", "search", 1000, search::wide),
-    group!("search-damaged", "search", 2000, search::damaged),
-    group!("read_job", "read_job", 500, records::read_job),
-    group!("write_job", "write_job", 500, records::write_job),
-    group!("read_answer", "read_answer", 2000, records::read_answer),
-    group!("write_answer", "write_answer", 2000, records::write_answer),
-    group!("write_line", "write_line", 1000, lines::write_line),
-    group!("read_line", "read_line", 3000, lines::read_line),
-    group!("fit-any", "fit", 600, fit::any),
-    group!("fit-sound", "fit", 400, fit::sound),
-    group!("example-modes_2d", "fit", 1, fit::modes_2d),
-    group!("example-modes_4d", "fit", 1, fit::modes_4d),
+    group("bench-A", "cost", 1, bench::a),
+    group("bench-B", "loss", 1, bench::b),
+    group("bench-C", "labels", 1, bench::c),
+    group("bench-D", "bound", 1, bench::d),
+    group("bench-E", "split", 1, bench::e),
+    group("bench-F", "split", 1, bench::f),
+    group("bench-G", "fit", 1, bench::g),
+    group("bench-H", "fit", 1, bench::h),
+    group("bench-I", "fit", 1, bench::i),
+    group("bench-J", "fit", 1, bench::j),
+    group("bench-G-to-J-searched", "search", 1, bench::searched),
+    group("bench-K-written", "write_line", 1, bench::k_written),
+    group("bench-K-read", "read_line", 1, bench::k_read),
+    group("bench-L", "take_in", 1, bench::l),
+    group("loss", "loss", 3000, model::loss),
+    group("cost", "cost", 4000, model::cost),
+    group("bound", "bound", 4000, model::bound),
+    group("split", "split", 3000, model::split),
+    group("labels", "labels", 3000, model::labels),
+    group("take_in", "take_in", 3000, beacon::take_in),
+    group("search-exhaustive", "search", 4000, search::exhaustive),
+    group("search-wide", "search", 1000, search::wide),
+    group("search-damaged", "search", 2000, search::damaged),
+    group("read_job", "read_job", 500, records::read_job),
+    group("write_job", "write_job", 500, records::write_job),
+    group("read_answer", "read_answer", 2000, records::read_answer),
+    group("write_answer", "write_answer", 2000, records::write_answer),
+    group("write_line", "write_line", 1000, lines::write_line),
+    group("read_line", "read_line", 3000, lines::read_line),
+    group("fit-any", "fit", 600, fit::any),
+    group("fit-sound", "fit", 400, fit::sound),
+    group("example-modes_2d", "fit", 1, fit::modes_2d),
+    group("example-modes_4d", "fit", 1, fit::modes_4d),
 ];
 
 /// Compares a call's answer and value; `was` is the value that was lent.
