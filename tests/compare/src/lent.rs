@@ -43,6 +43,7 @@ impl<T: Copy + PartialEq + Debug> Lent<T> {
                 return Err(format!("{what}: element {} outside the lent part changed", k as i64 - GUARD as i64));
             }
         }
+        same(&format!("{what}, elements lent"), self.now().len(), expected.len())?;
         match (0..expected.len()).find(|&k| self.now()[k] != expected[k]) {
             Some(k) => Err(format!("{what}[{k}]: product {:?}, expected {:?}", self.now()[k], expected[k])),
             None => Ok(()),
@@ -56,5 +57,22 @@ pub fn same<T: PartialEq + Debug>(what: &str, product: T, expected: T) -> Result
         Ok(())
     } else {
         Err(format!("{what}: product {product:?}, expected {expected:?}"))
+    }
+}
+
+#[cfg(test)]
+mod tests {
+    use super::Lent;
+
+    #[test]
+    fn another_length_or_element_or_guard_is_noticed() {
+        let mut lent = Lent::new(3, |count| vec![7; count]);
+        lent.part()[1] = 8;
+        assert_eq!(lent.holds("buffer", &[7, 8, 7]), Ok(()));
+        for expected in [&[7, 8][..], &[7, 8, 7, 7], &[7, 7, 7]] {
+            assert!(lent.holds("buffer", expected).is_err());
+        }
+        lent.after[2] = 8;
+        assert!(lent.holds("buffer", &[7, 8, 7]).is_err());
     }
 }
