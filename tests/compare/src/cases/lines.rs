@@ -29,7 +29,7 @@ fn lengths(random: &mut Random) -> [usize; 2] {
     }
 }
 
-/// Sixty-four lines with neighbouring first coordinates, so that a run of some hundred cases writes them all.
+/// Sixty-four lines with neighbouring first coordinates.
 pub fn write_line(calls: &dyn Calls, random: &mut Random) -> Outcome {
     let (d, s) = settings(random);
     let lengths = lengths(random);
@@ -60,6 +60,34 @@ fn same_line<T: Copy + PartialEq + std::fmt::Debug>(
         Ok(line) => same("answer", code, 0).and(lent.holds("line", line)),
         Err(refusal) => same("answer", code, *refusal).and(lent.holds("line", lent.was())),
     }
+}
+
+/// Every w at every scale, at each of the four places.
+fn all_lines() -> impl Iterator<Item = (u8, [i16; 4])> {
+    let at_places = |w: i16| [0, 0x2000, 0x4000, 0x6000].map(|shift| w.wrapping_add(shift));
+    (0..16).flat_map(move |s| (i16::MIN..=i16::MAX).map(move |w| (s, at_places(w))))
+}
+
+/// Every w at every scale is written.
+pub fn write_all(calls: &dyn Calls, random: &mut Random) -> Outcome {
+    let mut patterns = Lent::new(4, |count| random.patterns(count));
+    for (s, coordinates) in all_lines() {
+        let code = calls.write_line(4, s, &coordinates, patterns.part());
+        let outcome = same_line(code, &patterns, &Ok(coordinates.map(|w| pattern(w, s))));
+        with_case(outcome, || format!("  d = 4, S = {s}, coordinates {coordinates:?}"))?;
+    }
+    Ok(())
+}
+
+/// Every w at every scale is read.
+pub fn read_all(calls: &dyn Calls, random: &mut Random) -> Outcome {
+    let mut read = Lent::new(4, |count| random.numbers(count));
+    for (s, coordinates) in all_lines() {
+        let patterns = coordinates.map(|w| pattern(w, s));
+        let outcome = same_line(calls.read_line(4, s, &patterns, read.part()), &read, &Ok(coordinates));
+        with_case(outcome, || format!("  d = 4, S = {s}, patterns {patterns:08X?}"))?;
+    }
+    Ok(())
 }
 
 /// A pattern of a coordinate, one beside it, one bit from it, of another scale, or any.

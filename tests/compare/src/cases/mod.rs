@@ -62,6 +62,8 @@ pub const GROUPS: &[Group] = &[
     group("write_answer", "write_answer", 2000, records::write_answer),
     group("write_line", "write_line", 1000, lines::write_line),
     group("read_line", "read_line", 3000, lines::read_line),
+    group("write_line-all", "write_line", 1, lines::write_all),
+    group("read_line-all", "read_line", 1, lines::read_all),
     group("fit-any", "fit", 600, fit::any),
     group("fit-sound", "fit", 400, fit::sound),
     group("example-modes_2d", "fit", 1, fit::modes_2d),

@@ -65,6 +65,7 @@ enum Slip {
     NegativeZeroRead,
     OffGridRounded,
     LastWUnread,
+    OneWOff,
     UnusedPatternRead,
     UnusedCoordinateWritten,
     FitWithoutLineEnd,
@@ -117,8 +118,8 @@ const SLIPS: &[(&str, &[Slip])] = &[
         &[AnswerLittleEndian, AnswerLimitIsPowerOfTwo, AnswerLOverC, AnswerShortBeforeCheck, WrongLengthTaken],
     ),
     ("read_answer", &[AnswerUnusedKept, WrongLengthTaken]),
-    ("read_line", &[NegativeZeroRead, OffGridRounded, LastWUnread, UnusedPatternRead, WrongLengthTaken]),
-    ("write_line", &[UnusedCoordinateWritten, WrongLengthTaken]),
+    ("read_line", &[NegativeZeroRead, OffGridRounded, LastWUnread, OneWOff, UnusedPatternRead, WrongLengthTaken]),
+    ("write_line", &[OneWOff, UnusedCoordinateWritten, WrongLengthTaken]),
     ("fit", &[FitWithoutLineEnd, FitWithRecord, FitAllCoordinates]),
 ];
 
@@ -132,7 +133,7 @@ fn is_noticed(call: &str, slip: Slip) -> bool {
 #[test]
 fn without_a_slip_no_case_fails() {
     for group in GROUPS {
-        for seed in 0..group.cases.div_ceil(4) {
+        for seed in 0..group.cases {
             if let Err(report) = run_case(&StandIn { slip: Slip::None }, group, seed) {
                 panic!("{} --seed {seed}\n{report}", group.name);
             }

@@ -14,6 +14,14 @@ pub struct Told {
     pub numbers: [u64; 5],
 }
 
+struct State {
+    best: Vector,
+    c: u64,
+    list: Vec<Box8>,
+    count: u32,
+    peak: usize,
+}
+
 impl StandIn {
     pub fn cut(&self, domain: &Box8) -> (Box8, Box8) {
         let side = |k: &usize| domain.high[*k] as i32 - domain.low[*k] as i32;
@@ -40,68 +48,86 @@ impl StandIn {
         points.iter().map(least).sum()
     }
 
-    /// The search with its slips; as the product may, it works in place of the table's first rows.
-    pub fn run(&self, job: &Job, points: &[Point], table: &mut [i16]) -> Told {
-        let rows = if self.slips(PartialRowUsed) { table.len().div_ceil(16) } else { table.len() / 16 };
-        let cost = |vector: &Vector| job.model.cost_of(points, vector);
-        let bound = |domain: &Box8| self.bound_of(&job.model, points, domain);
-        let below = |bound: u64, c: u64| match self.slip {
+    /// Keeps the boxes with bounds below C.
+    fn keep_below(&self, job: &Job, points: &[Point], c: u64, list: &mut Vec<Box8>) {
+        let below = |bound: u64| match self.slip {
             KeepsEqualBounds => bound <= c,
             DropsByUnreachedC => bound < c.saturating_sub(job.t),
             _ => bound < c,
         };
-        let (mut best, mut c) = (job.start, cost(&job.start));
-        let mut list: Vec<Box8> = vec![job.domain];
-        list.retain(|domain| below(bound(domain), c) && !domain.is_one_vector());
-        let mut count = 0;
-        let mut peak = list.len();
+        list.retain(|domain| below(self.bound_of(&job.model, points, domain)) && !domain.is_one_vector());
+    }
+
+    fn begin(&self, job: &Job, points: &[Point]) -> State {
+        let c = job.model.cost_of(points, &job.start);
+        let mut list = vec![job.domain];
+        self.keep_below(job, points, c, &mut list);
+        State { best: job.start, c, count: 0, peak: list.len(), list }
+    }
+
+    /// Whether the search is solved or spent.
+    fn stops(&self, job: &Job, state: &State, l: u64) -> Option<Kind> {
+        // A wrong cut need not end by itself; no case of the groups needs so many splits.
+        let spent = state.count == job.budget || state.count == 5000;
+        let solved = state.c - l <= job.t;
+        match self.slip {
+            SpentBeforeSolved if spent => Some(Kind::Spent),
+            _ if solved => Some(Kind::Solved),
+            _ => (spent || self.slips(NeverSplits)).then_some(Kind::Spent),
+        }
+    }
+
+    /// The state after a split, whether or not it has room in the table.
+    fn split(&self, job: &Job, points: &[Point], state: &State, l: u64) -> State {
+        let bound = |k: usize| self.bound_of(&job.model, points, &state.list[k]);
+        let mut smallest = (0..state.list.len()).filter(|&k| bound(k) == l);
+        let k = if self.slips(TakesLastSmallest) { smallest.last() } else { smallest.next() }.unwrap();
+        let mut list = state.list.clone();
+        let (left, right) = self.cut(&list.remove(k));
+        let (mut best, mut c) = (state.best, state.c);
+        let children = if self.slips(RightChildUncosted) { vec![left] } else { vec![left, right] };
+        for child in children {
+            let cost = job.model.cost_of(points, &child.low);
+            if cost < c || self.slips(EqualCostBecomesBest) && cost == c {
+                (best, c) = (child.low, cost);
+            }
+        }
+        list.extend([left, right]);
+        self.keep_below(job, points, c, &mut list);
+        State { best, c, count: state.count + 1, peak: state.peak.max(list.len()), list }
+    }
+
+    /// The search with its slips; as the product may, it works in place of the table's first rows.
+    pub fn run(&self, job: &Job, points: &[Point], table: &mut [i16]) -> Told {
+        let rows = if self.slips(PartialRowUsed) { table.len().div_ceil(16) } else { table.len() / 16 };
+        let mut state = self.begin(job, points);
         let (kind, l) = loop {
-            let l = list.iter().map(bound).min().unwrap_or(c).min(c);
-            // A wrong cut need not end by itself; no case of the groups needs so many splits.
-            let spent = count == job.budget || count == 5000;
-            if self.slips(SpentBeforeSolved) && spent {
-                break (Kind::Spent, l);
+            let bounds = state.list.iter().map(|domain| self.bound_of(&job.model, points, domain));
+            let l = bounds.min().unwrap_or(state.c).min(state.c);
+            if let Some(kind) = self.stops(job, &state, l) {
+                break (kind, l);
             }
-            if c - l <= job.t {
-                break (Kind::Solved, l);
-            }
-            if spent || self.slips(NeverSplits) {
-                break (Kind::Spent, l);
-            }
-            let mut smallest = (0..list.len()).filter(|&k| bound(&list[k]) == l);
-            let k = if self.slips(TakesLastSmallest) { smallest.last() } else { smallest.next() }.unwrap();
-            let mut next = list.clone();
-            let (left, right) = self.cut(&next.remove(k));
-            let (mut next_best, mut next_c) = (best, c);
-            let children = if self.slips(RightChildUncosted) { vec![left] } else { vec![left, right] };
-            for child in children {
-                let child_cost = cost(&child.low);
-                if child_cost < next_c || self.slips(EqualCostBecomesBest) && child_cost == next_c {
-                    (next_best, next_c) = (child.low, child_cost);
+            let next = self.split(job, points, &state, l);
+            if next.list.len() > rows {
+                match self.slip {
+                    PeakOfRefusedStep => state.peak = next.peak,
+                    FullStateAfterStep => (state.best, state.c) = (next.best, next.c),
+                    _ => {}
                 }
-            }
-            next.extend([left, right]);
-            next.retain(|domain| below(bound(domain), next_c) && !domain.is_one_vector());
-            let full = next.len() > rows;
-            if full && self.slips(PeakOfRefusedStep) {
-                peak = peak.max(next.len());
-            }
-            if full && self.slips(FullStateAfterStep) {
-                (best, c) = (next_best, next_c);
-            }
-            if full {
                 break (Kind::Full, l);
             }
-            (best, c, list) = (next_best, next_c, next);
-            count += 1;
-            peak = peak.max(list.len());
+            state = next;
         };
-        self.put_rows(&list, peak, table);
-        let l = if self.slips(BoundIsZero) { 0 } else { l.min(c) };
-        let count = count as u64 + self.slips(CountOneMore) as u64;
-        let open = list.len() as u64;
-        let peak = if self.slips(PeakIsOpen) { open } else { peak as u64 };
-        Told { kind, vector: best, numbers: [c, l, count, open, peak] }
+        self.put_rows(&state.list, state.peak, table);
+        self.told(kind, &state, l)
+    }
+
+    fn told(&self, kind: Kind, state: &State, l: u64) -> Told {
+        let l = if self.slips(BoundIsZero) { 0 } else { l.min(state.c) };
+        let count = state.count as u64 + self.slips(CountOneMore) as u64;
+        let open = state.list.len() as u64;
+        let peak = if self.slips(PeakIsOpen) { open } else { state.peak as u64 };
+        Told { kind, vector: state.best, numbers: [state.c, l, count, open, peak] }
     }
 
     fn put_rows(&self, list: &[Box8], peak: usize, table: &mut [i16]) {
