@@ -2,6 +2,7 @@
 use crate::plain::{self, Model};
 use crate::random::Random;
 use crate::rattle;
+use crate::search::Domain;
 use std::hint::black_box;
 use std::time::Instant;
 
@@ -24,36 +25,44 @@ const EPS: u32 = 40_000;
 struct Case {
     model: Model,
     store: Vec<u8>,
-    low: [i16; 8],
-    high: [i16; 8],
+    domain: Domain,
     corners: [i16; 16],
+}
+
+/// Points of d dimensions anywhere.
+fn store(random: &mut Random, d: usize) -> Vec<u8> {
+    let mut store = Vec::with_capacity(12 * POINTS);
+    for frame in 0..POINTS {
+        let mut x = [0; 4];
+        for field in &mut x[..d] {
+            *field = random.between(-1000, 1000);
+        }
+        let y = random.between(-1000, 1000);
+        for field in x.into_iter().chain([y]) {
+            store.extend_from_slice(&field.to_be_bytes());
+        }
+        store.extend_from_slice(&(frame as u16).to_be_bytes());
+    }
+    store
+}
+
+/// A box with so many used coordinates.
+fn domain(random: &mut Random, used: usize) -> Domain {
+    let mut domain = Domain {
+        low: [0; 8],
+        high: [0; 8],
+    };
+    for k in 0..used {
+        domain.low[k] = random.between(-200, 199);
+        domain.high[k] = domain.low[k] + random.between(0, 99);
+    }
+    domain
 }
 
 fn case(n: usize, d: usize, p: u8) -> Case {
     let mut random = Random::new(12345);
-    let mut store = Vec::with_capacity(12 * POINTS);
-    for frame in 0..POINTS {
-        for k in 0..4 {
-            let x = if k < d {
-                random.between(-1000, 1000)
-            } else {
-                0
-            };
-            store.extend_from_slice(&x.to_be_bytes());
-        }
-        let y = random.between(-1000, 1000);
-        store.extend_from_slice(&y.to_be_bytes());
-        store.extend_from_slice(&(frame as u16).to_be_bytes());
-    }
-    let mut low = [0; 8];
-    let mut high = [0; 8];
-    for k in 0..n * d {
-        low[k] = random.between(-200, 199);
-        high[k] = low[k] + random.between(0, 99);
-    }
-    let mut corners = [0; 16];
-    corners[..8].copy_from_slice(&low);
-    corners[8..].copy_from_slice(&high);
+    let store = store(&mut random, d);
+    let domain = domain(&mut random, n * d);
     let model = Model {
         n,
         d,
@@ -64,19 +73,21 @@ fn case(n: usize, d: usize, p: u8) -> Case {
     Case {
         model,
         store,
-        low,
-        high,
-        corners,
+        corners: domain.corners(),
+        domain,
     }
 }
 
 /// Both sides and the whole calls agree before anything is timed.
 fn compare(c: &Case) {
-    let cost = plain::cost(&c.store, c.model, &c.low);
-    let bound = plain::bound(&c.store, c.model, &c.low, &c.high);
+    let cost = plain::cost(&c.store, c.model, &c.domain.low);
+    let bound = plain::bound(&c.store, c.model, &c.domain.low, &c.domain.high);
     assert_eq!(rattle::cost(&c.store, c.model, &c.corners), cost);
     assert_eq!(rattle::bound(&c.store, c.model, &c.corners), bound);
-    assert_eq!(rattle::cost_call(&c.store, c.model, &c.low), (0, cost));
+    assert_eq!(
+        rattle::cost_call(&c.store, c.model, &c.domain.low),
+        (0, cost)
+    );
     assert_eq!(
         rattle::bound_call(&c.store, c.model, &c.corners),
         (0, bound)
@@ -90,32 +101,49 @@ fn timed(least: f64, f: impl FnOnce() -> u64) -> f64 {
     least.min(start.elapsed().as_nanos() as f64)
 }
 
-/// Prints times and ratios, the least of so many interleaved rounds.
+fn cases() -> impl Iterator<Item = Case> {
+    let of_shape = |(n, d)| (0..3).map(move |p| case(n, d, p));
+    SHAPES.into_iter().flat_map(of_shape)
+}
+
+/// Compares all cases without timing them, and says how many they are.
+pub fn compare_all() -> usize {
+    let cases: Vec<Case> = cases().collect();
+    cases.iter().for_each(compare);
+    cases.len()
+}
+
+/// The least time of each side over so many interleaved rounds, in nanoseconds: of the cost in Rust and in Rattle, then of the bound.
+fn least_times(c: &Case, rounds: usize) -> [f64; 4] {
+    let mut least = [f64::INFINITY; 4];
+    for _ in 0..rounds {
+        let m = black_box(c.model);
+        least[0] = timed(least[0], || plain::cost(&c.store, m, &c.domain.low));
+        least[1] = timed(least[1], || rattle::cost(&c.store, m, &c.corners));
+        least[2] = timed(least[2], || {
+            plain::bound(&c.store, m, &c.domain.low, &c.domain.high)
+        });
+        least[3] = timed(least[3], || rattle::bound(&c.store, m, &c.corners));
+    }
+    least
+}
+
+/// Prints times and ratios.
 pub fn table(rounds: usize) {
     println!("{POINTS} points, least of {rounds} rounds, microseconds for one evaluation");
     println!("                     cost                          bound");
     println!("n d p      Rust    Rattle   ratio        Rust    Rattle   ratio");
     let mut worst = [0f64; 2];
-    for (n, d) in SHAPES {
-        for p in 0..3 {
-            let c = case(n, d, p);
-            compare(&c);
-            let mut least = [f64::INFINITY; 4];
-            for _ in 0..rounds {
-                let m = black_box(c.model);
-                least[0] = timed(least[0], || plain::cost(&c.store, m, &c.low));
-                least[1] = timed(least[1], || rattle::cost(&c.store, m, &c.corners));
-                least[2] = timed(least[2], || plain::bound(&c.store, m, &c.low, &c.high));
-                least[3] = timed(least[3], || rattle::bound(&c.store, m, &c.corners));
-            }
-            let [a, b, e, f] = least.map(|t| t / 1000.0);
-            println!(
-                "{n} {d} {p}  {a:8.1}  {b:8.1}  {:6.2}    {e:8.1}  {f:8.1}  {:6.2}",
-                b / a,
-                f / e
-            );
-            worst = [worst[0].max(b / a), worst[1].max(f / e)];
-        }
+    for c in cases() {
+        compare(&c);
+        let Model { n, d, p, .. } = c.model;
+        let [a, b, e, f] = least_times(&c, rounds).map(|t| t / 1000.0);
+        println!(
+            "{n} {d} {p}  {a:8.1}  {b:8.1}  {:6.2}    {e:8.1}  {f:8.1}  {:6.2}",
+            b / a,
+            f / e
+        );
+        worst = [worst[0].max(b / a), worst[1].max(f / e)];
     }
     println!("largest ratio: cost {:.2}, bound {:.2}", worst[0], worst[1]);
 }
@@ -124,8 +152,8 @@ pub fn table(rounds: usize) {
 pub fn once(n: usize, d: usize, p: u8) {
     let c = case(n, d, p);
     let m = black_box(c.model);
-    black_box(plain::cost(&c.store, m, &c.low));
+    black_box(plain::cost(&c.store, m, &c.domain.low));
     black_box(rattle::cost(&c.store, m, &c.corners));
-    black_box(plain::bound(&c.store, m, &c.low, &c.high));
+    black_box(plain::bound(&c.store, m, &c.domain.low, &c.domain.high));
     black_box(rattle::bound(&c.store, m, &c.corners));
 }

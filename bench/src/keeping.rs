@@ -1,5 +1,5 @@
 //! A search in plain Rust that keeps the bounds beside its open boxes, so that each is found once.
-use crate::search::{Answer, Domain, Job, Kind};
+use crate::search::{Answer, Domain, Job, Kind, Progress};
 
 /// The open boxes in list order, and their bounds.
 #[derive(Default)]
@@ -44,46 +44,32 @@ impl Open {
 
 #[inline(never)]
 pub fn search(job: &Job) -> Answer {
-    let mut best = job.start();
+    let best = job.start();
     let mut open = Open::default();
     let first = job.bound_up_to(&job.domain, best.cost);
     if first < best.cost {
         open.push(job.domain, first);
     }
-    let mut peak = open.bounds.len();
-    let mut count = 0;
+    let peak = open.bounds.len();
+    let mut progress = Progress {
+        best,
+        count: 0,
+        peak,
+    };
     loop {
-        let (at, bound) = open.smallest(best.cost);
-        let answer = |kind| Answer {
-            kind,
-            vector: best.vector,
-            cost: best.cost,
-            bound,
-            count,
-            open: open.bounds.len(),
-            peak,
-        };
-        if best.cost - bound <= job.t {
-            return answer(Kind::Solved);
-        }
-        if count == job.budget {
-            return answer(Kind::Spent);
+        let (at, bound) = open.smallest(progress.best.cost);
+        if let Some(kind) = progress.ended(job, bound) {
+            return progress.answer(kind, bound, open.bounds.len());
         }
         let (left, right) = open.domains[at].cut();
-        let new = job.tried(job.tried(best, left.low), right.low);
+        let new = job.tried(job.tried(progress.best, left.low), right.low);
         let halves = [left, right].map(|half| (half, job.bound_up_to(&half, new.cost)));
-        let more = halves.iter().filter(|(_, b)| *b < new.cost).count();
-        if open.kept(at, new.cost) + more > job.rows {
-            return answer(Kind::Full);
+        let below = halves.iter().filter(|(_, bound)| *bound < new.cost);
+        if open.kept(at, new.cost) + below.clone().count() > job.rows {
+            return progress.answer(Kind::Full, bound, open.bounds.len());
         }
         open.close_up(at, new.cost);
-        for (half, bound) in halves {
-            if bound < new.cost {
-                open.push(half, bound);
-            }
-        }
-        best = new;
-        count += 1;
-        peak = peak.max(open.bounds.len());
+        below.for_each(|(half, bound)| open.push(*half, *bound));
+        progress.split(new, open.bounds.len());
     }
 }

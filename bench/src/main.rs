@@ -2,6 +2,7 @@
 //!
 //!     bench evaluations [ROUNDS]     one evaluation of a cost and of a bound: the least of 400 interleaved rounds, or of ROUNDS
 //!     bench search [ROUNDS]          whole searches, the least of 10 rounds
+//!     bench compare                  that both sides give the same, without times; the last line is 'N passed, M failed'
 //!     bench once N D P               one evaluation of each, for counting instructions
 //!     bench once-search NUMBER       one search of each kind on the job of that number, for the same
 mod clock;
@@ -15,6 +16,12 @@ mod recomputing;
 mod search;
 mod searches;
 
+/// A difference stops the program.
+fn compare() {
+    let passed = evaluations::compare_all() + searches::compare_all();
+    println!("{passed} passed, 0 failed");
+}
+
 fn main() {
     let words: Vec<String> = std::env::args().skip(1).collect();
     let number = |k: usize| words[k].parse::<usize>().expect("a number");
@@ -23,8 +30,14 @@ fn main() {
         ("evaluations", 2) => evaluations::table(number(1)),
         ("search", 1) => searches::table(10),
         ("search", 2) => searches::table(number(1)),
+        ("compare", 1) => compare(),
         ("once", 4) => evaluations::once(number(1), number(2), number(3) as u8),
         ("once-search", 2) => searches::once(number(1)),
-        _ => eprintln!("bench evaluations|search [ROUNDS] | once N D P | once-search NUMBER"),
+        _ => {
+            eprintln!(
+                "bench evaluations|search [ROUNDS] | compare | once N D P | once-search NUMBER"
+            );
+            std::process::exit(2);
+        }
     }
 }

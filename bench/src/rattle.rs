@@ -159,9 +159,7 @@ pub fn bound_call(store: &[u8], m: Model, corners: &[i16; 16]) -> (u32, u64) {
 /// A whole search.
 pub fn search(job: &Job, table: &mut [i16]) -> Answer {
     let m = job.model;
-    let mut corners = [0; 16];
-    corners[..8].copy_from_slice(&job.domain.low);
-    corners[8..].copy_from_slice(&job.domain.high);
+    let corners = job.domain.corners();
     let mut vector = [0; 8];
     let mut numbers = [0; 5];
     let mut kind = 0;
@@ -191,6 +189,11 @@ pub fn search(job: &Job, table: &mut [i16]) -> Answer {
         )
     };
     assert_eq!(code, 0);
+    answer(kind, vector, numbers)
+}
+
+/// An answer from what a search has put into lent memory.
+fn answer(kind: u64, vector: [i16; 8], numbers: [u64; 5]) -> Answer {
     let [cost, bound, count, open, peak] = numbers;
     Answer {
         kind: [Kind::Solved, Kind::Spent, Kind::Full][kind as usize - 1],

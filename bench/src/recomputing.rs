@@ -1,6 +1,6 @@
 //! A search in plain Rust without a place for bounds: it finds those of its open boxes again at each step, each only as far as it is
 //! compared. These are the evaluations and the caps of the proved search.
-use crate::search::{Answer, Domain, Job, Kind};
+use crate::search::{Answer, Domain, Job, Kind, Progress};
 
 /// A row of the table: low, then high.
 type Row = [i16; 16];
@@ -53,57 +53,64 @@ fn compact(job: &Job, open: &mut [Row], cost: u64) -> usize {
     kept
 }
 
+/// The table, whose first rows are the open boxes.
+struct Table<'a> {
+    rows: &'a mut [Row],
+    open: usize,
+}
+
+impl Table<'_> {
+    fn push(&mut self, b: &Domain) {
+        write(&mut self.rows[self.open], b);
+        self.open += 1;
+    }
+
+    /// Whether there is room for so many more when the box at `at` is taken out. Where the cost fell, to `fell`, boxes with bounds
+    /// not below it make room too; they are looked for only if it is needed.
+    fn has_room(&self, job: &Job, at: usize, more: usize, fell: Option<u64>) -> bool {
+        let open = &self.rows[..self.open];
+        self.open - 1 + more <= self.rows.len()
+            || fell.is_some_and(|cost| kept_rows(job, open, at, cost) + more <= self.rows.len())
+    }
+
+    /// Takes out the box at `at` and, where the cost fell, those with bounds not below it.
+    fn close_up(&mut self, job: &Job, at: usize, fell: Option<u64>) {
+        self.rows.copy_within(at + 1..self.open, at);
+        self.open -= 1;
+        if let Some(cost) = fell {
+            self.open = compact(job, &mut self.rows[..self.open], cost);
+        }
+    }
+}
+
 #[inline(never)]
 pub fn search(job: &Job, table: &mut [i16]) -> Answer {
     let (rows, _) = table.as_chunks_mut::<16>();
-    let mut best = job.start();
-    let mut open = 0;
+    let mut table = Table { rows, open: 0 };
+    let best = job.start();
     if below(job, &job.domain, best.cost) {
-        write(&mut rows[0], &job.domain);
-        open = 1;
+        table.push(&job.domain);
     }
-    let mut peak = open;
-    let mut count = 0;
+    let mut progress = Progress {
+        best,
+        count: 0,
+        peak: table.open,
+    };
     loop {
-        let (at, bound) = smallest(job, &rows[..open], best.cost);
-        let answer = |kind| Answer {
-            kind,
-            vector: best.vector,
-            cost: best.cost,
-            bound,
-            count,
-            open,
-            peak,
-        };
-        if best.cost - bound <= job.t {
-            return answer(Kind::Solved);
+        let (at, bound) = smallest(job, &table.rows[..table.open], progress.best.cost);
+        if let Some(kind) = progress.ended(job, bound) {
+            return progress.answer(kind, bound, table.open);
         }
-        if count == job.budget {
-            return answer(Kind::Spent);
-        }
-        let (left, right) = read(&rows[at]).cut();
-        let new = job.tried(job.tried(best, left.low), right.low);
+        let (left, right) = read(&table.rows[at]).cut();
+        let new = job.tried(job.tried(progress.best, left.low), right.low);
         let halves = [left, right].map(|half| (half, below(job, &half, new.cost)));
-        let more = halves.iter().filter(|(_, kept)| *kept).count();
-        let fell = new.cost < best.cost;
-        let room = open - 1 + more <= rows.len()
-            || fell && kept_rows(job, &rows[..open], at, new.cost) + more <= rows.len();
-        if !room {
-            return answer(Kind::Full);
+        let kept = halves.iter().filter(|(_, kept)| *kept);
+        let fell = (new.cost < progress.best.cost).then_some(new.cost);
+        if !table.has_room(job, at, kept.clone().count(), fell) {
+            return progress.answer(Kind::Full, bound, table.open);
         }
-        rows.copy_within(at + 1..open, at);
-        open -= 1;
-        if fell {
-            open = compact(job, &mut rows[..open], new.cost);
-        }
-        for (half, kept) in halves {
-            if kept {
-                write(&mut rows[open], &half);
-                open += 1;
-            }
-        }
-        best = new;
-        count += 1;
-        peak = peak.max(open);
+        table.close_up(job, at, fell);
+        kept.for_each(|(half, _)| table.push(half));
+        progress.split(new, table.open);
     }
 }

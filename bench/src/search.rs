@@ -1,4 +1,4 @@
-//! What both plain searches share: a job, an answer, the best vector and the cut of a box.
+//! What both plain searches share: a job, an answer, what is carried from step to step, and the cut of a box.
 use crate::plain::{bound_up_to, cost_up_to, Model};
 
 /// A box.
@@ -67,7 +67,54 @@ impl Job {
     }
 }
 
+/// What a search carries from step to step beside its open boxes.
+pub struct Progress {
+    pub best: Best,
+    pub count: u32,
+    pub peak: usize,
+}
+
+impl Progress {
+    /// Solved or spent, where the search ends before the next split.
+    pub fn ended(&self, job: &Job, bound: u64) -> Option<Kind> {
+        if self.best.cost - bound <= job.t {
+            Some(Kind::Solved)
+        } else if self.count == job.budget {
+            Some(Kind::Spent)
+        } else {
+            None
+        }
+    }
+
+    pub fn answer(&self, kind: Kind, bound: u64, open: usize) -> Answer {
+        Answer {
+            kind,
+            vector: self.best.vector,
+            cost: self.best.cost,
+            bound,
+            count: self.count,
+            open,
+            peak: self.peak,
+        }
+    }
+
+    /// Counts a split after which so many boxes are open.
+    pub fn split(&mut self, best: Best, open: usize) {
+        self.best = best;
+        self.count += 1;
+        self.peak = self.peak.max(open);
+    }
+}
+
 impl Domain {
+    /// The low vector, then the high one.
+    pub fn corners(&self) -> [i16; 16] {
+        let mut corners = [0; 16];
+        corners[..8].copy_from_slice(&self.low);
+        corners[8..].copy_from_slice(&self.high);
+        corners
+    }
+
     /// Cuts the longest side, the lowest coordinate among equals, at its middle rounded down.
     pub fn cut(&self) -> (Domain, Domain) {
         let side = |k: usize| i32::from(self.high[k]) - i32::from(self.low[k]);

@@ -63,6 +63,14 @@ pub fn table(rounds: usize) {
     );
 }
 
+/// Compares all jobs without timing them, and says how many they are.
+pub fn compare_all() -> usize {
+    for shape in &SHAPES {
+        compare(&shape.job());
+    }
+    SHAPES.len()
+}
+
 /// One search of each kind, for counting instructions.
 pub fn once(number: usize) {
     let shape = &SHAPES[number];
