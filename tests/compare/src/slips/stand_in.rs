@@ -355,3 +355,9 @@ impl Calls for StandIn {
         line
     }
 }
+
+#[test]
+fn all_coordinates_are_eight() {
+    assert_eq!(with_all_coordinates(b"w=-2,3\n".to_vec()), b"w=-2,3,0,0,0,0,0,0\n");
+    assert_eq!(with_all_coordinates(b"w=1,2,3,4,5,6,7,8\n".to_vec()), b"w=1,2,3,4,5,6,7,8\n");
+}
