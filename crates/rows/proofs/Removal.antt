@@ -6,17 +6,24 @@ use Prim.Native.Nat.{ℕ, zero, suc, _+_, _*_, _-_, _≤_, _<_}
 use native.Mathlib.Omega.{arith}
 use lib.IntN.{ℤ}
 use lib.ListN.{length, take, drop, length-append, length-drop, drop-of-length-le}
-use lib.Seq.{paste, length-paste, drop-paste, take-at, drop-at, drop-drop, length-take-le, take-append-le, drop-append-le}
-use Rattle.rows.specs.Rows.{rowCount, rowAt, rowsOf, withoutRow}
+use lib.Seq.{paste, paste-zero, length-paste, take-paste, drop-paste, take-add, take-at, drop-at, drop-drop, length-take-le, take-append-le, drop-append-le}
+use Rattle.rows.specs.Rows.{rowCount, rowAt, rowsOf, withRow, withoutRow}
 use Rattle.rows.proofs.Parts.{part-before}
-use Rattle.rows.proofs.Rows.{row-there, rest-later, rows-more, rows-length, rows-same}
+use Rattle.rows.proofs.Rows.{row-there, row-whole, row-of-rest, rest-later, with-there, rows-more, rows-length, rows-same}
+
+-- the numbers behind row `at`, and how many of them move down
+abbrev numbersBehind : List ℤ → ℕ → List ℤ
+numbersBehind t at = drop (16 * (at + 1)) t
+
+abbrev movedOf : ℕ → ℕ → ℕ
+movedOf n at = 16 * (n - 1 - at)
 
 module _ (t : List ℤ) (n at : ℕ) (one : at < n) (there : n ≤ rowCount t) where
   abbrev behind : List ℤ
-  behind = drop (16 * (at + 1)) t
+  behind = numbersBehind t at
 
   abbrev moved : ℕ
-  moved = 16 * (n - 1 - at)
+  moved = movedOf n at
 
   without-there : withoutRow t n at ≡ paste t (16 * at) behind moved
   unfolding withoutRow
@@ -105,3 +112,43 @@ module _ (t : List ℤ) (n at : ℕ) (one : at < n) (there : n ≤ rowCount t) w
       let last : at + (n - 1 - at) ≡ n - 1 = omega arith in
       let all : at + 1 + (n - 1 - at) ≡ n = omega arith in
       rw (last, all) at (rows-up-to (n - 1 - at) (omega arith))
+
+-- Row `at` is taken out by moving one row after the other. At first none behind it has moved.
+pub without-last : (t : List ℤ) (at : ℕ) → at < rowCount t → withoutRow t (at + 1) at ≡ t
+without-last t at there =
+    let none : movedOf (at + 1) at ≡ 0 = omega arith in
+    without-there t (at + 1) at (omega arith) (omega arith) ∙ rw none (sym (paste-zero t (16 * at) (numbersBehind t at)))
+
+-- The first i rows without row `at`: with row i read and written one row down, they are the first i + 1 without it.
+module _ (t : List ℤ) (i at : ℕ) (one : at < i) (there : i < rowCount t) where
+  abbrev done : List ℤ
+  done = withoutRow t i at
+
+  abbrev now-there : i ≤ rowCount t
+  now-there = omega arith
+
+  -- the row that moves is still as it was
+  next-row : rowAt done i ≡ rowAt t i
+  next-row = row-of-rest t done i (length-without t i at one now-there) (rest-without t i at one now-there (16 * i) (omega arith))
+
+  -- its sixteen numbers are the next of those behind row `at`
+  next-numbers : take (movedOf (i + 1) at) (numbersBehind t at) ≡ take (movedOf i at) (numbersBehind t at) ++ (rowAt t i .low ++ rowAt t i .high)
+  next-numbers =
+      let more : movedOf (i + 1) at ≡ movedOf i at + 16 = omega arith in
+      let place : 16 * (at + 1) + movedOf i at ≡ 16 * i = omega arith in
+      rw (row-there t i there, ← drop-drop 8 (16 * i) t, ← take-add 8 8 (drop (16 * i) t), more)
+      (take-add (movedOf i at) 16 (numbersBehind t at) ∙ rw (drop-drop (movedOf i at) (16 * (at + 1)) t, place))
+
+  pub one-row-down : withRow done (i - 1) (rowAt done i) ≡ withoutRow t (i + 1) at
+  one-row-down =
+      let b = rowAt t i in
+      let m = movedOf i at in
+      let front : take (16 * (i - 1)) done ≡ take (16 * at) t ++ take m (numbersBehind t at) =
+      let e : 16 * (i - 1) ≡ 16 * at + m = omega arith in
+      rw (e, without-there t i at one now-there) (take-paste t (16 * at) (numbersBehind t at) m (omega arith) (behind-long t i at one now-there)) in
+      let rest : drop (16 * (i - 1) + 16) done ≡ drop (16 * at + movedOf (i + 1) at) t =
+      let e : 16 * (i - 1) + 16 ≡ 16 * at + movedOf (i + 1) at = omega arith in
+      rw e (rest-without t i at one now-there (16 * at + movedOf (i + 1) at) (omega arith)) in
+      let inside : i - 1 < rowCount done = omega (arith, length-without t i at one now-there) in
+      rw (next-row, with-there done (i - 1) b inside (row-whole t i), front, rest, without-there t (i + 1) at (omega arith) (omega arith), next-numbers)
+      (ap (λ (l : List ℤ). l ++ drop (16 * at + movedOf (i + 1) at) t) (append-assoc (take (16 * at) t) (take m (numbersBehind t at)) (b .low ++ b .high)))

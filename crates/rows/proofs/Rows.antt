@@ -61,7 +61,7 @@ module _ (t : List ℤ) (i : ℕ) (b : Box) where
   with-missing h = rw (le-ltb _ _ h)
 
   module _ (there : i < rowCount t) (w : Whole b) where
-    with-there : withRow t i b ≡ take (16 * i) t ++ (b .low ++ b .high) ++ drop (16 * i + 16) t
+    pub with-there : withRow t i b ≡ take (16 * i) t ++ (b .low ++ b .high) ++ drop (16 * i + 16) t
     unfolding withRow
     with-there = rw (lt-ltb _ _ there)
 

@@ -2,10 +2,10 @@
 use boxes::Box;
 ghost use mathlib.Core.Path.{_≡_};
 ghost use mathlib.Core.List.{_++_};
-ghost use Prim.Native.Nat.{_+_, _*_, _-_, _≤_, _<_};
+ghost use Prim.Native.Nat.{_+_, _≤_, _<_};
 ghost use lib.ListN.{length, take, drop};
 ghost use lib.Seq.{paste};
-ghost use Rattle.rows.specs.Rows.{rowAt, withRow, withoutRow};
+ghost use Rattle.rows.specs.Rows.{rowCount, rowAt, withRow, withoutRow};
 
 // The eight numbers from place `at` on.
 fn vector_at(table: &[i16], at: usize) -> [i16; 8]
@@ -71,16 +71,16 @@ pub fn write_row(table: &mut [i16], i: usize, b: Box)
     }
 }
 
-// Moves the numbers from place `from` + 16 up to place `to` down by 16 places.
-fn move_down(table: &mut [i16], from: usize, to: usize)
-    requires { ⌜ (from + 16 ≤ to) × (to ≤ length (now table)) ⌝ }
-    ensures { λ _. ⌜ now (table .exit) ≡ paste (now (table .entry)) from (drop (from + 16) (now (table .entry))) (to - 16 - from) ⌝ }
+// Moves each box in the rows behind row `at`, up to the n-th, one row down: it is read from its row and written as its own.
+fn move_down(table: &mut [i16], n: usize, at: usize)
+    requires { ⌜ (at < n) × (n ≤ rowCount (now table)) ⌝ }
+    ensures { λ _. ⌜ now (table .exit) ≡ withoutRow (now (table .entry)) n at ⌝ }
 {
-    let end = to - 16;
-    let mut k = from;
-    while k < end {
-        table[k] = table[k + 16];
-        k += 1;
+    let mut i = at + 1;
+    while i < n {
+        let b = read_row(table, i);
+        write_row(table, i - 1, b);
+        i += 1;
     }
 }
 
@@ -89,6 +89,6 @@ pub fn remove_row(table: &mut [i16], n: usize, at: usize)
     ensures { λ _. ⌜ now (table .exit) ≡ withoutRow (now (table .entry)) n at ⌝ }
 {
     if at < n && n <= table.len() / 16 {
-        move_down(table, 16 * at, 16 * n);
+        move_down(table, n, at);
     }
 }

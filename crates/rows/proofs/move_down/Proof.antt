@@ -1,78 +1,60 @@
--- The invariant: the numbers before place k are moved, the rest is as it was. The measure is what is left of them.
-use mathlib.Core.Path.{_≡_, refl}
-use Prim.Native.Nat.{suc, _+_, _-_, _≤_}
+-- The invariant: the table is the one with row `at` taken out of its first i rows. The measure is how many rows are left to move.
+use mathlib.Core.Path.{_≡_, sym}
+use Prim.Native.Nat.{_+_, _-_, _≤_, _<_}
 use native.Mathlib.Omega.{arith}
-use lib.IntN.{pos}
-use lib.ListN.{length, getD, drop, length-set}
-use lib.Seq.{paste, paste-zero}
-use mir.Syntax.{w16}
-use mir.ValLaws.{toZ-ofZ}
-use Rattle.rows.proofs.Parts.{one-down}
+use Rattle.rows.specs.Rows.{withoutRow}
+use Rattle.rows.proofs.Removal.{length-without, without-last, one-row-down}
 use Rattle.rows.proofs.move_down.Statement.{statement}
 use Rattle.rows.proofs.move_down.Tie as tie
 
 abbrev Inv-loop : tie.InvT-loop
-Inv-loop table₀ from to end k₀ table k =
-    (from ≤ k) × (k + 16 ≤ to) × (end ≡ to - 16) × (length table ≡ length table₀) × (table ≡ paste table₀ from (drop (from + 16) table₀) (k - from))
+Inv-loop table₀ n at i₀ table i = (at < i) × (i ≤ n) × (table ≡ withoutRow table₀ i at)
 
 abbrev μ-loop : tie.MeasureT-loop
-μ-loop table₀ from to end k₀ table k = end - k
+μ-loop table₀ n at i₀ table i = n - i
 
-sub-end : tie.Need-sub-end Inv-loop μ-loop
-sub-end c = omega arith
+add-i : tie.Need-add-i Inv-loop μ-loop
+add-i c = omega arith
 
 loop-holds : tie.Need-loop-holds Inv-loop μ-loop
-loop-holds c =
-    let a = c .args in
-    let t = a .table .now in
-    let none : a .from - a .from ≡ 0 = omega arith in
-    (omega arith, omega arith, refl, refl, rw none (paste-zero t (a .from) (drop (a .from + 16) t)))
+loop-holds c = (omega arith, omega arith, sym (without-last (c .args .table .now) (c .args .at) (omega arith)))
 
-add-table : tie.Need-add-table Inv-loop μ-loop
-add-table c = omega arith
+read-row-requires : tie.Need-read-row-requires Inv-loop μ-loop
+read-row-requires c κs = tt
 
-mul-table : tie.Need-mul-table Inv-loop μ-loop
-mul-table c = omega arith
+sub-write-row : tie.Need-sub-write-row Inv-loop μ-loop
+sub-write-row c = omega arith
 
-slice-copy-out-table : tie.Need-slice-copy-out-table Inv-loop μ-loop
-slice-copy-out-table c = omega arith
+write-row-requires : tie.Need-write-row-requires Inv-loop μ-loop
+write-row-requires c κs = tt
 
-mul-t11 : tie.Need-mul-t11 Inv-loop μ-loop
-mul-t11 c = omega arith
-
-slice-set-from-table : tie.Need-slice-set-from-table Inv-loop μ-loop
-slice-set-from-table c = omega arith
-
-add-k : tie.Need-add-k Inv-loop μ-loop
-add-k c = omega arith
+add-i-2 : tie.Need-add-i-2 Inv-loop μ-loop
+add-i-2 c = omega arith
 
 loop-less : tie.Need-loop-less Inv-loop μ-loop
 loop-less c = omega arith
 
 loop-again : tie.Need-loop-again Inv-loop μ-loop
 loop-again c =
-    let l = c .before .before in
+    let w = c .before in
+    let r = w .before .before in
+    let l = r .before .before .before in
     let a = l .before .args in
     let t = a .table .now in
-    let k = l .loop .k in
-    let j = k - a .from in
-    let back = toZ-ofZ w16 (getD (l .loop .table) (k + 16) (pos 0)) (record { sfits = c .table .given }) in
-    let next : k + 1 - a .from ≡ suc j = omega arith in (
-      omega arith,
-      omega arith,
-      refl,
-      simp length-set (l .loop .inv .3),
-      rw (back, next, l .loop .inv .4) (one-down t (a .from) 16 j (omega arith) k (omega arith)),
-    )
+    let down = one-row-down t (l .loop .i) (a .at) (omega arith) (omega arith) in
+    (omega arith, omega arith, rw (w .write-row .ensures, r .read-row .ensures, l .loop .inv .2) down)
 
 same-length : tie.Need-same-length Inv-loop μ-loop
-same-length c = c .before .loop .inv .3
+same-length c =
+    let l = c .before in
+    let a = l .before .args in
+    rw (l .loop .inv .2) (length-without (a .table .now) (l .loop .i) (a .at) (omega arith) (omega arith))
 
 returns : tie.Need-returns Inv-loop μ-loop
 returns c =
     let l = c .before in
-    let done : l .loop .k ≡ l .before .args .to - 16 = omega arith in
-    rw done at (l .loop .inv .4)
+    let all : l .loop .i ≡ l .before .args .n = omega arith in
+    rw all at (l .loop .inv .2)
 
 pub move-down-spec : {M : Type 1} → statement M
 move-down-spec =
@@ -80,14 +62,12 @@ move-down-spec =
     (tie.spec
     Inv-loop
     μ-loop
-    sub-end
+    add-i
     loop-holds
-    add-table
-    mul-table
-    slice-copy-out-table
-    mul-t11
-    slice-set-from-table
-    add-k
+    read-row-requires
+    sub-write-row
+    write-row-requires
+    add-i-2
     loop-less
     loop-again
     same-length
