@@ -31,24 +31,24 @@ use Rattle.coefficients.proofs.Checks.{three-pass, pass-three}
 use Rattle.coefficients.proofs.Lines.{both, four-mapped, rest-zero-read}
 
 -- ---- one number
+pub exact-coefficient : (S : ℕ) (w : ℤ) → ExactCoefficient S w
+exact-coefficient S w = record { value = λ h f. coefficient-exact S h w f; bits = λ h f. coefficient-bits S h w f }
+
+pub exact-reading : (S : ℕ) → ExactReading S
+exact-reading S =
+    record {
+      accepted = λ h w f. let r = found S h (patternOf S w) w f refl in (sym (r .0), sym (r .1));
+      no-other = λ p g. (coordinate-fits S p, on-grid S p g);
+      no-nan = λ h p t. sym (missed S p (nan-missed S h p t) .0);
+    }
+
+-- ---- a list of them
 module _ (S : ℕ) (h : S ≤ 15) where
-  pub exact-coefficient : (w : ℤ) → SFits w16 w → ExactCoefficient S w
-  exact-coefficient w f = record { value = coefficient-exact S h w f; bits = coefficient-bits S h w f }
-
-  pub exact-reading : ExactReading S
-  exact-reading =
-      record {
-        accepted = λ w f. let r = found S h (patternOf S w) w f refl in (sym (r .0), sym (r .1));
-        no-other = λ p g. (coordinate-fits S p, on-grid S p g);
-        no-nan = λ p t. sym (missed S p (nan-missed S h p t) .0);
-      }
-
-  -- ---- a list of them
   all-accepted : (w : List ℤ) → ((k : ℕ) → SFits w16 (getD w k (pos 0))) → (allOnGrid S (map (patternOf S) w) ≡ true) × (map (coordinateOf S) (map (patternOf S) w) ≡ w)
   unfolding allOnGrid
   all-accepted [] f = (refl, refl)
   all-accepted (z ∷ w) f =
-      let r = exact-reading .accepted z (f 0) in
+      let r = exact-reading S .accepted h z (f 0) in
       let q = all-accepted w (λ k. f (suc k)) in
       (rw (r .0, q .0), λ i. r .1 i ∷ q .1 i)
 

@@ -2,7 +2,7 @@
 use mathlib.Core.Path.{_≡_}
 use mathlib.Core.Bool.{true, false, not}
 use mathlib.Core.List.{List}
-use Prim.Native.Nat.{ℕ, _^_}
+use Prim.Native.Nat.{ℕ, _^_, _≤_}
 use lib.Dec.{T}
 use lib.IntN.{ℤ, pos, natAbs}
 use lib.ListN.{length, getD}
@@ -17,16 +17,17 @@ use Rattle.coefficients.specs.Grid.{coordinateOf, onGrid}
 use Rattle.coefficients.specs.Lines.{writtenOf, coordinatesOf, patternsOf}
 use Rattle.coefficients.specs.declared.Line.{Line}
 
--- "the single-precision number equal to w / 2^S". `HasValue x s a c`: x is finite, negative where s is true, and a / c in size.
+-- "the single-precision number equal to w / 2^S", for S up to 15 and a signed 16-bit w.
+-- `HasValue x s a c`: x is finite, negative where s is true, and a / c in size.
 pub record ExactCoefficient (S : ℕ) (w : ℤ) : Type 0 where
-  pub value : HasValue (coefficientOf S w) (not (nonNeg w)) (natAbs w) (2 ^ S)
-  pub bits : toBits binary32 (coefficientOf S w) ≡ patternOf S w
+  pub value : S ≤ 15 → SFits w16 w → HasValue (coefficientOf S w) (not (nonNeg w)) (natAbs w) (2 ^ S)
+  pub bits : S ≤ 15 → SFits w16 w → toBits binary32 (coefficientOf S w) ≡ patternOf S w
 
--- A pattern is accepted exactly if it is some w's, and that w is read.
+-- For S up to 15: a pattern is accepted exactly if it is some signed 16-bit w's, and that w is read.
 pub record ExactReading (S : ℕ) : Type 0 where
-  pub accepted : (w : ℤ) → SFits w16 w → (onGrid S (patternOf S w) ≡ true) × (coordinateOf S (patternOf S w) ≡ w)
+  pub accepted : S ≤ 15 → (w : ℤ) → SFits w16 w → (onGrid S (patternOf S w) ≡ true) × (coordinateOf S (patternOf S w) ≡ w)
   pub no-other : (p : ℕ) → onGrid S p ≡ true → SFits w16 (coordinateOf S p) × (patternOf S (coordinateOf S p) ≡ p)
-  pub no-nan : (p : ℕ) → T (nanBits binary32 p) → onGrid S p ≡ false
+  pub no-nan : S ≤ 15 → (p : ℕ) → T (nanBits binary32 p) → onGrid S p ≡ false
 
 -- Four signed 16-bit numbers; four single-precision numbers.
 pub record Four16 (w : List ℤ) : Type 0 where
