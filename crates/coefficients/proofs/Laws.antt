@@ -19,15 +19,16 @@ use Rattle.codes.specs.declared.Refusal.the-variants.{Start, OffGrid}
 use Rattle.codes.specs.Codes.{passIf}
 use Rattle.codes.proofs.Checks.{passed}
 use Rattle.scale.specs.Scale.{checkScale}
+use Rattle.boxes.specs.Shape.{checkVector}
 use Rattle.coefficients.specs.Coefficient.{exponentOf, fractionOf, fieldsOf, patternOf, coefficientOf}
 use Rattle.coefficients.specs.Grid.{coordinateOf, onGrid}
-use Rattle.coefficients.specs.Lines.{checkUsed, checkUnused, writingChecks, lineOf, writtenIf, writtenOf, allOnGrid, allPlusZero, checkGrid, readingChecks, coordinatesIf, coordinatesOf, patternsOf}
+use Rattle.coefficients.specs.Lines.{checkUsed, writingChecks, lineOf, writtenIf, writtenOf, allOnGrid, allPlusZero, checkGrid, readingChecks, coordinatesIf, coordinatesOf, patternsOf}
 use Rattle.coefficients.specs.Laws.{ExactCoefficient, ExactReading, Four16, FourSingle, RoundTrip}
 use Rattle.coefficients.specs.declared.Line.{Line}
 use Rattle.coefficients.proofs.Exact.{coefficient-exact, coefficient-bits}
 use Rattle.coefficients.proofs.Grid.{found, missed, nan-missed, on-grid, coordinate-fits}
 use Rattle.scale.proofs.Checks.{scale-within}
-use Rattle.coefficients.proofs.Checks.{three-pass, pass-three}
+use Rattle.coefficients.proofs.Checks.{three-pass, pass-three, unused-check}
 use Rattle.coefficients.proofs.Lines.{both, four-mapped, rest-zero-read}
 
 -- ---- one number
@@ -99,13 +100,13 @@ line-single S w = record { c1 = ofBits-fits binary32 _; c2 = ofBits-fits binary3
 -- ---- there and back
 module _ (d S : ℕ) where
   written-read : (w : List ℤ) → Four16 w → writtenOf d S w .check ≡ Pass → coordinatesOf d S (patternsOf (writtenOf d S w .line)) ≡ record { check = Pass; w = w }
-  unfolding writtenOf writingChecks checkUnused coordinatesOf readingChecks checkGrid
+  unfolding writtenOf writingChecks coordinatesOf readingChecks checkGrid
   written-read w f e =
       let k : writingChecks d S w ≡ Pass = sym (written-check (writingChecks d S w) (lineOf S w)) ∙ e in
-      let p = three-pass (checkUsed d) (checkScale S) (checkUnused d w) k in
+      let p = three-pass (checkUsed d) (checkScale S) (checkVector 1 d w) k in
       let h = scale-within S (p .1) in
       let a = all-accepted S h w (f .fit) in
-      let z = rest-zero-read S h d (map (patternOf S) w) (a .0) ∙ ap (λ (l : List ℤ). allZero (drop d l)) (a .1) ∙ is-true (allZero (drop d w)) (passed (allZero (drop d w)) Start (p .2)) in
+      let z = rest-zero-read S h d (map (patternOf S) w) (a .0) ∙ ap (λ (l : List ℤ). allZero (drop d l)) (a .1) ∙ is-true (allZero (drop d w)) (passed (allZero (drop d w)) Start (sym (unused-check d w) ∙ p .2)) in
       let g : checkGrid d S (map (patternOf S) w) ≡ Pass = λ i. passIf (a .0 i && z i) OffGrid in
       let r : readingChecks d S (map (patternOf S) w) ≡ Pass = pass-three (p .0) (p .1) g in
       ap (λ (c : Check). coordinatesOf d S (patternsOf (writtenIf c (lineOf S w) .line))) k
@@ -130,11 +131,11 @@ module _ (d S : ℕ) where
     grid-passes = let test = allOnGrid S ps && allPlusZero (drop d ps) in both (allOnGrid S ps) (allPlusZero (drop d ps)) (is-true test (passed test OffGrid (checks-pass .2)))
 
     back : writtenOf d S (coordinatesOf d S ps .w) ≡ record { check = Pass; line = lineOf S (map (coordinateOf S) ps) }
-    unfolding writtenOf writingChecks checkUnused coordinatesOf
+    unfolding writtenOf writingChecks coordinatesOf
     back =
         let w = map (coordinateOf S) ps in
         let z : allZero (drop d w) ≡ true = sym (rest-zero-read S within-15 d ps (grid-passes .0)) ∙ grid-passes .1 in
-        let k : writingChecks d S w ≡ Pass = pass-three (checks-pass .0) (checks-pass .1) (λ i. passIf (z i) Start) in
+        let k : writingChecks d S w ≡ Pass = pass-three (checks-pass .0) (checks-pass .1) (unused-check d w ∙ (λ i. passIf (z i) Start)) in
         ap (λ (c : Check). writtenOf d S (coordinatesIf c w .w)) reading-passes ∙ ap (λ (c : Check). writtenIf c (lineOf S w)) k
 
     back-patterns : patternsOf (lineOf S (map (coordinateOf S) ps)) ≡ ps

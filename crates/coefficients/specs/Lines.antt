@@ -6,13 +6,13 @@ use lib.Dec.{eqb}
 use lib.IntN.{ℤ, pos}
 use lib.ListN.{getD, drop, replicate}
 use lib.Ieee.{binary32, ofBits, toBits}
-use Rattle.integers.specs.Integers.{allZero}
 use Rattle.codes.specs.declared.Check.{Check}
 use Rattle.codes.specs.declared.Check.the-variants.{Pass, Refuse}
 use Rattle.codes.specs.declared.Refusal.{Refusal}
-use Rattle.codes.specs.declared.Refusal.the-variants.{Shape, Start, OffGrid}
+use Rattle.codes.specs.declared.Refusal.the-variants.{Shape, OffGrid}
 use Rattle.codes.specs.Codes.{passIf, inOrder, within}
 use Rattle.scale.specs.Scale.{checkScale}
+use Rattle.boxes.specs.Shape.{checkVector}
 use Rattle.coefficients.specs.Coefficient.{coefficientOf}
 use Rattle.coefficients.specs.Grid.{coordinateOf, onGrid}
 use Rattle.coefficients.specs.declared.Line.{Line}
@@ -23,13 +23,9 @@ use Rattle.coefficients.specs.declared.Coordinates.{Coordinates}
 unfoldable pub checkUsed : ℕ → Check
 checkUsed d = passIf (within 1 d 4) Shape
 
--- Check 6: "in a .. line-writing call, an unused coordinate not 0".
-unfoldable pub checkUnused : ℕ → List ℤ → Check
-checkUnused d w = passIf (allZero (drop d w)) Start
-
--- "writing a line of coefficients 2, 3 and 6".
+-- "writing a line of coefficients 2, 3 and 6". Check 6 is that of a vector of one line.
 unfoldable pub writingChecks : ℕ → ℕ → List ℤ → Check
-writingChecks d S w = inOrder (checkUsed d ∷ checkScale S ∷ checkUnused d w ∷ [])
+writingChecks d S w = inOrder (checkUsed d ∷ checkScale S ∷ checkVector 1 d w ∷ [])
 
 -- A coefficient for each coordinate, "those after d being +0", as their coordinates are 0.
 unfoldable pub lineOf : ℕ → List ℤ → Line
@@ -45,6 +41,7 @@ lineOf S w =
 abbrev pub notWritten : Refusal → Written
 notWritten r = record { check = Refuse r; line = record { c1 = ofBits binary32 0; c2 = ofBits binary32 0; c3 = ofBits binary32 0; c4 = ofBits binary32 0 } }
 
+-- The line if the checks pass.
 abbrev pub writtenIf : Check → Line → Written
 writtenIf Pass l = record { check = Pass; line = l }
 writtenIf (Refuse r) l = notWritten r
@@ -75,6 +72,7 @@ readingChecks d S ps = inOrder (checkUsed d ∷ checkScale S ∷ checkGrid d S p
 abbrev pub notRead : Refusal → Coordinates
 notRead r = record { check = Refuse r; w = replicate 4 (pos 0) }
 
+-- The coordinates if the checks pass.
 abbrev pub coordinatesIf : Check → List ℤ → Coordinates
 coordinatesIf Pass w = record { check = Pass; w = w }
 coordinatesIf (Refuse r) w = notRead r

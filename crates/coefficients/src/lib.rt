@@ -9,9 +9,10 @@ ghost use lib.Ieee.{binary32, toBits};
 ghost use Rattle.integers.specs.Integers.{allZero};
 ghost use Rattle.codes.specs.Codes.{inOrder};
 ghost use Rattle.scale.specs.Scale.{checkScale};
+ghost use Rattle.boxes.specs.Shape.{checkVector};
 ghost use Rattle.coefficients.specs.Coefficient.{coefficientOf};
 ghost use Rattle.coefficients.specs.Grid.{coordinateOf, onGrid};
-ghost use Rattle.coefficients.specs.Lines.{checkUsed, checkUnused, lineOf, notWritten, writtenIf, writtenOf, checkGrid, notRead, coordinatesIf, coordinatesOf, patternsOf};
+ghost use Rattle.coefficients.specs.Lines.{checkUsed, lineOf, notWritten, writtenIf, writtenOf, checkGrid, notRead, coordinatesIf, coordinatesOf, patternsOf};
 
 // The four coefficients of a line, handed over together.
 pub struct Line {
@@ -103,7 +104,7 @@ fn not_written(r: Refusal) -> Written
 // Where checks 2 and 3 pass: check 6, then the coefficients.
 fn write_checked(d: u8, s: u8, w: [i16; 4]) -> Written
     requires { ⌜ s ≤ 15 ⌝ }
-    ensures { λ r. ⌜ r ≡ writtenIf (checkUnused d w) (lineOf s w) ⌝ }
+    ensures { λ r. ⌜ r ≡ writtenIf (checkVector 1 d w) (lineOf s w) ⌝ }
 {
     if rest_zero(d, w) {
         Written {

@@ -14,8 +14,10 @@ use mir.ValLaws.{toZ-ofZ}
 use Rattle.codes.specs.declared.Check.the-variants.{Pass}
 use Rattle.codes.specs.declared.Refusal.the-variants.{Start}
 use Rattle.codes.specs.Codes.{passIf}
+use Rattle.boxes.specs.Shape.{checkVector}
 use Rattle.coefficients.specs.Coefficient.{coefficientOf}
-use Rattle.coefficients.specs.Lines.{checkUnused, lineOf, writtenIf}
+use Rattle.coefficients.specs.Lines.{lineOf, writtenIf}
+use Rattle.coefficients.proofs.Checks.{unused-check}
 use Rattle.coefficients.proofs.write_checked.Statement.{statement}
 use Rattle.coefficients.proofs.write_checked.Tie as tie
 
@@ -57,9 +59,8 @@ module _ (c : tie.After-rest-zero) where
   w = c .before .args .t3
 
   -- check 6 is what `rest_zero` answered
-  checked : {t : Bool} → c .rest-zero .result ≡ t → writtenIf (passIf t Start) (lineOf S w) ≡ writtenIf (checkUnused (c .before .args .d) w) (lineOf S w)
-  unfolding checkUnused
-  checked e = ap (λ (t : Bool). writtenIf (passIf t Start) (lineOf S w)) (sym e ∙ c .rest-zero .ensures)
+  checked : {t : Bool} → c .rest-zero .result ≡ t → writtenIf (passIf t Start) (lineOf S w) ≡ writtenIf (checkVector 1 (c .before .args .d) w) (lineOf S w)
+  checked e = rw unused-check (ap (λ (t : Bool). writtenIf (passIf t Start) (lineOf S w)) (sym e ∙ c .rest-zero .ensures))
 
 -- a field, from the bits of the coordinate that were handed to `coefficient`
 field : (f : Float) (S : ℕ) (z : ℤ) → f ≡ coefficientOf S (toZ w16 (ofZ w16 z)) → mag z < 32768 → f ≡ coefficientOf S z

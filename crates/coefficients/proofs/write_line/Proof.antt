@@ -7,7 +7,8 @@ use Rattle.codes.specs.declared.Check.the-variants.{Pass}
 use Rattle.codes.specs.Codes.{inOrder}
 use Rattle.codes.proofs.Laws.{after-pass, after-refusal}
 use Rattle.scale.specs.Scale.{checkScale}
-use Rattle.coefficients.specs.Lines.{checkUsed, checkUnused, writingChecks, lineOf, writtenIf, writtenOf}
+use Rattle.boxes.specs.Shape.{checkVector}
+use Rattle.coefficients.specs.Lines.{checkUsed, writingChecks, lineOf, writtenIf, writtenOf}
 use Rattle.coefficients.proofs.Checks.{scale-checked}
 use Rattle.coefficients.proofs.write_line.Statement.{statement}
 use Rattle.coefficients.proofs.write_line.Tie as tie
@@ -28,7 +29,7 @@ returns c =
     let r = c .before .before .r .given in
     let e = sym (c .before .before .before .before .check-line .ensures) ∙ r .1 in
     c .not-written .ensures
-    ∙ ap (λ (k : Check). writtenIf k (lineOf (a .s) (a .w))) (sym (after-refusal (checkUsed (a .d) ∷ checkScale (a .s) ∷ []) (checkUnused (a .d) (a .w) ∷ []) (r .0 .0) e))
+    ∙ ap (λ (k : Check). writtenIf k (lineOf (a .s) (a .w))) (sym (after-refusal (checkUsed (a .d) ∷ checkScale (a .s) ∷ []) (checkVector 1 (a .d) (a .w) ∷ []) (r .0 .0) e))
 
 enum-told : tie.Need-enum-told
 enum-told c = search needs
@@ -44,7 +45,7 @@ unfolding writtenOf writingChecks
 returns-2 c =
     let a = c .before .before .before .before .args in
     c .write-checked .ensures
-    ∙ ap (λ (k : Check). writtenIf k (lineOf (a .s) (a .w))) (sym (after-pass (checkUsed (a .d) ∷ checkScale (a .s) ∷ []) (checkUnused (a .d) (a .w)) (passed (c .before))))
+    ∙ ap (λ (k : Check). writtenIf k (lineOf (a .s) (a .w))) (sym (after-pass (checkUsed (a .d) ∷ checkScale (a .s) ∷ []) (checkVector 1 (a .d) (a .w)) (passed (c .before))))
 
 pub write-line-spec : {M : Type 1} → statement M
 write-line-spec =
