@@ -13,13 +13,13 @@ use Rattle.points.specs.Points.{checkStore}
 use Rattle.beacon.specs.Beacon.{checkMark, checkSpace, checkBody, checkTakeIn}
 
 -- the new mark is within the store, and within 49,152 bytes
-pub new-mark : (store mark beacon : ℕ) → checkTakeIn store mark beacon ≡ Pass → (mark + beacon ≤ store) × (mark + beacon ≤ 49152)
+pub new-mark : (room mark size : ℕ) → checkTakeIn room mark size ≡ Pass → (mark + size ≤ room) × (mark + size ≤ 49152)
 unfolding checkTakeIn checkSpace
-new-mark store mark beacon e =
-    let space : List Check = checkSpace store mark beacon ∷ checkBody beacon ∷ [] in
+new-mark room mark size e =
+    let space : List Check = checkSpace room mark size ∷ checkBody size ∷ [] in
     let both =
-    and-parts (leb (mark + beacon) store) (leb (mark + beacon) 49152)
-    (passed (leb (mark + beacon) store && leb (mark + beacon) 49152) Short
-    (first-passed (checkSpace store mark beacon) (checkBody beacon ∷ [])
-    (others-passed (checkMark store mark) space (others-passed (checkStore beacon) (checkMark store mark ∷ space) e)))) in
+    and-parts (leb (mark + size) room) (leb (mark + size) 49152)
+    (passed (leb (mark + size) room && leb (mark + size) 49152) Short
+    (first-passed (checkSpace room mark size) (checkBody size ∷ [])
+    (others-passed (checkMark room mark) space (others-passed (checkStore size) (checkMark room mark ∷ space) e)))) in
     (leb→le _ _ (both .0), leb→le _ _ (both .1))

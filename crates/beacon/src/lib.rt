@@ -7,33 +7,30 @@ ghost use Prim.Native.Nat.{_+_, _≤_};
 ghost use lib.ListN.{length};
 ghost use Rattle.beacon.specs.Beacon.{checkTakeIn, takeInAnswer, storeAfter, behind};
 
-// Checks 1, 10 and 11, of the store's bytes, the fill mark and the beacon's bytes. Differences stand for the sum of mark and beacon, which
-// could wrap.
-fn check_take_in(store: usize, mark: usize, beacon: usize) -> Check
-    ensures { λ r. ⌜ r ≡ checkTakeIn store mark beacon ⌝ }
+// Checks 1, 10 and 11, of how many bytes the store has, the fill mark and how many the beacon has. Differences stand for the sum of mark
+// and size, which could wrap.
+fn check_take_in(room: usize, mark: usize, size: usize) -> Check
+    ensures { λ r. ⌜ r ≡ checkTakeIn room mark size ⌝ }
 {
-    match points::check_store(beacon) {
-        Check::Pass => {}
-        Check::Refuse(r) => {
-            return Check::Refuse(r);
-        }
+    if let Check::Refuse(r) = points::check_store(size) {
+        return Check::Refuse(r);
     }
-    if store < mark {
+    if room < mark {
         return Check::Refuse(Refusal::Length);
     }
     if mark % 12 != 0 {
         return Check::Refuse(Refusal::Length);
     }
-    if store - mark < beacon {
+    if room - mark < size {
         return Check::Refuse(Refusal::Short);
     }
     if 49152 < mark {
         return Check::Refuse(Refusal::Short);
     }
-    if 49152 - mark < beacon {
+    if 49152 - mark < size {
         return Check::Refuse(Refusal::Short);
     }
-    if 236 < beacon {
+    if 236 < size {
         return Check::Refuse(Refusal::Beacon);
     }
     Check::Pass

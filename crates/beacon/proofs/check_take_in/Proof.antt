@@ -16,21 +16,21 @@ use Rattle.beacon.proofs.check_take_in.Tie as tie
 check-store-requires : tie.Need-check-store-requires
 check-store-requires c κs = search needs
 
-enum-told : tie.Need-enum-told
-enum-told c = search needs
-
 enum-known-r : tie.Need-enum-known-r
 enum-known-r c = search needs
-
-good-length : (c : tie.After-enum-told) → checkStore (c .before .before .before .args .beacon) ≡ Pass
-good-length c = sym (c .before .before .check-store .ensures) ∙ c .enum-told .given .1
 
 returns : tie.Need-returns
 unfolding checkTakeIn inOrder
 returns c =
     let s = c .before .before .before in
-    let refused : checkStore (s .before .args .beacon) ≡ Refuse (c .before .r .given .0 .0) = sym (s .check-store .ensures) ∙ c .before .r .given .1 in
+    let refused : checkStore (s .before .args .size) ≡ Refuse (c .before .r .given .0 .0) = sym (s .check-store .ensures) ∙ c .before .r .given .1 in
     rw refused
+
+enum-told : tie.Need-enum-told
+enum-told c = search needs
+
+good-length : (c : tie.After-enum-told) → checkStore (c .before .before .before .args .size) ≡ Pass
+good-length c = sym (c .before .before .check-store .ensures) ∙ c .enum-told .given .1
 
 returns-2 : tie.Need-returns-2
 unfolding checkTakeIn inOrder checkMark
@@ -40,7 +40,7 @@ returns-3 : tie.Need-returns-3
 unfolding checkTakeIn inOrder checkMark
 returns-3 c = rw (good-length (c .before .before), le-leb _ _ (c .before .if1 .left), ne-eqb _ _ (c .if2 .taken))
 
-good-mark : (c : tie.Else2) → let a = c .before .before .before .before .before .args in checkMark (a .store) (a .mark) ≡ Pass
+good-mark : (c : tie.Else2) → let a = c .before .before .before .before .before .args in checkMark (a .room) (a .mark) ≡ Pass
 unfolding checkMark
 good-mark c = rw (le-leb _ _ (c .before .if1 .left), eq-eqb _ _ (c .if2 .left))
 
@@ -48,15 +48,15 @@ returns-4 : tie.Need-returns-4
 unfolding checkTakeIn inOrder checkSpace
 returns-4 c =
     let a = c .before .before .before .before .before .before .args in
-    let h : a .store < a .mark + a .beacon = omega arith in
+    let h : a .room < a .mark + a .size = omega arith in
     rw (good-length (c .before .before .before), good-mark (c .before), lt-leb _ _ h)
 
 -- there is space in the store, and within 49,152 bytes there is none
-over : (c : tie.Else3) → let a = c .before .before .before .before .before .before .args in 49152 < a .mark + a .beacon → Refuse Short ≡ checkTakeIn (a .store) (a .mark) (a .beacon)
+over : (c : tie.Else3) → let a = c .before .before .before .before .before .before .args in 49152 < a .mark + a .size → Refuse Short ≡ checkTakeIn (a .room) (a .mark) (a .size)
 unfolding checkTakeIn inOrder checkSpace
 over c h =
     let a = c .before .before .before .before .before .before .args in
-    let k : a .mark + a .beacon ≤ a .store = omega arith in
+    let k : a .mark + a .size ≤ a .room = omega arith in
     rw (good-length (c .before .before .before), good-mark (c .before), le-leb _ _ k, lt-leb _ _ h)
 
 returns-5 : tie.Need-returns-5
@@ -66,13 +66,13 @@ returns-6 : tie.Need-returns-6
 returns-6 c = over (c .before .before) (omega arith)
 
 -- there is space: what is left is the beacon's own limit
-space : (c : tie.Else5) → let a = c .before .before .before .before .before .before .before .before .args in checkTakeIn (a .store) (a .mark) (a .beacon) ≡ inOrder (checkBody (a .beacon) ∷ [])
+space : (c : tie.Else5) → let a = c .before .before .before .before .before .before .before .before .args in checkTakeIn (a .room) (a .mark) (a .size) ≡ inOrder (checkBody (a .size) ∷ [])
 unfolding checkTakeIn inOrder checkSpace
 space c =
     let m = c .before .before .before in
     let a = m .before .before .before .before .before .args in
-    let k : a .mark + a .beacon ≤ a .store = omega arith in
-    let h : a .mark + a .beacon ≤ 49152 = omega arith in
+    let k : a .mark + a .size ≤ a .room = omega arith in
+    let h : a .mark + a .size ≤ 49152 = omega arith in
     rw (good-length (m .before .before), good-mark m, le-leb _ _ k, le-leb _ _ h)
 
 returns-7 : tie.Need-returns-7
@@ -88,9 +88,9 @@ check-take-in-spec =
     tie.close
     (tie.spec
     check-store-requires
-    enum-told
     enum-known-r
     returns
+    enum-told
     returns-2
     returns-3
     returns-4
