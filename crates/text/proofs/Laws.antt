@@ -52,8 +52,5 @@ decimal-laws =
           of-decimal (λ n bs. 1 ≤ n → 49 ≤ getD bs 0 0) (λ n small some. omega arith)
           (λ n bs wide h some. first-kept bs (byte (48 + n % 10)) (h (omega arith)));
       nought = refl;
-      seven = refl;
-      ten = refl;
-      largest = refl;
       lowest = refl;
     }

@@ -13,6 +13,7 @@ unfoldable pub valueBehind : ℕ → List ℕ → ℕ
 valueBehind m List.[] = m
 valueBehind m (List._∷_ b bs) = valueBehind (10 * m + (b - 48)) bs
 
+-- The first four leave one text only for each n; the last shows a sign.
 pub record DecimalLaws : Type 0 where
   -- the digits of n stand for n
   pub reads : (n : ℕ) → valueBehind 0 (decimal n) ≡ n
@@ -21,7 +22,5 @@ pub record DecimalLaws : Type 0 where
   -- "without leading zeros": the first one is 0 for 0 alone
   pub leading : (n : ℕ) → 1 ≤ n → 49 ≤ getD (decimal n) 0 0
   pub nought : decimal 0 ≡ ascii "0"
-  pub seven : decimal 7 ≡ ascii "7"
-  pub ten : decimal 10 ≡ ascii "10"
-  pub largest : decimal 18446744073709551615 ≡ ascii "18446744073709551615"
+  -- "a negative one with - before it"
   pub lowest : signed (negsuc 32767) ≡ ascii "-32768"

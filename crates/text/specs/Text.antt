@@ -17,10 +17,13 @@ ascii (c ∷ s) = List._∷_ (code c) (ascii s)
 abbrev pub byte : ℕ → List ℕ
 byte b = List._∷_ b List.[]
 
--- A number of k digits or fewer: behind the digits of n / 10, if n has more than one, its last one. The digit 0 is byte 48.
+-- A number of k digits or fewer: below 10 one digit, else the last one behind the digits of n / 10. The digit 0 is byte 48.
+-- What is named by `let` is computed only where it is needed.
 unfoldable pub digitsOf : ℕ → ℕ → List ℕ
 digitsOf zero n = List.[]
-digitsOf (suc k) n = let more = digitsOf k (n / 10) ++ byte (48 + n % 10) in cond (ltb n 10) (byte (48 + n)) more
+digitsOf (suc k) n =
+    let more = digitsOf k (n / 10) ++ byte (48 + n % 10) in
+    cond (ltb n 10) (byte (48 + n)) more
 
 -- "in decimal without leading zeros"; n has no more than n + 1 digits
 unfoldable pub decimal : ℕ → List ℕ

@@ -25,7 +25,7 @@ pub fn put_bytes(out: &mut [u8], at: usize, word: &[u8]) -> usize
 }
 
 // The digits of n: those of n / 10 first, so that none is written twice or counted before.
-pub fn put_decimal(out: &mut [u8], at: usize, n: u64) -> usize
+fn put_decimal(out: &mut [u8], at: usize, n: u64) -> usize
     requires { ⌜ at + length (decimal n) ≤ length (now out) ⌝ }
     ensures { λ r. ⌜ Put (now (out .entry)) at (decimal n) r (now (out .exit)) ⌝ }
 {
@@ -47,7 +47,7 @@ pub fn put_field(out: &mut [u8], at: usize, name: &[u8], n: u64) -> usize
 }
 
 // A coordinate, with its sign if it is negative: 6 bytes at most.
-pub fn put_signed(out: &mut [u8], at: usize, w: i16) -> usize
+fn put_signed(out: &mut [u8], at: usize, w: i16) -> usize
     requires { ⌜ at + 6 ≤ length (now out) ⌝ }
     ensures put { λ r. ⌜ Put (now (out .entry)) at (Text·signed w) r (now (out .exit)) ⌝ }
     ensures short { λ r. ⌜ r ≤ at + 6 ⌝ }
