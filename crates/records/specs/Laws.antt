@@ -30,6 +30,7 @@ pub record IsJob (job : Job) : Type 0 where
   pub high : IsVector (job .domain .high)
   pub start : IsVector (job .start)
 
+-- A job goes through its 72 bytes and back unchanged.
 pub record JobRoundTrip : Type 0 where
   -- "A job record has 72 bytes".
   pub size : (job : Job) → IsJob job → length (jobBytes job) ≡ 72
@@ -38,12 +39,14 @@ pub record JobRoundTrip : Type 0 where
   -- a job that was read writes back to the same 72 bytes
   pub read-writes : (bytes : List ℕ) → T (areBytes bytes) → 72 ≤ length bytes → jobBytes (readJob bytes .job) ≡ take 72 bytes
 
+-- The numbers fit their bytes, as those of every answer record in the code do.
 pub record IsAnswer (a : AnswerRecord) : Type 0 where
   pub vector : IsVector (a .vector)
   pub cost : Fits w64 (a .cost)
   pub bound : Fits w64 (a .bound)
   pub count : Fits w32 (a .count)
 
+-- An answer that check 9 lets through goes through its 40 bytes and back unchanged.
 pub record AnswerRoundTrip : Type 0 where
   -- "An answer record has 40 bytes".
   pub size : (a : AnswerRecord) → IsAnswer a → length (answerBytes a) ≡ 40
