@@ -1,4 +1,5 @@
--- What is shown of boxes and of their halves. The proofs stand in proofs/.
+-- What is shown of boxes and of their halves, and the two laws of a bound that a search rests on. The proofs stand in proofs/; that the
+-- cost and the bound of a model have the two laws is shown in model/proofs/Bounds.antt.
 use mathlib.Core.Path.{_≡_}
 use mathlib.Core.Bool.{true}
 use mathlib.Core.List.{List, List·Memᴰ}
@@ -35,3 +36,10 @@ pub record Halved (b : Box) : Type 0 where
   pub left-in : (v : List ℤ) → InBox v (leftHalf b) → InBox v b
   pub right-in : (v : List ℤ) → InBox v (rightHalf b) → InBox v b
   pub adds : volume (leftHalf b) + volume (rightHalf b) ≡ volume b
+
+-- Of a cost of vectors and a bound of boxes.
+pub record Bounds (cost : List ℤ → ℕ) (bound : Box → ℕ) : Type 0 where
+  -- Lemma 2 of source document 000: no vector of a box costs less than the box's bound
+  pub sound : (b : Box) (v : List ℤ) → InBox v b → bound b ≤ cost v
+  -- "A box of one vector has that vector's cost as its bound."
+  pub tight : (b : Box) → volume b ≡ 1 → bound b ≡ cost (b .low)

@@ -10,8 +10,9 @@ use lib.ListN.{length}
 use Rattle.integers.proofs.Lists.{all-map}
 use Rattle.boxes.specs.declared.Box.{Box}
 use Rattle.boxes.specs.Boxes.{InBox, volume}
+use Rattle.boxes.specs.Laws.{Bounds}
 use Rattle.certificate.specs.Search.{State, Kind, solved, Answer, Next, stop, go, lowerBound, begin, split, answer, step, run, search}
-use Rattle.certificate.specs.Certificate.{Bounds, Reached, beginning, counting, Finished, Certificate, stateOf}
+use Rattle.certificate.specs.Certificate.{Reached, beginning, counting, Finished, Certificate, stateOf}
 use Rattle.certificate.proofs.Smallest.{lower-below, lower-le, lower-open}
 use Rattle.certificate.proofs.Cover.{count-few, open-more, open-few}
 use Rattle.certificate.proofs.Steps.{gap, Case, solves, spends, fills, goes, step-case, run-stops, run-goes}

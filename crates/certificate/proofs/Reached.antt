@@ -12,9 +12,10 @@ use Rattle.integers.proofs.Tests.{by-cond}
 use Rattle.boxes.specs.declared.Box.{Box}
 use Rattle.boxes.specs.Boxes.{InBox}
 use Rattle.boxes.specs.Split.{leftHalf, rightHalf, zeroBox}
+use Rattle.boxes.specs.Laws.{Bounds}
 use Rattle.boxes.proofs.Volume.{some-in, only-low}
 use Rattle.certificate.specs.Search.{State, go, firstSmallest, boxAt, without, begin, cheaper, split}
-use Rattle.certificate.specs.Certificate.{Bounds, Reached, beginning, counting}
+use Rattle.certificate.specs.Certificate.{Reached, beginning, counting}
 use Rattle.certificate.specs.Laws.{Sound}
 use Rattle.certificate.proofs.Lists.{Takes, takes-at, takes-all}
 use Rattle.certificate.proofs.Kept.{keeps-if, length-kept, kept-below}

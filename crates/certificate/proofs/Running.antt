@@ -8,8 +8,9 @@ use lib.IntN.{ℤ}
 use lib.ListN.{length}
 use Rattle.boxes.specs.declared.Box.{Box}
 use Rattle.boxes.specs.Boxes.{InBox}
+use Rattle.boxes.specs.Laws.{Bounds}
 use Rattle.certificate.specs.Search.{State, Kind, solved, spent, full, stop, begin, split, answer, step, run, search}
-use Rattle.certificate.specs.Certificate.{Bounds, Reached, beginning, counting}
+use Rattle.certificate.specs.Certificate.{Reached, beginning, counting}
 use Rattle.certificate.specs.Laws.{Sound}
 use Rattle.certificate.proofs.Steps.{gap, step-solved, step-spent, step-full, step-goes, run-stops, run-goes}
 use Rattle.certificate.proofs.Reached.{held}

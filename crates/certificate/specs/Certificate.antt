@@ -1,5 +1,5 @@
--- The certificate: what is promised of every answer of a search, clause by clause, and the two laws of a cost and a bound that it
--- rests on. V is `volume box`, an exact number of any size.
+-- Demand 3 (its text is in docs/ARCHITECTURE.md; document 01 speaks of it in "The search"): what is promised of every answer of a
+-- search, clause by clause. It rests on the two laws `Bounds` of boxes/specs/Laws.antt. V is `volume box`, an exact number of any size.
 use mathlib.Core.Path.{_≡_}
 use mathlib.Core.List.{List}
 use mathlib.Core.Logic.{_↔_}
@@ -8,11 +8,6 @@ use lib.IntN.{ℤ}
 use Rattle.boxes.specs.declared.Box.{Box}
 use Rattle.boxes.specs.Boxes.{InBox, volume}
 use Rattle.certificate.specs.Search.{State, solved, Answer, go, stop, begin, answer, step}
-
--- A box's bound is at most the cost of each vector in it. "A box of one vector has that vector's cost as its bound."
-pub record Bounds (cost : List ℤ → ℕ) (bound : Box → ℕ) : Type 0 where
-  pub sound : (b : Box) (v : List ℤ) → InBox v b → bound b ≤ cost v
-  pub tight : (b : Box) → volume b ≡ 1 → bound b ≡ cost (b .low)
 
 -- the state that an answer tells
 abbrev pub stateOf : Answer → State

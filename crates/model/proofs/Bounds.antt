@@ -20,7 +20,7 @@ use Rattle.loss.proofs.Laws.{loss-mono}
 use Rattle.points.specs.declared.Point.{Point}
 use Rattle.points.specs.Points.{xs}
 use Rattle.model.specs.Cost.{at, dot, dotMax, dotMin, residual, sizeAt, eMin, eMax, nearestTo0, leastSize, totalLoss, cost, bound}
-use Rattle.model.specs.Laws.{BoundLaws, LeastLoss, Small, SmallResidual}
+use Rattle.model.specs.Laws.{AllBounds, LeastLoss, Small, SmallResidual}
 use Rattle.model.specs.Ready.{boxOf}
 use Rattle.model.proofs.Least.{least-mono, loss-of-least}
 
@@ -103,12 +103,12 @@ total-mono m f g h (q ∷ qs) =
 total-same : (m : Model) (f g : Point → ℕ → ℕ) → ((q : Point) (j : ℕ) → f q j ≡ g q j) → (qs : List Point) → totalLoss m f qs ≡ totalLoss m g qs
 total-same m f g h qs = ap (λ (u : Point → ℕ → ℕ). totalLoss m u qs) (λ i q j. h q j i)
 
-pub bound-laws : (m : Model) (qs : List Point) → BoundLaws m qs
+pub bound-laws : AllBounds
 unfolding bound cost
 bound-laws m qs =
     record {
-      below = λ B v inside. total-mono m (leastSize m B) (sizeAt m v) (size-below m B v inside) qs;
-      one = λ B e. ap (λ (h : List ℤ). totalLoss m (leastSize m (boxOf (B .low) h)) qs) (high-low B e) ∙ total-same m (leastSize m (boxOf (B .low) (B .low))) (sizeAt m (B .low)) (size-one m (B .low)) qs;
+      sound = λ B v inside. total-mono m (leastSize m B) (sizeAt m v) (size-below m B v inside) qs;
+      tight = λ B e. ap (λ (h : List ℤ). totalLoss m (leastSize m (boxOf (B .low) h)) qs) (high-low B e) ∙ total-same m (leastSize m (boxOf (B .low) (B .low))) (sizeAt m (B .low)) (size-one m (B .low)) qs;
     }
 
 pub least-loss : (p ε : ℕ) → LeastLoss p ε

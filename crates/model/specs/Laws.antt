@@ -4,19 +4,17 @@ use mathlib.Core.Path.{_≡_}
 use Prim.Native.Nat.{ℕ, _≤_}
 use lib.IntN.{ℤ, natAbs}
 use Rattle.boxes.specs.declared.Box.{Box}
-use Rattle.boxes.specs.Boxes.{InBox, volume}
+use Rattle.boxes.specs.Laws.{Bounds}
 use Rattle.jobs.specs.declared.Model.{Model}
 use Rattle.loss.specs.Loss.{lossOf}
 use Rattle.points.specs.declared.Point.{Point}
 use Rattle.points.specs.Points.{xs}
 use Rattle.model.specs.Cost.{at, least, residual, cost, bound}
 
--- Of any model and points.
-pub record BoundLaws (m : Model) (qs : List Point) : Type 0 where
-  -- Lemma 2 of source document 000 under the saturated losses: no vector of a box costs less than the box's bound
-  pub below : (B : Box) (v : List ℤ) → InBox v B → bound m qs B ≤ cost m qs v
-  -- "A box of one vector has that vector's cost as its bound."
-  pub one : (B : Box) → volume B ≡ 1 → bound m qs B ≡ cost m qs (B .low)
+-- "This is Lemma 2 of source document 000 under the saturated losses. A box of one vector has that vector's cost as its bound.": the two
+-- laws of boxes/specs/Laws.antt, of any model and points
+abbrev pub AllBounds : Type 0
+AllBounds = (m : Model) (qs : List Point) → Bounds (cost m qs) (bound m qs)
 
 -- The least loss among the lines is the loss of the least |e|.
 pub record LeastLoss (p ε : ℕ) : Type 0 where

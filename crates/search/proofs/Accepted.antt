@@ -17,6 +17,7 @@ use Rattle.jobs.specs.declared.Job.{Job}
 use Rattle.points.specs.Points.{pointsOf, checkStray}
 use Rattle.model.specs.Cost.{cost, bound}
 use Rattle.model.specs.Calls.{checkModel}
+use Rattle.model.proofs.Bounds.{bound-laws}
 use Rattle.rows.specs.Rows.{rowCount}
 use Rattle.rows.proofs.Rows.{rest-later}
 use Rattle.certificate.specs.Search as Search
@@ -25,7 +26,6 @@ use Rattle.search.specs.declared.Answer.{Answer}
 use Rattle.search.specs.declared.branch.State.{State}
 use Rattle.search.specs.Search.{checkSearch, searched, refused, searchAnswer, TableAfter, Certified}
 use Rattle.search.specs.Inside.{Begun, Ran}
-use Rattle.search.proofs.Laws.{bounds}
 
 -- five checks, the first three of them in two groups
 five-pass : (a b c d e : Check) → inOrder (a ∷ inOrder (b ∷ c ∷ []) ∷ []) ≡ Pass → inOrder (a ∷ b ∷ c ∷ d ∷ e ∷ []) ≡ inOrder (d ∷ e ∷ [])
@@ -115,7 +115,7 @@ module _ (store : List ℕ) (job : Job) (t : List ℤ) where
           λ e. (
             q .answer,
             certified (cost (job .model) (pointsOf store)) (bound (job .model) (pointsOf store)) (job .budget) (rowCount t) (job .t) (job .start) (job .domain)
-                (bounds (job .model) (pointsOf store)) (a .inside),
+                (bound-laws (job .model) (pointsOf store)) (a .inside),
           ),
         ),
       )

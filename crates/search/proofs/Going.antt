@@ -13,11 +13,11 @@ use Rattle.integers.specs.Lists.{All}
 use Rattle.boxes.specs.declared.Box.{Box}
 use Rattle.boxes.specs.Boxes.{InBox}
 use Rattle.boxes.specs.Split.{zeroBox}
+use Rattle.boxes.specs.Laws.{Bounds}
 use Rattle.rows.specs.Rows.{rowCount, rowsOf}
 use Rattle.rows.proofs.Rows.{rows-at, rows-length, rest-later}
 use Rattle.certificate.specs.Search as Search
 use Rattle.certificate.specs.Search.{solved, spent, full, lowerBound, firstSmallest, split, answer, search}
-use Rattle.certificate.specs.Certificate.{Bounds}
 use Rattle.certificate.specs.Laws.{Sound}
 use Rattle.certificate.proofs.Lists.{all-at}
 use Rattle.certificate.proofs.Smallest.{lower-le, lower-open, smallest}

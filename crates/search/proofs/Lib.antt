@@ -5,7 +5,6 @@ pub mod Compacting
 pub mod Closing
 pub mod Placing
 pub mod Stepping
-pub mod Laws
 pub mod Beginning
 pub mod Going
 pub mod Accepted

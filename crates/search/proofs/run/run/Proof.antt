@@ -8,14 +8,14 @@ use lib.IntN.{ℤ}
 use lib.ListN.{length}
 use Rattle.boxes.specs.declared.Box.{Box}
 use Rattle.boxes.specs.Boxes.{InBox}
+use Rattle.boxes.specs.Laws.{Bounds}
 use Rattle.jobs.specs.declared.Job.{Job}
 use Rattle.points.specs.Points.{pointsOf}
 use Rattle.model.specs.Cost.{cost, bound}
+use Rattle.model.proofs.Bounds.{bound-laws}
 use Rattle.rows.specs.Rows.{rowCount}
-use Rattle.certificate.specs.Certificate.{Bounds}
 use Rattle.search.specs.declared.branch.State.{State}
 use Rattle.search.specs.Search.{searched}
-use Rattle.search.proofs.Laws.{bounds}
 use Rattle.search.proofs.Going.{Going, going-begins, going-below, low-le, going-solved, going-spent, going-steppable, going-full, going-on, going-counts}
 use Rattle.search.proofs.run.run.Statement.{statement}
 use Rattle.search.proofs.run.run.Tie as tie
@@ -25,7 +25,7 @@ abbrev GoingJob : (store : List ℕ) (job : Job) (t : List ℤ) (first s : State
 GoingJob store job t first s u =
     (inside : InBox (job .start) (job .domain)) →
     (some : 1 ≤ rowCount t) →
-    Going (cost (job .model) (pointsOf store)) (bound (job .model) (pointsOf store)) (bounds (job .model) (pointsOf store)) (job .budget) (job .t) (job .start) (job .domain) inside t some first s u
+    Going (cost (job .model) (pointsOf store)) (bound (job .model) (pointsOf store)) (bound-laws (job .model) (pointsOf store)) (job .budget) (job .t) (job .start) (job .domain) inside t some first s u
 
 abbrev Inv-loop : tie.InvT-loop
 Inv-loop store job table₀ m s₀ table s = GoingJob store job table₀ s₀ s table × (length table ≡ length table₀)
@@ -39,7 +39,7 @@ loop-holds c =
     let j = start .args .job in
     let s = start .args .store .now in (
       λ inside some.
-          going-begins (cost (j .model) (pointsOf s)) (bound (j .model) (pointsOf s)) (bounds (j .model) (pointsOf s)) (j .budget) (j .t) (j .start) (j .domain) inside (start .args .table .now) some
+          going-begins (cost (j .model) (pointsOf s)) (bound (j .model) (pointsOf s)) (bound-laws (j .model) (pointsOf s)) (j .budget) (j .t) (j .start) (j .domain) inside (start .args .table .now) some
           (start .args .first) (start .pre .1),
       refl,
     )
@@ -62,7 +62,7 @@ module _ (l : tie.At-loop Inv-loop μ-loop) where
   B = bound (j .model) (pointsOf (start .args .store .now))
 
   abbrev laws : Bounds C B
-  laws = bounds (j .model) (pointsOf (start .args .store .now))
+  laws = bound-laws (j .model) (pointsOf (start .args .store .now))
 
   abbrev g : Going C B laws (j .budget) (j .t) (j .start) (j .domain) (start .pre .0 .2) t (start .pre .0 .1) (start .args .first) (l .loop .s) (l .loop .table)
   g = l .loop .inv .0 (start .pre .0 .2) (start .pre .0 .1)
