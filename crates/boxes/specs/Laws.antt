@@ -24,7 +24,7 @@ pub record Longest (b : Box) : Type 0 where
   pub none-longer : (k : ℕ) → sideAt b k ≤ sideAt b (longestSide b)
   pub lowest : (k : ℕ) → k < longestSide b → sideAt b k < sideAt b (longestSide b)
 
--- The halves of a box of two vectors or more: both are boxes, every vector of the box lies in one half and not in both, nothing else
+-- The halves of a box, shown for two vectors or more (`AllHalved`): both are boxes, every vector of the box lies in one half and not in both, nothing else
 -- lies in a half, and the volumes add up.
 pub record Halved (b : Box) : Type 0 where
   pub left-box : atMost ((leftHalf b) .low) ((leftHalf b) .high) ≡ true
@@ -36,6 +36,9 @@ pub record Halved (b : Box) : Type 0 where
   pub left-in : (v : List ℤ) → InBox v (leftHalf b) → InBox v b
   pub right-in : (v : List ℤ) → InBox v (rightHalf b) → InBox v b
   pub adds : volume (leftHalf b) + volume (rightHalf b) ≡ volume b
+
+abbrev pub AllHalved : Type 0
+AllHalved = (b : Box) → 2 ≤ volume b → Halved b
 
 -- Of a cost of vectors and a bound of boxes.
 pub record Bounds (cost : List ℤ → ℕ) (bound : Box → ℕ) : Type 0 where

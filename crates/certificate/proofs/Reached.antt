@@ -16,7 +16,7 @@ use Rattle.boxes.specs.Laws.{Bounds}
 use Rattle.boxes.proofs.Volume.{some-in, only-low}
 use Rattle.certificate.specs.Search.{State, go, firstSmallest, boxAt, without, begin, cheaper, split}
 use Rattle.certificate.specs.Certificate.{Reached, beginning, counting}
-use Rattle.certificate.specs.Laws.{Sound}
+use Rattle.certificate.specs.Laws.{Sound, AllSound}
 use Rattle.certificate.proofs.Lists.{Takes, takes-at, takes-all}
 use Rattle.certificate.proofs.Kept.{keeps-if, length-kept, kept-below}
 use Rattle.certificate.proofs.Smallest.{lower-open, smallest}
@@ -139,3 +139,6 @@ module _
     held beginning =
         record { covers = begin-covers cost bound laws box start i; sound = begin-sound; counted = refl }
     held (counting {s = s} r e) = splits s (rw e at (step-case cost bound budget rows t s)) (held r)
+
+pub reached-sound : AllSound
+reached-sound cost bound laws budget rows t start box i k s r = (held cost bound laws budget rows t start box i r) .sound

@@ -13,7 +13,7 @@ use Rattle.certificate.specs.Search.{State, Kind, solved, spent, full, s
 use Rattle.certificate.specs.Certificate.{Reached, beginning, counting}
 use Rattle.certificate.specs.Laws.{Sound}
 use Rattle.certificate.proofs.Steps.{gap, step-solved, step-spent, step-full, step-goes, run-stops, run-goes}
-use Rattle.certificate.proofs.Reached.{held}
+use Rattle.certificate.proofs.Reached.{reached-sound}
 
 module _ (cost : List ℤ → ℕ) (bound : Box → ℕ) (budget rows t : ℕ) (start : List ℤ) (box : Box) where
   pub record Running (s : State) : Type 0 where
@@ -33,7 +33,7 @@ module _ (cost : List ℤ → ℕ) (bound : Box → ℕ) (budget rows t : ℕ) (
   module _ (s : State) (r : Running s) where
     -- every open box is as `Sound` says
     pub running-sound : Bounds cost bound → InBox start box → Sound cost bound budget rows box s
-    running-sound laws i = (held cost bound laws budget rows t start box i (r .reached)) .sound
+    running-sound laws i = reached-sound cost bound laws budget rows t start box i (s .count) s (r .reached)
 
     answers :
         {kind : Kind} →

@@ -13,7 +13,7 @@ use Rattle.integers.proofs.Tests.{by-cond}
 use Rattle.boxes.specs.declared.Box.{Box}
 use Rattle.boxes.specs.Split.{zeroBox}
 use Rattle.certificate.specs.Search.{lowerBound, firstSmallest, boxAt}
-use Rattle.certificate.specs.Laws.{Smallest}
+use Rattle.certificate.specs.Laws.{AllSmallest}
 use Rattle.certificate.proofs.Lists.{all-at}
 
 module _ (bound : Box → ℕ) where
@@ -67,15 +67,6 @@ module _ (bound : Box → ℕ) where
       (λ t before. before-larger bs k (omega arith))
       before
 
-  pub smallest : (bs : List Box) → 1 ≤ length bs → Smallest bound bs
-  smallest bs some =
-      record {
-        inside = smallest-inside bs some;
-        lowest = λ c. smallest-lower c bs some;
-        none-smaller = λ k inside. omega (arith, smallest-lower 0 bs some, all-at zeroBox (lower-below 0 bs) k inside);
-        first = before-larger bs;
-      }
-
   -- one more box behind the others, as a loop over the list meets it
   min-snoc :
       (x : ℕ) (bs : List Box) (b : Box) →
@@ -126,3 +117,12 @@ module _ (bound : Box → ℕ) where
     -- and else that stays the one it was
     pub first-old : bound b < c → lowerBound bound c bs ≤ bound b → firstSmallest bound (bs ++ (b ∷ [])) ≡ firstSmallest bound bs
     first-old below above = not-smaller c bs b (lower-open c bs (omega arith)) above
+
+pub smallest : AllSmallest
+smallest bound bs some =
+    record {
+      inside = smallest-inside bound bs some;
+      lowest = λ c. smallest-lower bound c bs some;
+      none-smaller = λ k inside. omega (arith, smallest-lower bound 0 bs some, all-at zeroBox (lower-below bound 0 bs) k inside);
+      first = before-larger bound bs;
+    }

@@ -7,21 +7,26 @@ use lib.ListN.{length}
 use Rattle.integers.specs.Lists.{All}
 use Rattle.boxes.specs.declared.Box.{Box}
 use Rattle.boxes.specs.Boxes.{InBox, volume}
+use Rattle.boxes.specs.Laws.{Bounds}
 use Rattle.certificate.specs.Search.{State, lowerBound, firstSmallest, boxAt}
+use Rattle.certificate.specs.Certificate.{Reached}
 
--- "the first box with the smallest bound" of a list that has one: its bound is L, none is smaller, and those before it are larger.
+-- "the first box with the smallest bound", shown of a list that has a box (`AllSmallest`): its bound is L, none is smaller, and those before it are larger.
 pub record Smallest (bound : Box → ℕ) (list : List Box) : Type 0 where
   pub inside : firstSmallest bound list < length list
   pub lowest : (c : ℕ) → bound (boxAt list (firstSmallest bound list)) ≡ lowerBound bound c list
   pub none-smaller : (k : ℕ) → k < length list → bound (boxAt list (firstSmallest bound list)) ≤ bound (boxAt list k)
   pub first : (k : ℕ) → k < firstSmallest bound list → bound (boxAt list (firstSmallest bound list)) < bound (boxAt list k)
 
+abbrev pub AllSmallest : Type 0
+AllSmallest = (bound : Box → ℕ) (list : List Box) → 1 ≤ length list → Smallest bound list
+
 -- A box that is open in a search of the box `root`: it has two vectors at least, all of them vectors of root.
 pub record Open (root b : Box) : Type 0 where
   pub two : 2 ≤ volume b
   pub inside : (v : List ℤ) → InBox v b → InBox v root
 
--- What holds of every state that a search of `box` comes to: the best vector lies in the box, the open boxes have bounds below C,
+-- What is shown of every state that a search of `box` comes to (`AllSound`): the best vector lies in the box, the open boxes have bounds below C,
 -- the list is no longer than peak, peak is at most r (at the beginning one box may be open, whatever r is), and the count is within
 -- the budget.
 pub record Sound (cost : List ℤ → ℕ) (bound : Box → ℕ) (budget rows : ℕ) (box : Box) (s : State) : Type 0 where
@@ -31,3 +36,14 @@ pub record Sound (cost : List ℤ → ℕ) (bound : Box → ℕ) (budget rows : 
   pub longest : length (s .list) ≤ s .peak
   pub room : s .peak ≤ max 1 rows
   pub within : s .count ≤ budget
+
+-- The start vector lies in the box, and the cost and the bound have the two laws.
+abbrev pub AllSound : Type 0
+AllSound =
+    (cost : List ℤ → ℕ) (bound : Box → ℕ) →
+    Bounds cost bound →
+    (budget rows t : ℕ) (start : List ℤ) (box : Box) →
+    InBox start box →
+    (k : ℕ) (s : State) →
+    Reached cost bound budget rows t start box k s →
+    Sound cost bound budget rows box s
