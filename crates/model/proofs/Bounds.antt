@@ -1,4 +1,5 @@
--- The bound of a box is at most the cost of each of its vectors, and equal for a box of one vector; residuals are small. Assumes nothing.
+-- The bound of a box is at most the cost of each of its vectors, and equal for a box of one vector; costs and residuals have a limit.
+-- Assumes nothing.
 use mathlib.Core.Path.{_≡_, refl, ap, _∙_}
 use mathlib.Core.Bool.{cond}
 use mathlib.Core.List.{List, [], _∷_}
@@ -20,9 +21,11 @@ use Rattle.loss.proofs.Laws.{loss-mono}
 use Rattle.points.specs.declared.Point.{Point}
 use Rattle.points.specs.Points.{xs}
 use Rattle.model.specs.Cost.{at, dot, dotMax, dotMin, residual, sizeAt, eMin, eMax, nearestTo0, leastSize, totalLoss, cost, bound}
-use Rattle.model.specs.Laws.{AllBounds, LeastLoss, Small, SmallResidual}
+use Rattle.model.specs.Laws.{AllBounds, CostLimit, LeastLoss, Small, SmallResidual}
 use Rattle.model.specs.Ready.{boxOf}
 use Rattle.model.proofs.Least.{least-mono, loss-of-least}
+use Rattle.model.proofs.Sums.{total-most}
+use Rattle.model.proofs.Passed.{ready}
 
 -- the least size between two ends is at most the size of each number between them
 nearest-le : (a b e : ℤ) → a ≤ℤ e → e ≤ℤ b → nearestTo0 a b ≤ natAbs e
@@ -110,6 +113,11 @@ bound-laws m qs =
       sound = λ B v inside. total-mono m (leastSize m B) (sizeAt m v) (size-below m B v inside) qs;
       tight = λ B e. ap (λ (h : List ℤ). totalLoss m (leastSize m (boxOf (B .low) h)) qs) (high-low B e) ∙ total-same m (leastSize m (boxOf (B .low) (B .low))) (sizeAt m (B .low)) (size-one m (B .low)) qs;
     }
+
+pub cost-limit : (store : List ℕ) (m : Model) → CostLimit store m
+unfolding cost
+cost-limit store m =
+    record { most = λ e v. let r = ready store m e in total-most m (sizeAt m v) store (r .lines) (r .cut) (r .few) }
 
 pub least-loss : (p ε : ℕ) → LeastLoss p ε
 least-loss p ε = record { of-least = loss-of-least p ε }

@@ -29,11 +29,14 @@ module _ (m : Model) (size : Point → ℕ → ℕ) where
       omega (arith, total-le lines cut qs, loss-of-least (m .p) (m .eps) (size q) (m .n) lines, loss-le (m .p) (m .eps) (least (size q) (m .n)) cut)
 
   module _ (s : List ℕ) where
+    -- the largest total of a store that check 1 lets through
+    pub total-most : 1 ≤ m .n → m .eps ≤ 16777215 → length s ≤ 49152 → totalLoss m size (pointsOf s) ≤ 1152921367167897600
+    unfolding pointsOf
+    total-most lines cut few = omega (arith, total-le lines cut (firstPoints s (length s / 12)), points-length s (length s / 12))
+
     -- so that no cap of 64 bits is needed
     pub total-uncapped : 1 ≤ m .n → m .eps ≤ 16777215 → length s ≤ 49152 → min (totalLoss m size (pointsOf s)) 18446744073709551615 ≡ totalLoss m size (pointsOf s)
-    unfolding pointsOf
-    total-uncapped lines cut few =
-        min-eq-left (omega (arith, total-le lines cut (firstPoints s (length s / 12)), points-length s (length s / 12)))
+    total-uncapped lines cut few = min-eq-left (omega (arith, total-most lines cut few))
 
     total-more : (i : ℕ) → totalLoss m size (firstPoints s (i + 1)) ≡ totalLoss m size (firstPoints s i) + least (λ j. lossOf (m .p) (m .eps) (size (pointAt s i) j)) (m .n)
     total-more i = ap (totalLoss m size) (points-more s i) ∙ total-snoc (firstPoints s i) (pointAt s i)

@@ -3,13 +3,15 @@ use mathlib.Core.List.{List, _∷_, map}
 use mathlib.Core.Path.{_≡_}
 use Prim.Native.Nat.{ℕ, _≤_}
 use lib.IntN.{ℤ, natAbs}
+use Rattle.codes.specs.declared.Check.the-variants.{Pass}
 use Rattle.boxes.specs.declared.Box.{Box}
 use Rattle.boxes.specs.Laws.{Bounds}
 use Rattle.jobs.specs.declared.Model.{Model}
 use Rattle.loss.specs.Loss.{lossOf}
 use Rattle.points.specs.declared.Point.{Point}
-use Rattle.points.specs.Points.{xs}
+use Rattle.points.specs.Points.{xs, pointsOf}
 use Rattle.model.specs.Cost.{at, least, residual, cost, bound}
+use Rattle.model.specs.Calls.{checkModel}
 
 -- "This is Lemma 2 of source document 000 under the saturated losses. A box of one vector has that vector's cost as its bound.": the two
 -- laws of boxes/specs/Laws.antt, of any model and points
@@ -19,6 +21,10 @@ AllBounds = (m : Model) (qs : List Point) → Bounds (cost m qs) (bound m qs)
 -- The least loss among the lines is the loss of the least |e|.
 pub record LeastLoss (p ε : ℕ) : Type 0 where
   pub of-least : (size : ℕ → ℕ) (n : ℕ) → 1 ≤ n → least (λ j. lossOf p ε (size j)) n ≡ lossOf p ε (least size n)
+
+-- Check 9 refuses "C over 1,152,921,367,167,897,600", which is 4,096 × 16,777,215²: where checks 1 to 4 pass, no vector costs more.
+pub record CostLimit (store : List ℕ) (m : Model) : Type 0 where
+  pub most : checkModel store m ≡ Pass → (v : List ℤ) → cost m (pointsOf store) v ≤ 1152921367167897600
 
 -- a point with the frame number that f gives it
 abbrev pub framed : (Point → ℕ) → Point → Point
