@@ -16,6 +16,7 @@ pub record State : Type 0 where
   pub count : ℕ
   pub peak : ℕ
 
+-- "answer solved", "answer spent", "answer full"
 pub data Kind : Type 0 where
   solved spent full : Kind
 
@@ -120,5 +121,6 @@ module _ (cost : List ℤ → ℕ) (bound : Box → ℕ) where
     run zero s = answer spent s
     run (suc n) s = follow (run n) s (step s)
 
+    -- from the beginning to an answer
     unfoldable pub search : List ℤ → Box → Answer
     search start box = run (suc budget) (begin start box)

@@ -22,7 +22,7 @@ use Rattle.points.specs.declared.Point.{Point}
 use Rattle.points.specs.Points.{xs}
 use Rattle.model.specs.Cost.{at, dot, dotMax, dotMin, residual, sizeAt, eMin, eMax, nearestTo0, leastSize, totalLoss, cost, bound}
 use Rattle.model.specs.Laws.{AllBounds, CostLimit, LeastLoss, Small, SmallResidual}
-use Rattle.model.specs.Ready.{boxOf}
+use Rattle.model.specs.Inside.{boxOf}
 use Rattle.model.proofs.Least.{least-mono, loss-of-least}
 use Rattle.model.proofs.Sums.{total-most}
 use Rattle.model.proofs.Passed.{ready}

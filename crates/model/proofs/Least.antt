@@ -11,7 +11,7 @@ use Rattle.integers.proofs.Tests.{by-cond}
 use Rattle.loss.specs.Loss.{lossOf}
 use Rattle.loss.proofs.Laws.{loss-mono}
 use Rattle.model.specs.Cost.{least, firstLeast}
-use Rattle.model.specs.Ready.{leastFrom}
+use Rattle.model.specs.Inside.{leastFrom}
 
 -- one line more
 pub least-more : (f : ℕ → ℕ) (j : ℕ) → 1 ≤ j → least f (j + 1) ≡ min (least f j) (f j)

@@ -13,7 +13,7 @@ use Rattle.loss.specs.Loss.{lossOf}
 use Rattle.points.specs.declared.Point.{Point}
 use Rattle.points.specs.Points.{pointAt, recordAt}
 use Rattle.model.specs.Cost.{least}
-use Rattle.model.specs.Ready.{Begins, leastFrom, sumOf, lossesFrom}
+use Rattle.model.specs.Inside.{Begins, leastFrom, sumOf, lossesFrom}
 use Rattle.model.proofs.Least.{loss-from}
 use Rattle.model.proofs.Sizes.{record-at}
 

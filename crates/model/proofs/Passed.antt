@@ -23,7 +23,7 @@ use Rattle.points.specs.Points.{pointsOf, checkStore}
 use Rattle.scale.specs.Scale.{checkScale}
 use Rattle.scale.proofs.Checks.{scale-within}
 use Rattle.model.specs.Calls.{checkModel, checkCost, checkBound, checkLabels}
-use Rattle.model.specs.Ready.{Ready}
+use Rattle.model.specs.Inside.{Ready}
 
 -- both ends of `within`
 within-parts : (low x high : ℕ) → T (within low x high) → (low ≤ x) × (x ≤ high)

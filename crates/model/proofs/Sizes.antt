@@ -9,7 +9,7 @@ use Rattle.jobs.specs.declared.Model.{Model}
 use Rattle.points.specs.declared.Point.{Point}
 use Rattle.points.specs.Points.{pointAt, recordAt}
 use Rattle.model.specs.Cost.{residual, sizeAt, eMin, eMax, leastSize}
-use Rattle.model.specs.Ready.{sizeOf, nearOf}
+use Rattle.model.specs.Inside.{sizeOf, nearOf}
 
 -- the power of two that the table gives for a scale that was checked
 pub power-of : (S power : ℕ) → S < 16 → power ≡ 2 ^ (S % 16) → power ≡ 2 ^ S

@@ -16,7 +16,7 @@ use Rattle.integers.proofs.Parts.{up, apart, abs-parts, sub-parts, le-parts, le
 use Rattle.integers.proofs.Tests.{by-test}
 use Rattle.boxes.specs.declared.Box.{Box}
 use Rattle.model.specs.Cost.{at, dotMax, dotMin, nearestTo0}
-use Rattle.model.specs.Ready.{positive}
+use Rattle.model.specs.Inside.{positive}
 
 -- what lies above 0 of a number is the larger of its parts' difference and 0
 above : (z : ℤ) → positive z ≡ up z

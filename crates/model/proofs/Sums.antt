@@ -12,7 +12,7 @@ use Rattle.points.specs.declared.Point.{Point}
 use Rattle.points.specs.Points.{pointAt, firstPoints, pointsOf}
 use Rattle.points.proofs.Laws.{points-more, points-length}
 use Rattle.model.specs.Cost.{least, totalLoss}
-use Rattle.model.specs.Ready.{sumOf, lossesFrom}
+use Rattle.model.specs.Inside.{sumOf, lossesFrom}
 use Rattle.model.proofs.Least.{loss-of-least}
 
 module _ (m : Model) (size : Point → ℕ → ℕ) where

@@ -27,6 +27,7 @@ checkModel store m =
 unfoldable pub checkCost : List ℕ → Model → List ℤ → Check
 checkCost store m v = inOrder (checkModel store m ∷ checkVector (m .n) (m .d) v ∷ checkStray (m .d) (pointsOf store) ∷ [])
 
+-- what a cost answers
 unfoldable pub costAnswer : List ℕ → Model → List ℤ → Outcome
 costAnswer store m v = unlessRefused (checkCost store m v) (cost m (pointsOf store) v)
 
@@ -34,6 +35,7 @@ costAnswer store m v = unlessRefused (checkCost store m v) (cost m (pointsOf sto
 unfoldable pub checkBound : List ℕ → Model → Box → Check
 checkBound store m B = inOrder (checkModel store m ∷ checkBox (m .n) (m .d) B ∷ checkStray (m .d) (pointsOf store) ∷ [])
 
+-- what a bound answers
 unfoldable pub boundAnswer : List ℕ → Model → Box → Outcome
 boundAnswer store m B = unlessRefused (checkBound store m B) (bound m (pointsOf store) B)
 

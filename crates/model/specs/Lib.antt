@@ -1,4 +1,4 @@
 pub mod Cost
 pub mod Calls
 pub mod Laws
-pub mod Ready
+pub mod Inside

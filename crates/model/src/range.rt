@@ -13,15 +13,15 @@ ghost use lib.ListN.{length};
 ghost use Rattle.integers.specs.Integers.{maxZ, minZ};
 ghost use Rattle.points.specs.Points.{pointAt, pointsOf, xs};
 ghost use Rattle.model.specs.Cost.{at, dotMax, dotMin, leastSize, bound};
-ghost use Rattle.model.specs.Ready.{Ready, boxOf, nearOf, leastFrom, Begins, lossesFrom, positive};
+ghost use Rattle.model.specs.Inside.{Ready, boxOf, nearOf, leastFrom, Begins, lossesFrom, positive};
 
-pub fn larger(a: i64, b: i64) -> i64
+fn larger(a: i64, b: i64) -> i64
     ensures { λ r. ⌜ r ≡ maxZ a b ⌝ }
 {
     if a <= b { b } else { a }
 }
 
-pub fn smaller(a: i64, b: i64) -> i64
+fn smaller(a: i64, b: i64) -> i64
     ensures { λ r. ⌜ r ≡ minZ a b ⌝ }
 {
     if a <= b { a } else { b }
@@ -34,7 +34,7 @@ pub struct Ends {
 }
 
 // One product more, of x and what lies between the coordinates at place k.
-pub fn widened(t: Ends, low: &[i16], high: &[i16], k: usize, x: i16) -> Ends
+fn widened(t: Ends, low: &[i16], high: &[i16], k: usize, x: i16) -> Ends
     requires { ⌜ (k < length (now low)) × (k < length (now high)) × (natAbs (t .largest) ≤ 3221225472) × (natAbs (t .least) ≤ 3221225472) ⌝ }
     ensures largest { λ r. ⌜ r .largest ≡ t .largest +ℤ maxZ (at (now (low .entry)) k *ℤ x) (at (now (high .entry)) k *ℤ x) ⌝ }
     ensures least { λ r. ⌜ r .least ≡ t .least +ℤ minZ (at (now (low .entry)) k *ℤ x) (at (now (high .entry)) k *ℤ x) ⌝ }
@@ -49,7 +49,7 @@ pub fn widened(t: Ends, low: &[i16], high: &[i16], k: usize, x: i16) -> Ends
 }
 
 // Those ends, of a point and the line whose coordinates begin at place b.
-pub fn dot_ends(q: Point, low: &[i16], high: &[i16], b: usize, d: usize) -> Ends
+fn dot_ends(q: Point, low: &[i16], high: &[i16], b: usize, d: usize) -> Ends
     requires { ⌜ (b + d ≤ length (now low)) × (b + d ≤ length (now high)) × (1 ≤ d) × (d ≤ 4) ⌝ }
     ensures largest { λ r. ⌜ r .largest ≡ dotMax (boxOf (now (low .entry)) (now (high .entry))) b (xs q) d ⌝ }
     ensures least { λ r. ⌜ r .least ≡ dotMin (boxOf (now (low .entry)) (now (high .entry))) b (xs q) d ⌝ }
@@ -80,7 +80,7 @@ pub fn dot_ends(q: Point, low: &[i16], high: &[i16], b: usize, d: usize) -> Ends
 }
 
 // The larger of emin and −emax, of a point and the line whose coordinates begin at place b: above 0 it is the least |e| over the box.
-pub fn distance(q: Point, low: &[i16], high: &[i16], b: usize, d: usize, power: u16) -> i64
+fn distance(q: Point, low: &[i16], high: &[i16], b: usize, d: usize, power: u16) -> i64
     requires { ⌜ (b + d ≤ length (now low)) × (b + d ≤ length (now high)) × (1 ≤ d) × (d ≤ 4) ⌝ }
     ensures { λ r. ⌜ positive r ≡ nearOf q (boxOf (now (low .entry)) (now (high .entry))) b d power ⌝ }
 {
@@ -90,7 +90,7 @@ pub fn distance(q: Point, low: &[i16], high: &[i16], b: usize, d: usize, power: 
 }
 
 // The least of those among the lines, or ε + 1 if that is less.
-pub fn least_distance(
+fn least_distance(
     q: Point,
     low: &[i16],
     high: &[i16],
@@ -111,14 +111,14 @@ pub fn least_distance(
     size
 }
 
-pub fn above_0(e: i64) -> u64
+fn above_0(e: i64) -> u64
     ensures { λ r. ⌜ r ≡ positive e ⌝ }
 {
     if e < 0 { 0 } else { e as u64 }
 }
 
 // The least size over the box among the lines, or ε + 1 if that is less, for each point of a block.
-pub fn write_nears(
+fn write_nears(
     s: &[u8],
     i: usize,
     count: usize,
@@ -143,7 +143,7 @@ pub fn write_nears(
 }
 
 // A loop of its own for each d, as for the cost.
-pub fn nears_by_d(
+fn nears_by_d(
     s: &[u8],
     i: usize,
     count: usize,
@@ -167,7 +167,7 @@ pub fn nears_by_d(
 }
 
 // The losses of a block's points.
-pub fn bound_block(
+fn bound_block(
     s: &[u8],
     i: usize,
     count: usize,

@@ -12,7 +12,7 @@ ghost use lib.ListN.{length};
 ghost use Rattle.integers.specs.Lists.{over};
 ghost use Rattle.points.specs.Points.{pointAt, pointsOf, xs};
 ghost use Rattle.model.specs.Cost.{at, dot, sizeAt, least, firstLeast, cost, label};
-ghost use Rattle.model.specs.Ready.{Ready, sizeOf, leastFrom, Begins, lossesFrom};
+ghost use Rattle.model.specs.Inside.{Ready, sizeOf, leastFrom, Begins, lossesFrom};
 
 pub fn times(a: i16, b: i16) -> i64
     ensures product { λ r. ⌜ r ≡ a *ℤ b ⌝ }
@@ -30,7 +30,7 @@ pub fn scaled(y: i16, power: u16) -> i64
 }
 
 // One product more, of x and the coordinate at place k.
-pub fn added(t: i64, v: &[i16], k: usize, x: i16) -> i64
+fn added(t: i64, v: &[i16], k: usize, x: i16) -> i64
     requires { ⌜ (k < length (now v)) × (natAbs t ≤ 3221225472) ⌝ }
     ensures value { λ r. ⌜ r ≡ t +ℤ at (now (v .entry)) k *ℤ x ⌝ }
     ensures small { λ r. ⌜ natAbs r ≤ natAbs t + 1073741824 ⌝ }
@@ -39,7 +39,7 @@ pub fn added(t: i64, v: &[i16], k: usize, x: i16) -> i64
 }
 
 // Σ w × x of a point and the line whose coordinates begin at place b.
-pub fn dot_point(q: Point, v: &[i16], b: usize, d: usize) -> i64
+fn dot_point(q: Point, v: &[i16], b: usize, d: usize) -> i64
     requires { ⌜ (b + d ≤ length (now v)) × (1 ≤ d) × (d ≤ 4) ⌝ }
     ensures value { λ r. ⌜ r ≡ dot (now (v .entry)) b (xs q) d ⌝ }
     ensures small { λ r. ⌜ natAbs r ≤ 4294967296 ⌝ }
@@ -60,7 +60,7 @@ pub fn dot_point(q: Point, v: &[i16], b: usize, d: usize) -> i64
 }
 
 // |e| of a point and that line.
-pub fn size_point(q: Point, v: &[i16], b: usize, d: usize, power: u16) -> u64
+fn size_point(q: Point, v: &[i16], b: usize, d: usize, power: u16) -> u64
     requires { ⌜ (b + d ≤ length (now v)) × (1 ≤ d) × (d ≤ 4) ⌝ }
     ensures { λ r. ⌜ r ≡ sizeOf q (now (v .entry)) b d power ⌝ }
 {
@@ -68,7 +68,7 @@ pub fn size_point(q: Point, v: &[i16], b: usize, d: usize, power: u16) -> u64
 }
 
 // The least |e| among the lines, or ε + 1 if that is less: a size past ε costs no more than ε + 1.
-pub fn least_size(q: Point, v: &[i16], n: usize, d: usize, power: u16, eps: u32) -> u64
+fn least_size(q: Point, v: &[i16], n: usize, d: usize, power: u16, eps: u32) -> u64
     requires { ⌜ (n * d ≤ length (now v)) × (1 ≤ d) × (d ≤ 4) ⌝ }
     ensures { λ r. ⌜ r ≡ leastFrom (eps + 1) (λ j. sizeOf q (now (v .entry)) (j * d) d power) n ⌝ }
 {
@@ -82,7 +82,7 @@ pub fn least_size(q: Point, v: &[i16], n: usize, d: usize, power: u16, eps: u32)
 }
 
 // That size for each point of a block.
-pub fn write_sizes(
+fn write_sizes(
     s: &[u8],
     i: usize,
     count: usize,
@@ -106,7 +106,7 @@ pub fn write_sizes(
 }
 
 // A loop of its own for each d, which the compiler makes without a test of d and without the fields that are not used.
-pub fn sizes_by_d(
+fn sizes_by_d(
     s: &[u8],
     i: usize,
     count: usize,
@@ -129,7 +129,7 @@ pub fn sizes_by_d(
 }
 
 // The losses of a block's points.
-pub fn cost_block(s: &[u8], i: usize, count: usize, m: Model, v: &[i16], power: u16) -> u64
+fn cost_block(s: &[u8], i: usize, count: usize, m: Model, v: &[i16], power: u16) -> u64
     requires { ⌜ Ready (length (now s)) m × (8 ≤ length (now v)) × ((i + count) * 12 ≤ length (now s)) × (count ≤ 64) × (power ≡ 2 ^ m .scale) ⌝ }
     ensures { λ r. ⌜ r ≡ lossesFrom m (sizeAt m (now (v .entry))) (now (s .entry)) i count ⌝ }
 {
@@ -174,7 +174,7 @@ pub struct Nearest {
     pub size: u64,
 }
 
-pub fn nearest_line(q: Point, v: &[i16], n: usize, d: usize, power: u16) -> Nearest
+fn nearest_line(q: Point, v: &[i16], n: usize, d: usize, power: u16) -> Nearest
     requires { ⌜ (n * d ≤ length (now v)) × (1 ≤ n) × (1 ≤ d) × (d ≤ 4) ⌝ }
     ensures line { λ r. ⌜ r .line ≡ firstLeast (λ j. sizeOf q (now (v .entry)) (j * d) d power) n ⌝ }
     ensures size { λ r. ⌜ r .size ≡ least (λ j. sizeOf q (now (v .entry)) (j * d) d power) n ⌝ }
@@ -194,7 +194,7 @@ pub fn nearest_line(q: Point, v: &[i16], n: usize, d: usize, power: u16) -> Near
 }
 
 // The label of record i.
-pub fn label_record(s: &[u8], i: usize, m: Model, v: &[i16], power: u16) -> u8
+fn label_record(s: &[u8], i: usize, m: Model, v: &[i16], power: u16) -> u8
     requires { ⌜ Ready (length (now s)) m × (8 ≤ length (now v)) × (i * 12 + 12 ≤ length (now s)) × (power ≡ 2 ^ m .scale) ⌝ }
     ensures { λ r. ⌜ r ≡ label m (now (v .entry)) (pointAt (now (s .entry)) i) ⌝ }
 {

@@ -27,7 +27,7 @@ use Rattle.search.specs.declared.branch.Best.{Best}
 use Rattle.search.specs.declared.branch.State.{State}
 use Rattle.search.specs.declared.branch.Stepped.{Stepped}
 use Rattle.search.specs.Search.{kindOf, told}
-use Rattle.search.specs.Inside.{bestOf, stateIn, Steppable, Moved, Outcome, Begun, answerWith, Ran}
+use Rattle.search.specs.Inside.{bestOf, stateIn, Steppable, Moved, StepOutcome, Begun, answerWith, Ran}
 
 module _
     (cost : List ℤ → ℕ) (bound : Box → ℕ) (laws : Bounds cost bound) (budget tol : ℕ) (start : List ℤ) (domain : Box) (inside : InBox start domain)
@@ -131,7 +131,7 @@ module _
                   countable = omega (arith, less);
                 }
 
-            module _ (r : Stepped) (v : List ℤ) (o : Outcome cost bound u s r v) where
+            module _ (r : Stepped) (v : List ℤ) (o : StepOutcome cost bound u s r v) where
               pub going-full : r .full ≡ true → Ran def t first (answerWith (kindOf full) s low) v
               going-full e =
                   let many = ltb-true (rowCount u) (length ((split cost bound (stateIn u s)) .list)) (sym (o .told) ∙ e) in

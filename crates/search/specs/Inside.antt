@@ -77,7 +77,7 @@ pub record Moved (cost : List ℤ → ℕ) (bound : Box → ℕ) (t : List ℤ) 
   pub rest : drop (16 * s₂ .peak) u ≡ drop (16 * s₂ .peak) t
 
 -- What a step says: the table is too small for the split and nothing changed, or the split is made.
-pub record Outcome (cost : List ℤ → ℕ) (bound : Box → ℕ) (t : List ℤ) (s : State) (r : Stepped) (u : List ℤ) : Type 0 where
+pub record StepOutcome (cost : List ℤ → ℕ) (bound : Box → ℕ) (t : List ℤ) (s : State) (r : Stepped) (u : List ℤ) : Type 0 where
   pub same : r .full ≡ true → r .state ≡ s
   pub kept : r .full ≡ true → u ≡ t
   pub told : r .full ≡ ltb (rowCount t) (length ((split cost bound (stateIn t s)) .list))

@@ -18,7 +18,7 @@ ghost use Rattle.model.specs.Cost.{bound, cost};
 ghost use Rattle.model.specs.Calls.{checkModel};
 ghost use Rattle.rows.specs.Rows.{rowCount, rowsOf, withRow};
 ghost use Rattle.certificate.specs.Search.{keepBelow, without, cheaper};
-ghost use Rattle.search.specs.Inside.{Listed, bestOf, childOf, branchesOf, Placeable, Steppable, Outcome};
+ghost use Rattle.search.specs.Inside.{Listed, bestOf, childOf, branchesOf, Placeable, Steppable, StepOutcome};
 
 // The best vector and its cost, C.
 pub struct Best {
@@ -191,7 +191,7 @@ pub struct Stepped {
 // Splits the box at `at`, the first with the smallest bound. Where the table is too small nothing is written.
 pub fn step(store: &[u8], m: Model, table: &mut [i16], s: State, at: usize) -> Stepped
     requires { ⌜ (checkModel (now store) m ≡ Pass) × Steppable (cost m (pointsOf (now store))) (bound m (pointsOf (now store))) (now table) s at ⌝ }
-    ensures { λ r. ⌜ Outcome (cost m (pointsOf (now (store .entry)))) (bound m (pointsOf (now (store .entry)))) (now (table .entry)) s r (now (table .exit)) ⌝ }
+    ensures { λ r. ⌜ StepOutcome (cost m (pointsOf (now (store .entry)))) (bound m (pointsOf (now (store .entry)))) (now (table .entry)) s r (now (table .exit)) ⌝ }
 {
     let best = s.best;
     let b = rows::read_row(table, at);

@@ -45,7 +45,7 @@ fn check_table(numbers: usize) -> Check
     }
 }
 
-// Checks 1 to 8, with a table of so many numbers. Only a store that passes the others is looked through for stray fields.
+// Checks 1 to 8, with a table of so many numbers. Only where checks 1 to 6 pass is the store looked through for stray fields.
 pub fn check_search(store: &[u8], job: Job, numbers: usize) -> Check
     ensures { λ r. ⌜ r ≡ checkSearch (now (store .entry)) job numbers ⌝ }
 {

@@ -1,10 +1,11 @@
+-- The test is that of `positive`; a number that is not below 0 is its own size, and the cast keeps it.
 use mathlib.Core.Path.{_≡_}
 use mathlib.Core.Bool.{true, false}
 use lib.IntN.{pos}
 use lib.Signed.{ltZ}
 use mir.Facts.{toZ-ofZ, fits-natAbs}
 use Rattle.integers.proofs.Parts.{not-negative}
-use Rattle.model.specs.Ready.{positive}
+use Rattle.model.specs.Inside.{positive}
 use Rattle.model.proofs.range.above_0.Statement.{statement}
 use Rattle.model.proofs.range.above_0.Tie as tie
 

@@ -4,7 +4,7 @@ use mathlib.Core.Path.{ap, _∙_}
 use Prim.Native.Nat.{ℕ, _+_}
 use Rattle.points.specs.Points.{pointAt}
 use Rattle.model.specs.Cost.{leastSize}
-use Rattle.model.specs.Ready.{boxOf, leastFrom}
+use Rattle.model.specs.Inside.{boxOf, leastFrom}
 use Rattle.model.proofs.Losses.{block-losses}
 use Rattle.model.proofs.Sizes.{sizes-over}
 use Rattle.model.proofs.range.bound_block.Statement.{statement}

@@ -5,7 +5,7 @@ use Prim.Native.Nat.{ℕ, _+_, _-_, _/_, _^_}
 use native.Mathlib.Omega.{arith}
 use lib.ListN.{length}
 use Rattle.model.specs.Cost.{leastSize, bound}
-use Rattle.model.specs.Ready.{boxOf}
+use Rattle.model.specs.Inside.{boxOf}
 use Rattle.model.proofs.Sizes.{power-of}
 use Rattle.model.proofs.Sums.{Summed, none-summed, block-summed, cap-reached, all-summed}
 use Rattle.model.proofs.range.bound_sum.Statement.{statement}

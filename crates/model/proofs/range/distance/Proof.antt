@@ -10,7 +10,7 @@ use Rattle.integers.specs.Integers.{maxZ}
 use Rattle.integers.proofs.Machine.{difference-fits, read-difference}
 use Rattle.points.specs.Points.{xs}
 use Rattle.model.specs.Cost.{dotMax, dotMin}
-use Rattle.model.specs.Ready.{boxOf, positive}
+use Rattle.model.specs.Inside.{boxOf, positive}
 use Rattle.model.proofs.Spans.{positive-max, min-le-max}
 use Rattle.model.proofs.range.distance.Statement.{statement}
 use Rattle.model.proofs.range.distance.Tie as tie

@@ -1,3 +1,4 @@
+-- The test is that of `maxZ`, and each branch hands a number back as it was.
 use mathlib.Core.Path.{_≡_}
 use mathlib.Core.Bool.{true, false}
 use lib.Signed.{leZ}

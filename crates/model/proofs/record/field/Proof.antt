@@ -1,3 +1,4 @@
+-- The remainder and the quotient of the pair are the bytes that `signedAt` reads, in its order.
 use borrow.Author.Needs.{needs}
 use mathlib.Core.Path.{_∙_}
 use Prim.Native.Nat.{_+_, _*_}

@@ -1,3 +1,4 @@
+-- Divided by 256, the second byte is the quotient and the first the remainder.
 use borrow.Author.Needs.{needs}
 use native.Mathlib.Omega.{arith}
 use Rattle.model.proofs.record.joined.Statement.{statement}

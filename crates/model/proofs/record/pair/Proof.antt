@@ -1,3 +1,4 @@
+-- Both bytes are inside the slice, and `joined` says the rest.
 use borrow.Author.Needs.{needs}
 use Rattle.model.proofs.record.pair.Statement.{statement}
 use Rattle.model.proofs.record.pair.Tie as tie

@@ -4,7 +4,7 @@ use mathlib.Core.Path.{ap, _∙_}
 use Prim.Native.Nat.{ℕ, _+_}
 use Rattle.points.specs.Points.{pointAt}
 use Rattle.model.specs.Cost.{sizeAt}
-use Rattle.model.specs.Ready.{leastFrom}
+use Rattle.model.specs.Inside.{leastFrom}
 use Rattle.model.proofs.Losses.{block-losses}
 use Rattle.model.proofs.Sizes.{sizes-at}
 use Rattle.model.proofs.residual.cost_block.Statement.{statement}

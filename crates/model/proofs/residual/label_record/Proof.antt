@@ -8,7 +8,7 @@ use native.Mathlib.Omega.{arith}
 use Rattle.points.specs.declared.Point.{Point}
 use Rattle.points.specs.Points.{pointAt}
 use Rattle.model.specs.Cost.{least, firstLeast, sizeAt, label}
-use Rattle.model.specs.Ready.{sizeOf}
+use Rattle.model.specs.Inside.{sizeOf}
 use Rattle.model.proofs.Least.{first-least-below}
 use Rattle.model.proofs.Sizes.{record-at, sizes-at}
 use Rattle.model.proofs.residual.label_record.Statement.{statement}

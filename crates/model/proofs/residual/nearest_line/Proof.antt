@@ -11,7 +11,7 @@ use lib.IntN.{ℤ}
 use lib.ListN.{length}
 use Rattle.points.specs.declared.Point.{Point}
 use Rattle.model.specs.Cost.{least, firstLeast}
-use Rattle.model.specs.Ready.{sizeOf}
+use Rattle.model.specs.Inside.{sizeOf}
 use Rattle.model.proofs.Least.{least-more, first-least-more, line-room}
 use Rattle.model.proofs.residual.nearest_line.Statement.{statement}
 use Rattle.model.proofs.residual.nearest_line.Tie as tie

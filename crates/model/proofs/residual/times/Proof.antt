@@ -1,3 +1,4 @@
+-- A product of two signed 16-bit numbers has a size of 2^30 at most, and so fits 64 bits.
 use mathlib.Core.Path.{refl}
 use Prim.Native.Nat.{_≤_}
 use native.Mathlib.Omega.{arith}

@@ -5,7 +5,7 @@ use Prim.Native.Nat.{ℕ, _+_, _*_, _-_, _≤_}
 use native.Mathlib.Omega.{arith}
 use lib.IntN.{ℤ}
 use Rattle.points.specs.declared.Point.{Point}
-use Rattle.model.specs.Ready.{sizeOf, leastFrom}
+use Rattle.model.specs.Inside.{sizeOf, leastFrom}
 use Rattle.model.proofs.Least.{from-le}
 use Rattle.model.proofs.Losses.{Written, none-written, one-written, all-written}
 use Rattle.model.proofs.residual.write_sizes.Statement.{statement}

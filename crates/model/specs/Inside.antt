@@ -24,13 +24,15 @@ pub record Ready (bytes : ℕ) (m : Model) : Type 0 where
   pub scaled : m .scale < 16
   pub cut : m .eps ≤ 16777215
 
+-- a box by its low and its high vector
 abbrev pub boxOf : List ℤ → List ℤ → Box
 boxOf low high = record { low = low; high = high }
 
--- |e| of a point and the line at place b, and its least size over a box
+-- `sizeAt` of Cost.antt, by the numbers that a loop has: the line's coordinates begin at place b, and `power` is 2^S
 abbrev pub sizeOf : Point → List ℤ → ℕ → ℕ → ℕ → ℕ
 sizeOf q v b d power = natAbs (q .y *ℤ pos power -ℤ dot v b (xs q) d)
 
+-- `leastSize` of Cost.antt, by the same numbers
 abbrev pub nearOf : Point → Box → ℕ → ℕ → ℕ → ℕ
 nearOf q B b d power = nearestTo0 (q .y *ℤ pos power -ℤ dotMax B b (xs q) d) (q .y *ℤ pos power -ℤ dotMin B b (xs q) d)
 
