@@ -33,18 +33,18 @@ unfolding nearestTo0
 nearest-le a b e h k =
     let ha = le-parts h in
     let hb = le-parts k in
-    by-test (ltZ (pos 0) a) (natAbs a) (cond (ltZ b (pos 0)) (natAbs b) 0) (λ (m : ℕ). m ≤ natAbs e)
+    by-test (ltZ (pos 0) a) _ _ (λ (m : ℕ). m ≤ natAbs e)
     (λ s. omega (arith, ltZ-true (pos 0) a s, pos-up 0, pos-dn 0, apart a, abs-parts a, abs-parts e))
-    (λ s. by-test (ltZ b (pos 0)) (natAbs b) 0 (λ (m : ℕ). m ≤ natAbs e)
+    (λ s. by-test (ltZ b (pos 0)) _ _ (λ (m : ℕ). m ≤ natAbs e)
     (λ t. omega (arith, ltZ-true b (pos 0) t, pos-up 0, pos-dn 0, apart b, abs-parts b, abs-parts e))
     (λ t. omega arith))
 
 nearest-same : (e : ℤ) → nearestTo0 e e ≡ natAbs e
 unfolding nearestTo0
 nearest-same e =
-    by-test (ltZ (pos 0) e) (natAbs e) (cond (ltZ e (pos 0)) (natAbs e) 0) (λ (m : ℕ). m ≡ natAbs e)
+    by-test (ltZ (pos 0) e) _ _ (λ (m : ℕ). m ≡ natAbs e)
     (λ s. refl)
-    (λ s. by-test (ltZ e (pos 0)) (natAbs e) 0 (λ (m : ℕ). m ≡ natAbs e)
+    (λ s. by-test (ltZ e (pos 0)) _ _ (λ (m : ℕ). m ≡ natAbs e)
     (λ t. refl)
     (λ t. omega (arith, ltZ-false (pos 0) e s, ltZ-false e (pos 0) t, pos-up 0, pos-dn 0, apart e, abs-parts e)))
 
@@ -117,7 +117,7 @@ bound-laws m qs =
 pub cost-limit : (store : List ℕ) (m : Model) → CostLimit store m
 unfolding cost
 cost-limit store m =
-    record { most = λ e v. let r = ready store m e in total-most m (sizeAt m v) store (r .lines) (r .cut) (r .few) }
+    record { most = λ e v. let r = ready store m e in omega (arith, total-most m (sizeAt m v) store (r .lines) (r .cut) (r .few)) }
 
 pub least-loss : (p ε : ℕ) → LeastLoss p ε
 least-loss p ε = record { of-least = loss-of-least p ε }
