@@ -1,16 +1,16 @@
 -- The bound of a box is at most the cost of each of its vectors, and equal for a box of one vector; costs and residuals have a limit.
 -- Assumes nothing.
 use mathlib.Core.Path.{_≡_, refl, ap, _∙_}
-use mathlib.Core.Bool.{cond}
 use mathlib.Core.List.{List, [], _∷_}
 use Prim.Native.Nat.{ℕ, zero, suc, _+_, _*_, _^_, _≤_}
 use native.Mathlib.Nat.{mul-le-mul}
 use native.Mathlib.Omega.{arith}
-use lib.IntN.{ℤ, pos, natAbs, _+ℤ_, _-ℤ_, _*ℤ_}
+use borrow.Author.Tests.{lt-ltb}
+use lib.IntN.{ℤ, pos, negsuc, natAbs, _+ℤ_, _-ℤ_, _*ℤ_}
 use lib.Pow.{pow-mono}
 use lib.Signed.{ltZ, _≤ℤ_, ≤ℤ-refl}
 use Rattle.integers.proofs.Tests.{by-test}
-use Rattle.integers.proofs.Parts.{apart, abs-parts, abs-add, abs-sub, abs-mul, le-parts, ltZ-true, ltZ-false, pos-up, pos-dn}
+use Rattle.integers.proofs.Parts.{apart, abs-parts, abs-add, abs-sub, abs-mul, le-parts, ltZ-true, pos-up, pos-dn}
 use Rattle.integers.proofs.Order.{max-same, min-same, product-le-max, min-le-product, add-mono, sub-mono}
 use Rattle.boxes.specs.declared.Box.{Box}
 use Rattle.boxes.specs.Boxes.{InBox}
@@ -41,12 +41,9 @@ nearest-le a b e h k =
 
 nearest-same : (e : ℤ) → nearestTo0 e e ≡ natAbs e
 unfolding nearestTo0
-nearest-same e =
-    by-test (ltZ (pos 0) e) _ _ (λ (m : ℕ). m ≡ natAbs e)
-    (λ s. refl)
-    (λ s. by-test (ltZ e (pos 0)) _ _ (λ (m : ℕ). m ≡ natAbs e)
-    (λ t. refl)
-    (λ t. omega (arith, ltZ-false (pos 0) e s, ltZ-false e (pos 0) t, pos-up 0, pos-dn 0, apart e, abs-parts e)))
+nearest-same (pos zero) = refl
+nearest-same (pos (suc n)) = rw (lt-ltb 0 (suc n) (omega arith)) refl
+nearest-same (negsuc n) = refl
 
 -- Σ w × x lies between its ends over a box
 module _ (B : Box) (v : List ℤ) (inside : InBox v B) (b : ℕ) (x : List ℤ) where
