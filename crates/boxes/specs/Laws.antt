@@ -24,8 +24,8 @@ pub record Longest (b : Box) : Type 0 where
   pub none-longer : (k : ℕ) → sideAt b k ≤ sideAt b (longestSide b)
   pub lowest : (k : ℕ) → k < longestSide b → sideAt b k < sideAt b (longestSide b)
 
--- The halves of a box, shown for two vectors or more (`AllHalved`): both are boxes, every vector of the box lies in one half and not in both, nothing else
--- lies in a half, and the volumes add up.
+-- The halves of a box: both are boxes, every vector of the box lies in one half and not in both, nothing else lies in a half, and the
+-- volumes add up.
 pub record Halved (b : Box) : Type 0 where
   pub left-box : atMost ((leftHalf b) .low) ((leftHalf b) .high) ≡ true
   pub right-box : atMost ((rightHalf b) .low) ((rightHalf b) .high) ≡ true
@@ -37,6 +37,7 @@ pub record Halved (b : Box) : Type 0 where
   pub right-in : (v : List ℤ) → InBox v (rightHalf b) → InBox v b
   pub adds : volume (leftHalf b) + volume (rightHalf b) ≡ volume b
 
+-- So it is with every box of two vectors or more.
 abbrev pub AllHalved : Type 0
 AllHalved = (b : Box) → 2 ≤ volume b → Halved b
 

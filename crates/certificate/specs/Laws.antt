@@ -11,13 +11,14 @@ use Rattle.boxes.specs.Laws.{Bounds}
 use Rattle.certificate.specs.Search.{State, lowerBound, firstSmallest, boxAt}
 use Rattle.certificate.specs.Certificate.{Reached}
 
--- "the first box with the smallest bound", shown of a list that has a box (`AllSmallest`): its bound is L, none is smaller, and those before it are larger.
+-- "the first box with the smallest bound": its bound is L, none is smaller, and those before it are larger.
 pub record Smallest (bound : Box → ℕ) (list : List Box) : Type 0 where
   pub inside : firstSmallest bound list < length list
   pub lowest : (c : ℕ) → bound (boxAt list (firstSmallest bound list)) ≡ lowerBound bound c list
   pub none-smaller : (k : ℕ) → k < length list → bound (boxAt list (firstSmallest bound list)) ≤ bound (boxAt list k)
   pub first : (k : ℕ) → k < firstSmallest bound list → bound (boxAt list (firstSmallest bound list)) < bound (boxAt list k)
 
+-- So it is with every list that has a box.
 abbrev pub AllSmallest : Type 0
 AllSmallest = (bound : Box → ℕ) (list : List Box) → 1 ≤ length list → Smallest bound list
 
@@ -26,9 +27,8 @@ pub record Open (root b : Box) : Type 0 where
   pub two : 2 ≤ volume b
   pub inside : (v : List ℤ) → InBox v b → InBox v root
 
--- What is shown of every state that a search of `box` comes to (`AllSound`): the best vector lies in the box, the open boxes have bounds below C,
--- the list is no longer than peak, peak is at most r (at the beginning one box may be open, whatever r is), and the count is within
--- the budget.
+-- A state of a search of `box`: the best vector lies in the box, the open boxes have bounds below C, the list is no longer than peak,
+-- peak is at most r (at the beginning one box may be open, whatever r is), and the count is within the budget.
 pub record Sound (cost : List ℤ → ℕ) (bound : Box → ℕ) (budget rows : ℕ) (box : Box) (s : State) : Type 0 where
   pub best-in : InBox (s .best) box
   pub opened : All (Open box) (s .list)
@@ -37,7 +37,7 @@ pub record Sound (cost : List ℤ → ℕ) (bound : Box → ℕ) (budget rows : 
   pub room : s .peak ≤ max 1 rows
   pub within : s .count ≤ budget
 
--- The start vector lies in the box, and the cost and the bound have the two laws.
+-- So it is with every state that steps lead to from a start vector in the box, where the cost and the bound have the two laws.
 abbrev pub AllSound : Type 0
 AllSound =
     (cost : List ℤ → ℕ) (bound : Box → ℕ) →
