@@ -13,14 +13,14 @@ use Rattle.search.specs.declared.Kind.{Kind}
 use Rattle.search.specs.declared.Kind.the-variants.{Solved, Spent, Full}
 use Rattle.search.specs.declared.Kind.the-variants as kinds
 use Rattle.search.specs.declared.Answer.{Answer}
-use Rattle.search.specs.Search.{searchAnswer, TableAfter}
+use Rattle.search.specs.Search.{kindNumber, searchAnswer, TableAfter}
 use Rattle.boundary.specs.Boundary.{Call, ifLengths, ifAccepted}
 
--- "1 solved, 2 spent, 3 full"
+-- the kind by its number, or the refusal
 abbrev pub outcomeOf : Kind → Outcome
-outcomeOf Solved = Value 1
-outcomeOf Spent = Value 2
-outcomeOf Full = Value 3
+outcomeOf Solved = Value (kindNumber Solved)
+outcomeOf Spent = Value (kindNumber Spent)
+outcomeOf Full = Value (kindNumber Full)
 outcomeOf (kinds.Refused why) = Refused why
 
 -- "vector, C, L, count, open boxes and peak": the numbers among them

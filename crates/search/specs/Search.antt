@@ -8,7 +8,7 @@ use lib.ListN.{length, drop, replicate}
 use Rattle.codes.specs.declared.Check.{Check}
 use Rattle.codes.specs.declared.Check.the-variants.{Pass, Refuse}
 use Rattle.codes.specs.declared.Refusal.{Refusal}
-use Rattle.codes.specs.Codes.{passIf, inOrder}
+use Rattle.codes.specs.Codes.{numberOf, passIf, inOrder}
 use Rattle.boxes.specs.Boxes.{checkBox, checkStart}
 use Rattle.jobs.specs.declared.Job.{Job}
 use Rattle.points.specs.Points.{pointsOf, checkStray}
@@ -27,10 +27,18 @@ unfoldable pub searched : List ℕ → Job → List ℤ → Search.Answer
 searched store job table =
     search (cost (job .model) (pointsOf store)) (bound (job .model) (pointsOf store)) (job .budget) (rowCount table) (job .t) (job .start) (job .domain)
 
+-- what the steps of a search come to, as its answer says it
 abbrev pub kindOf : Search.Kind → Kind
 kindOf solved = Solved
 kindOf spent = Spent
 kindOf full = Full
+
+-- "kind (1 solved, 2 spent, 3 full)"; a refusal has "the refusal number"
+abbrev pub kindNumber : Kind → ℕ
+kindNumber Solved = 1
+kindNumber Spent = 2
+kindNumber Full = 3
+kindNumber (Refused why) = numberOf why
 
 -- "The answer carries vector, C, L, count, open boxes and peak", the boxes by their number: they stand in the table.
 abbrev pub told : Search.Answer → Answer
@@ -66,6 +74,7 @@ abbrev pub answerUnlessRefused : Check → Search.Answer → Answer
 answerUnlessRefused Pass r = told r
 answerUnlessRefused (Refuse why) r = refused why
 
+-- What a search answers: where none of its checks "refuses the call", what it comes to, and else the first refusal.
 unfoldable pub searchAnswer : List ℕ → Job → List ℤ → Answer
 searchAnswer store job table = answerUnlessRefused (checkSearch store job (length table)) (searched store job table)
 
