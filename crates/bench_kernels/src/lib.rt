@@ -1,5 +1,4 @@
 // The loops of cost and bound alone, for bench/: what a search asks again and again, without the pass for stray fields that a call makes.
-use jobs::Model;
 ghost use mathlib.Core.Path.{_≡_};
 ghost use Rattle.model.specs.Calls.{costUpTo, boundUpTo};
 ghost use Rattle.rows.specs.Rows.{rowAt};
@@ -19,13 +18,7 @@ pub extern "C" fn bench_cost_up_to(
 ) -> u64
     ensures { λ r. ⌜ r ≡ costUpTo (now (store .entry)) (modelOf n d scale p eps) (rowAt (now (corners .entry)) 0 .low) cap ⌝ }
 {
-    let m = Model {
-        n,
-        d,
-        scale,
-        p,
-        eps,
-    };
+    let m = boundary::model_of(n, d, scale, p, eps);
     let b = rows::read_row(corners, 0);
     let low = b.low;
     model::cost_up_to(store, m, low, cap)
@@ -45,12 +38,6 @@ pub extern "C" fn bench_bound_up_to(
 ) -> u64
     ensures { λ r. ⌜ r ≡ boundUpTo (now (store .entry)) (modelOf n d scale p eps) (rowAt (now (corners .entry)) 0) cap ⌝ }
 {
-    let m = Model {
-        n,
-        d,
-        scale,
-        p,
-        eps,
-    };
+    let m = boundary::model_of(n, d, scale, p, eps);
     model::bound_up_to(store, m, rows::read_row(corners, 0), cap)
 }
