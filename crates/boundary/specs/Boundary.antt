@@ -6,12 +6,11 @@ use lib.Dec.{eqb}
 use lib.IntN.{ℤ, pos}
 use lib.ListN.{length, replicate}
 use Rattle.codes.specs.declared.Check.{Check}
-use Rattle.codes.specs.declared.Check.the-variants.{Pass, Refuse}
 use Rattle.codes.specs.declared.Outcome.{Outcome}
 use Rattle.codes.specs.declared.Outcome.the-variants.{Value, Refused}
 use Rattle.codes.specs.declared.Refusal.{Refusal}
 use Rattle.codes.specs.declared.Refusal.the-variants.{Length, Shape, Scale, Loss, Box, Start, Stray, Table, Answer, Short, Beacon, OffGrid}
-use Rattle.codes.specs.Codes.{numberOf, ifPassed}
+use Rattle.codes.specs.Codes.{numberOf, unlessRefused}
 use Rattle.jobs.specs.declared.Job.{Job}
 use Rattle.jobs.specs.declared.Model.{Model}
 use Rattle.rows.specs.Rows.{rowAt}
@@ -47,6 +46,10 @@ abbrev pub ifLengths : Bool → Outcome → Call
 ifLengths true o = answered o
 ifLengths false o = wrongLength
 
+-- A call that answers no number: its check alone tells what it comes to, and the 0 is stored nowhere.
+abbrev pub checkCall : Bool → Check → Call
+checkCall lengths check = ifLengths lengths (unlessRefused check 0)
+
 -- The code: 0 for a value, "the refusal number", or 255, which the paper's table does not have.
 abbrev pub codeOf : Call → ℕ
 codeOf wrongLength = 255
@@ -79,14 +82,3 @@ abbrev pub ifAccepted : {A : Type 0} → Call → A → A → A
 ifAccepted wrongLength given held = held
 ifAccepted (answered (Value v)) given held = given
 ifAccepted (answered (Refused r)) given held = held
-
--- A call whose answer is no number: the code of its check, then its code and what lent memory holds, by whether the lengths are right.
-abbrev pub checkCode : Check → ℕ
-checkCode Pass = 0
-checkCode (Refuse r) = numberOf r
-
-abbrev pub checkedCode : Bool → Check → ℕ
-checkedCode lengths check = cond lengths (checkCode check) 255
-
-abbrev pub ifChecked : {A : Type 0} → Bool → Check → A → A → A
-ifChecked lengths check given held = cond lengths (ifPassed check given held) held

@@ -5,8 +5,9 @@ use codes::Refusal;
 use jobs::Job;
 use jobs::Model;
 ghost use mathlib.Core.Path.{_≡_};
+ghost use mathlib.Core.Bool.{true};
 ghost use lib.IntN.{pos};
-ghost use Rattle.boundary.specs.Boundary.{modelOf, exactly, vectorIn, jobFrom, filled, answered, recordOr, codeOf, valueAfter, checkCode};
+ghost use Rattle.boundary.specs.Boundary.{modelOf, exactly, vectorIn, jobFrom, filled, answered, checkCall, recordOr, codeOf, valueAfter};
 
 // What the lent number holds after a refusal: the record of a stray field, or what it held.
 fn record_or(r: Refusal, held: u64) -> u64
@@ -45,9 +46,9 @@ pub fn settle(o: Outcome, value: &mut u64) -> u32
     }
 }
 
-// The code of a call whose answer is no number.
+// The code of a call that answers no number.
 pub fn check_code(c: Check) -> u32
-    ensures { λ k. ⌜ k ≡ checkCode c ⌝ }
+    ensures { λ k. ⌜ k ≡ codeOf (checkCall true c) ⌝ }
 {
     match c {
         Check::Pass => 0,

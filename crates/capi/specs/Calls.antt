@@ -13,7 +13,7 @@ use Rattle.boxes.specs.declared.Halves.{Halves}
 use Rattle.boxes.specs.Split.{splitAnswer}
 use Rattle.rows.specs.Rows.{rowAt, withRow}
 use Rattle.beacon.specs.Beacon.{takeInAnswer}
-use Rattle.boundary.specs.Boundary.{Call, ifLengths, answered, checkedCode, ifChecked}
+use Rattle.boundary.specs.Boundary.{Call, ifLengths, answered, checkCall, ifAccepted}
 
 -- the loss of a residual: no buffer
 abbrev pub lossCall : ℕ → ℕ → ℤ → Call
@@ -31,17 +31,15 @@ boundCall store m row = ifLengths (eqb (length row) 16) (boundAnswer store m (ro
 abbrev pub splitLengths : List ℤ → List ℤ → Bool
 splitLengths row halves = eqb (length row) 16 && leb 32 (length halves)
 
-unfoldable pub splitCode : ℕ → ℕ → List ℤ → List ℤ → ℕ
-splitCode n d row halves = checkedCode (splitLengths row halves) (splitAnswer n d (rowAt row 0) .check)
+unfoldable pub splitCall : ℕ → ℕ → List ℤ → List ℤ → Call
+splitCall n d row halves = checkCall (splitLengths row halves) (splitAnswer n d (rowAt row 0) .check)
 
 -- The left half in the first row, the right one in the second, and behind them nothing changed.
 abbrev pub halvesIn : Halves → List ℤ → List ℤ
 halvesIn cut halves = withRow (withRow halves 0 (cut .left)) 1 (cut .right)
 
 unfoldable pub halvesAfter : ℕ → ℕ → List ℤ → List ℤ → List ℤ
-halvesAfter n d row halves =
-    let cut = splitAnswer n d (rowAt row 0) in
-    ifChecked (splitLengths row halves) (cut .check) (halvesIn cut halves) halves
+halvesAfter n d row halves = ifAccepted (splitCall n d row halves) (halvesIn (splitAnswer n d (rowAt row 0)) halves) halves
 
 -- Labels: an output that is too small is refusal 10.
 abbrev pub labelsCall : List ℕ → Model → List ℤ → List ℕ → Call

@@ -5,7 +5,24 @@ use Prim.Native.Nat.{ℕ}
 use lib.Dec.{eqb}
 use lib.IntN.{ℤ}
 use lib.ListN.{length}
+use Rattle.coefficients.specs.Lines.{writtenOf, coordinatesOf, patternsOf}
+use Rattle.boundary.specs.Boundary.{Call, checkCall, ifAccepted}
 
 -- four coordinates and four patterns
 abbrev pub lineLengths : List ℤ → List ℕ → Bool
 lineLengths coordinates patterns = eqb (length coordinates) 4 && eqb (length patterns) 4
+
+module _ (d scale : ℕ) (coordinates : List ℤ) (patterns : List ℕ) where
+  -- writing a line, and the lent patterns afterwards
+  abbrev pub writeLineCall : Call
+  writeLineCall = checkCall (lineLengths coordinates patterns) ((writtenOf d scale coordinates) .check)
+
+  abbrev pub patternsAfter : List ℕ
+  patternsAfter = ifAccepted writeLineCall (patternsOf ((writtenOf d scale coordinates) .line)) patterns
+
+  -- reading a line, and the lent coordinates afterwards
+  abbrev pub readLineCall : Call
+  readLineCall = checkCall (lineLengths coordinates patterns) ((coordinatesOf d scale patterns) .check)
+
+  abbrev pub coordinatesAfter : List ℤ
+  coordinatesAfter = ifAccepted readLineCall ((coordinatesOf d scale patterns) .w) coordinates

@@ -14,11 +14,9 @@ ghost use mathlib.Core.Bool.{_&&_};
 ghost use lib.Dec.{eqb};
 ghost use lib.ListN.{length};
 ghost use Rattle.rows.specs.Rows.{withRow};
-ghost use Rattle.records.specs.Buffers.{checkRoom};
-ghost use Rattle.records.specs.Jobs.{jobBytes, readJob};
-ghost use Rattle.records.specs.Answers.{answerBytes, checkAnswerWrite, readAnswer};
-ghost use Rattle.boundary.specs.Boundary.{modelOf, jobFrom, filled, checkedCode, ifChecked};
-ghost use Rattle.capi.specs.Records.{jobNumbers, jobLengths, regionLengths, answerNumbers, answerFrom, answerLengths, writtenIf};
+ghost use Rattle.boundary.specs.Boundary.{modelOf, filled, codeOf};
+ghost use Rattle.capi.specs.Records.{jobNumbers, readJobCall, jobNumbersAfter, cornersAfter, startAfter, writeJobCall, jobRecordAfter};
+ghost use Rattle.capi.specs.Records.{answerNumbers, readAnswerCall, answerVectorAfter, answerNumbersAfter, writeAnswerCall, answerRecordAfter};
 
 fn job_lengths_right(numbers: usize, corners: usize, start: usize) -> bool
     ensures { λ b. ⌜ b ≡ (eqb numbers 8 && eqb corners 16 && eqb start 8) ⌝ }
@@ -71,10 +69,10 @@ pub extern "C" fn vengutari_read_job(
     corners: &mut [i16],
     start: &mut [i16],
 ) -> u32
-    ensures code { λ k. ⌜ k ≡ checkedCode (jobLengths (now (numbers .entry)) (now (corners .entry)) (now (start .entry))) ((readJob (now (bytes .entry))) .check) ⌝ }
-    ensures numbers { λ _. ⌜ now (numbers .exit) ≡ ifChecked (jobLengths (now (numbers .entry)) (now (corners .entry)) (now (start .entry))) ((readJob (now (bytes .entry))) .check) (jobNumbers ((readJob (now (bytes .entry))) .job)) (now (numbers .entry)) ⌝ }
-    ensures corners { λ _. ⌜ now (corners .exit) ≡ ifChecked (jobLengths (now (numbers .entry)) (now (corners .entry)) (now (start .entry))) ((readJob (now (bytes .entry))) .check) (withRow (now (corners .entry)) 0 ((readJob (now (bytes .entry))) .job .domain)) (now (corners .entry)) ⌝ }
-    ensures start { λ _. ⌜ now (start .exit) ≡ ifChecked (jobLengths (now (numbers .entry)) (now (corners .entry)) (now (start .entry))) ((readJob (now (bytes .entry))) .check) ((readJob (now (bytes .entry))) .job .start) (now (start .entry)) ⌝ }
+    ensures code { λ k. ⌜ k ≡ codeOf (readJobCall (now (bytes .entry)) (now (numbers .entry)) (now (corners .entry)) (now (start .entry))) ⌝ }
+    ensures numbers { λ _. ⌜ now (numbers .exit) ≡ jobNumbersAfter (now (bytes .entry)) (now (numbers .entry)) (now (corners .entry)) (now (start .entry)) ⌝ }
+    ensures corners { λ _. ⌜ now (corners .exit) ≡ cornersAfter (now (bytes .entry)) (now (numbers .entry)) (now (corners .entry)) (now (start .entry)) ⌝ }
+    ensures start { λ _. ⌜ now (start .exit) ≡ startAfter (now (bytes .entry)) (now (numbers .entry)) (now (corners .entry)) (now (start .entry)) ⌝ }
 {
     if !job_lengths_right(numbers.len(), corners.len(), start.len()) {
         return WRONG_LENGTH;
@@ -106,8 +104,8 @@ pub extern "C" fn vengutari_write_job(
     start: &[i16],
     bytes: &mut [u8],
 ) -> u32
-    ensures code { λ k. ⌜ k ≡ checkedCode (regionLengths (now (corners .entry)) (now (start .entry))) (checkRoom 72 (now (bytes .entry))) ⌝ }
-    ensures bytes { λ _. ⌜ now (bytes .exit) ≡ writtenIf (regionLengths (now (corners .entry)) (now (start .entry))) (checkRoom 72 (now (bytes .entry))) (jobBytes (jobFrom (modelOf n d scale p eps) t budget rows (now (corners .entry)) (now (start .entry)))) (now (bytes .entry)) ⌝ }
+    ensures code { λ k. ⌜ k ≡ codeOf (writeJobCall (now (corners .entry)) (now (start .entry)) (now (bytes .entry))) ⌝ }
+    ensures bytes { λ _. ⌜ now (bytes .exit) ≡ jobRecordAfter (modelOf n d scale p eps) t budget rows (now (corners .entry)) (now (start .entry)) (now (bytes .entry)) ⌝ }
 {
     if !region_lengths_right(corners.len(), start.len()) {
         return WRONG_LENGTH;
@@ -144,9 +142,9 @@ pub extern "C" fn vengutari_read_answer(
     vector: &mut [i16],
     numbers: &mut [u64],
 ) -> u32
-    ensures code { λ k. ⌜ k ≡ checkedCode (answerLengths (now (vector .entry)) (now (numbers .entry))) ((readAnswer (now (bytes .entry))) .check) ⌝ }
-    ensures vector { λ _. ⌜ now (vector .exit) ≡ ifChecked (answerLengths (now (vector .entry)) (now (numbers .entry))) ((readAnswer (now (bytes .entry))) .check) ((readAnswer (now (bytes .entry))) .answer .vector) (now (vector .entry)) ⌝ }
-    ensures numbers { λ _. ⌜ now (numbers .exit) ≡ ifChecked (answerLengths (now (vector .entry)) (now (numbers .entry))) ((readAnswer (now (bytes .entry))) .check) (answerNumbers ((readAnswer (now (bytes .entry))) .answer)) (now (numbers .entry)) ⌝ }
+    ensures code { λ k. ⌜ k ≡ codeOf (readAnswerCall (now (bytes .entry)) (now (vector .entry)) (now (numbers .entry))) ⌝ }
+    ensures vector { λ _. ⌜ now (vector .exit) ≡ answerVectorAfter (now (bytes .entry)) (now (vector .entry)) (now (numbers .entry)) ⌝ }
+    ensures numbers { λ _. ⌜ now (numbers .exit) ≡ answerNumbersAfter (now (bytes .entry)) (now (vector .entry)) (now (numbers .entry)) ⌝ }
 {
     if !answer_lengths_right(vector.len(), numbers.len()) {
         return WRONG_LENGTH;
@@ -176,8 +174,8 @@ pub extern "C" fn vengutari_write_answer(
     scale: u8,
     bytes: &mut [u8],
 ) -> u32
-    ensures code { λ k. ⌜ k ≡ checkedCode (eqb (length (now (vector .entry))) 8) (checkAnswerWrite (answerFrom (now (vector .entry)) cost bound count kind n d scale) (now (bytes .entry))) ⌝ }
-    ensures bytes { λ _. ⌜ now (bytes .exit) ≡ writtenIf (eqb (length (now (vector .entry))) 8) (checkAnswerWrite (answerFrom (now (vector .entry)) cost bound count kind n d scale) (now (bytes .entry))) (answerBytes (answerFrom (now (vector .entry)) cost bound count kind n d scale)) (now (bytes .entry)) ⌝ }
+    ensures code { λ k. ⌜ k ≡ codeOf (writeAnswerCall (now (vector .entry)) cost bound count kind n d scale (now (bytes .entry))) ⌝ }
+    ensures bytes { λ _. ⌜ now (bytes .exit) ≡ answerRecordAfter (now (vector .entry)) cost bound count kind n d scale (now (bytes .entry)) ⌝ }
 {
     if vector.len() != 8 {
         return WRONG_LENGTH;

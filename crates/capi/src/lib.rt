@@ -12,7 +12,7 @@ use codes::Check;
 ghost use mathlib.Core.Path.{_≡_};
 ghost use Rattle.beacon.specs.Beacon.{storeAfter};
 ghost use Rattle.boundary.specs.Boundary.{modelOf, codeOf, valueAfter};
-ghost use Rattle.capi.specs.Calls.{lossCall, costCall, boundCall, labelsCall, labelsAfter, takeInCall, splitCode, halvesAfter};
+ghost use Rattle.capi.specs.Calls.{lossCall, costCall, boundCall, labelsCall, labelsAfter, takeInCall, splitCall, halvesAfter};
 
 // A buffer of the wrong length: no number of the paper.
 const WRONG_LENGTH: u32 = 255;
@@ -81,7 +81,7 @@ pub extern "C" fn vengutari_bound(
 // Splits one box; the left half goes into the first row of `halves`, the right one into the second.
 #[no_mangle]
 pub extern "C" fn vengutari_split(n: u8, d: u8, corners: &[i16], halves: &mut [i16]) -> u32
-    ensures code { λ k. ⌜ k ≡ splitCode n d (now (corners .entry)) (now (halves .entry)) ⌝ }
+    ensures code { λ k. ⌜ k ≡ codeOf (splitCall n d (now (corners .entry)) (now (halves .entry))) ⌝ }
     ensures halves { λ _. ⌜ now (halves .exit) ≡ halvesAfter n d (now (corners .entry)) (now (halves .entry)) ⌝ }
 {
     if corners.len() != 16 {

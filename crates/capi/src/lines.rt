@@ -8,9 +8,8 @@ use codes::Check;
 ghost use mathlib.Core.Path.{_≡_};
 ghost use mathlib.Core.Bool.{_&&_};
 ghost use lib.Dec.{eqb};
-ghost use Rattle.coefficients.specs.Lines.{writtenOf, coordinatesOf, patternsOf};
-ghost use Rattle.boundary.specs.Boundary.{checkedCode, ifChecked};
-ghost use Rattle.capi.specs.Lines.{lineLengths};
+ghost use Rattle.boundary.specs.Boundary.{codeOf};
+ghost use Rattle.capi.specs.Lines.{writeLineCall, patternsAfter, readLineCall, coordinatesAfter};
 
 fn lengths_right(coordinates: usize, patterns: usize) -> bool
     ensures { λ b. ⌜ b ≡ (eqb coordinates 4 && eqb patterns 4) ⌝ }
@@ -26,8 +25,8 @@ pub extern "C" fn vengutari_write_line(
     coordinates: &[i16],
     patterns: &mut [u32],
 ) -> u32
-    ensures code { λ k. ⌜ k ≡ checkedCode (lineLengths (now (coordinates .entry)) (now (patterns .entry))) ((writtenOf d scale (now (coordinates .entry))) .check) ⌝ }
-    ensures patterns { λ _. ⌜ now (patterns .exit) ≡ ifChecked (lineLengths (now (coordinates .entry)) (now (patterns .entry))) ((writtenOf d scale (now (coordinates .entry))) .check) (patternsOf ((writtenOf d scale (now (coordinates .entry))) .line)) (now (patterns .entry)) ⌝ }
+    ensures code { λ k. ⌜ k ≡ codeOf (writeLineCall d scale (now (coordinates .entry)) (now (patterns .entry))) ⌝ }
+    ensures patterns { λ _. ⌜ now (patterns .exit) ≡ patternsAfter d scale (now (coordinates .entry)) (now (patterns .entry)) ⌝ }
 {
     if !lengths_right(coordinates.len(), patterns.len()) {
         return WRONG_LENGTH;
@@ -53,8 +52,8 @@ pub extern "C" fn vengutari_read_line(
     patterns: &[u32],
     coordinates: &mut [i16],
 ) -> u32
-    ensures code { λ k. ⌜ k ≡ checkedCode (lineLengths (now (coordinates .entry)) (now (patterns .entry))) ((coordinatesOf d scale (now (patterns .entry))) .check) ⌝ }
-    ensures coordinates { λ _. ⌜ now (coordinates .exit) ≡ ifChecked (lineLengths (now (coordinates .entry)) (now (patterns .entry))) ((coordinatesOf d scale (now (patterns .entry))) .check) ((coordinatesOf d scale (now (patterns .entry))) .w) (now (coordinates .entry)) ⌝ }
+    ensures code { λ k. ⌜ k ≡ codeOf (readLineCall d scale (now (coordinates .entry)) (now (patterns .entry))) ⌝ }
+    ensures coordinates { λ _. ⌜ now (coordinates .exit) ≡ coordinatesAfter d scale (now (coordinates .entry)) (now (patterns .entry)) ⌝ }
 {
     if !lengths_right(coordinates.len(), patterns.len()) {
         return WRONG_LENGTH;

@@ -12,9 +12,8 @@ ghost use mathlib.Core.Path.{_≡_};
 ghost use mathlib.Core.Bool.{_&&_};
 ghost use lib.Dec.{eqb};
 ghost use lib.ListN.{length};
-ghost use Rattle.boundary.specs.Boundary.{modelOf, jobFrom, filled, answered, codeOf, valueAfter, ifAccepted};
-ghost use Rattle.search.specs.Search.{searchAnswer, Certified};
-ghost use Rattle.capi.specs.Searches.{outcomeOf, numbersOf, searchLengths, searchCall, vectorAfter, numbersAfter, TableAfterCall};
+ghost use Rattle.boundary.specs.Boundary.{modelOf, filled, answered, codeOf, valueAfter, ifAccepted};
+ghost use Rattle.capi.specs.Searches.{outcomeOf, searchNumbers, searchCall, vectorAfter, numbersAfter, TableAfterCall, CertifiedCall};
 
 fn outcome_of(k: Kind) -> Outcome
     ensures { λ o. ⌜ o ≡ outcomeOf k ⌝ }
@@ -38,7 +37,7 @@ fn hand_over(a: Answer, vector: &mut [i16], numbers: &mut [u64], value: &mut u64
     ensures code { λ k. ⌜ k ≡ codeOf (answered (outcomeOf (a .kind))) ⌝ }
     ensures value { λ _. ⌜ now (value .exit) ≡ valueAfter (answered (outcomeOf (a .kind))) (now (value .entry)) ⌝ }
     ensures vector { λ _. ⌜ now (vector .exit) ≡ ifAccepted (answered (outcomeOf (a .kind))) (filled (now (vector .entry)) (a .vector)) (now (vector .entry)) ⌝ }
-    ensures numbers { λ _. ⌜ now (numbers .exit) ≡ ifAccepted (answered (outcomeOf (a .kind))) (filled (now (numbers .entry)) (numbersOf a)) (now (numbers .entry)) ⌝ }
+    ensures numbers { λ _. ⌜ now (numbers .exit) ≡ ifAccepted (answered (outcomeOf (a .kind))) (filled (now (numbers .entry)) (searchNumbers a)) (now (numbers .entry)) ⌝ }
     ensures long { λ _. ⌜ length (a .vector) ≡ 8 ⌝ }
 {
     let kind = a.kind;
@@ -79,12 +78,12 @@ pub extern "C" fn vengutari_search(
     numbers: &mut [u64],
     value: &mut u64,
 ) -> u32
-    ensures code { λ k. ⌜ k ≡ codeOf (searchCall (searchLengths (now (corners .entry)) (now (start .entry)) (now (vector .entry)) (now (numbers .entry))) (now (store .entry)) (jobFrom (modelOf n d scale p eps) t budget 0 (now (corners .entry)) (now (start .entry))) (now (table .entry))) ⌝ }
-    ensures value { λ _. ⌜ now (value .exit) ≡ valueAfter (searchCall (searchLengths (now (corners .entry)) (now (start .entry)) (now (vector .entry)) (now (numbers .entry))) (now (store .entry)) (jobFrom (modelOf n d scale p eps) t budget 0 (now (corners .entry)) (now (start .entry))) (now (table .entry))) (now (value .entry)) ⌝ }
-    ensures vector { λ _. ⌜ now (vector .exit) ≡ vectorAfter (searchLengths (now (corners .entry)) (now (start .entry)) (now (vector .entry)) (now (numbers .entry))) (now (store .entry)) (jobFrom (modelOf n d scale p eps) t budget 0 (now (corners .entry)) (now (start .entry))) (now (table .entry)) (now (vector .entry)) ⌝ }
-    ensures numbers { λ _. ⌜ now (numbers .exit) ≡ numbersAfter (searchLengths (now (corners .entry)) (now (start .entry)) (now (vector .entry)) (now (numbers .entry))) (now (store .entry)) (jobFrom (modelOf n d scale p eps) t budget 0 (now (corners .entry)) (now (start .entry))) (now (table .entry)) (now (numbers .entry)) ⌝ }
-    ensures table { λ _. ⌜ TableAfterCall (searchLengths (now (corners .entry)) (now (start .entry)) (now (vector .entry)) (now (numbers .entry))) (now (store .entry)) (jobFrom (modelOf n d scale p eps) t budget 0 (now (corners .entry)) (now (start .entry))) (now (table .entry)) (now (table .exit)) ⌝ }
-    ensures certificate { λ k. ⌜ (k ≡ 0 → Certified (now (store .entry)) (jobFrom (modelOf n d scale p eps) t budget 0 (now (corners .entry)) (now (start .entry))) (now (table .entry)) (searchAnswer (now (store .entry)) (jobFrom (modelOf n d scale p eps) t budget 0 (now (corners .entry)) (now (start .entry))) (now (table .entry)))) ⌝ }
+    ensures code { λ k. ⌜ k ≡ codeOf (searchCall (now (store .entry)) (modelOf n d scale p eps) t budget (now (corners .entry)) (now (start .entry)) (now (table .entry)) (now (vector .entry)) (now (numbers .entry))) ⌝ }
+    ensures value { λ _. ⌜ now (value .exit) ≡ valueAfter (searchCall (now (store .entry)) (modelOf n d scale p eps) t budget (now (corners .entry)) (now (start .entry)) (now (table .entry)) (now (vector .entry)) (now (numbers .entry))) (now (value .entry)) ⌝ }
+    ensures vector { λ _. ⌜ now (vector .exit) ≡ vectorAfter (now (store .entry)) (modelOf n d scale p eps) t budget (now (corners .entry)) (now (start .entry)) (now (table .entry)) (now (vector .entry)) (now (numbers .entry)) ⌝ }
+    ensures numbers { λ _. ⌜ now (numbers .exit) ≡ numbersAfter (now (store .entry)) (modelOf n d scale p eps) t budget (now (corners .entry)) (now (start .entry)) (now (table .entry)) (now (vector .entry)) (now (numbers .entry)) ⌝ }
+    ensures table { λ _. ⌜ TableAfterCall (now (store .entry)) (modelOf n d scale p eps) t budget (now (corners .entry)) (now (start .entry)) (now (table .entry)) (now (vector .entry)) (now (numbers .entry)) (now (table .exit)) ⌝ }
+    ensures certificate { λ k. ⌜ (k ≡ 0 → CertifiedCall (now (store .entry)) (modelOf n d scale p eps) t budget (now (corners .entry)) (now (start .entry)) (now (table .entry)) (now (vector .entry)) (now (numbers .entry)) (now (value .exit)) (now (vector .exit)) (now (numbers .exit))) ⌝ }
 {
     if !lengths_right(corners.len(), start.len(), vector.len(), numbers.len()) {
         return WRONG_LENGTH;

@@ -6,7 +6,7 @@ use borrow.Author.Tests.{eq-eqb, ne-eqb, le-leb, lt-leb}
 use lib.ListN.{length}
 use Rattle.boxes.specs.Split.{splitAnswer}
 use Rattle.rows.specs.Rows.{rowAt, withRow}
-use Rattle.capi.specs.Calls.{splitLengths, splitCode, halvesAfter}
+use Rattle.capi.specs.Calls.{splitLengths, splitCall, halvesAfter}
 use Rattle.capi.proofs.vengutari_split.Statement.{statement}
 use Rattle.capi.proofs.vengutari_split.Tie as tie
 
@@ -24,11 +24,11 @@ module _ (c : tie.After-split) where
   split-is = c .split .ensures ∙ ap (splitAnswer (start .args .n) (start .args .d)) (c .before .read-row .ensures)
 
 returns : tie.Need-returns
-unfolding splitCode halvesAfter
+unfolding splitCall halvesAfter
 returns c = rw (ne-eqb (length (c .before .args .corners .now)) 16 (c .if1 .taken)) (refl, refl)
 
 returns-2 : tie.Need-returns-2
-unfolding splitCode halvesAfter
+unfolding splitCall halvesAfter
 returns-2 c =
     let a = c .before .before .args in
     rw (eq-eqb (length (a .corners .now)) 16 (c .before .if1 .left), lt-leb 32 (length (a .halves .now)) (c .if2 .taken)) (refl, refl)
@@ -61,7 +61,7 @@ same-length : tie.Need-same-length
 same-length c = search needs
 
 returns-3 : tie.Need-returns-3
-unfolding splitCode halvesAfter
+unfolding splitCall halvesAfter
 returns-3 c =
     let told = c .before .before .before .before .before .before .before .before in
     let s = told .before .before in
@@ -70,7 +70,7 @@ returns-3 c =
     (refl, c .before .write-row2 .ensures ∙ ap (λ t. withRow t 1 (s .split .result .right)) first)
 
 returns-4 : tie.Need-returns-4
-unfolding splitCode halvesAfter
+unfolding splitCall halvesAfter
 returns-4 c =
     let s = c .before .before .before .before in
     rw (lengths-right s, ← split-is s, c .before .before .check .given .1) (c .number .ensures, refl)

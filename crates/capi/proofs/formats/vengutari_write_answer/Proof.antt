@@ -1,6 +1,7 @@
 -- By the length of the vector: with 8 numbers the answer of that very vector is written.
 use borrow.Author.Needs.{needs}
 use mathlib.Core.Path.{_≡_, refl, sym, ap, _∙_}
+use mathlib.Core.Bool.{true}
 use mathlib.Core.List.{List}
 use borrow.Author.Tests.{eq-eqb, ne-eqb}
 use lib.IntN.{ℤ}
@@ -8,7 +9,7 @@ use lib.ListN.{length}
 use Rattle.records.specs.declared.AnswerRecord.{AnswerRecord}
 use Rattle.records.specs.Buffers.{written}
 use Rattle.records.specs.Answers.{answerBytes, checkAnswerWrite}
-use Rattle.boundary.specs.Boundary.{checkCode}
+use Rattle.boundary.specs.Boundary.{checkCall, codeOf}
 use Rattle.boundary.proofs.Buffers.{vector-in}
 use Rattle.capi.proofs.formats.vengutari_write_answer.Statement.{statement}
 use Rattle.capi.proofs.formats.vengutari_write_answer.Tie as tie
@@ -37,7 +38,7 @@ returns-2 c =
     let is-vector = v .vector-of .ensures ∙ vector-in (a .vector .now) (v .before .if1 .left) in
     let checked = w .write-answer .ensures .0 ∙ ap (λ x. checkAnswerWrite (with-vector x) (a .bytes .now)) is-vector in
     rw (eq-eqb (length (a .vector .now)) 8 (v .before .if1 .left)) (
-      c .check-code .ensures ∙ ap checkCode checked,
+      c .check-code .ensures ∙ ap (λ k. codeOf (checkCall true k)) checked,
       w .write-answer .ensures .1 ∙ (λ i. written (checked i) (answerBytes (with-vector (is-vector i))) (a .bytes .now)),
     )
 

@@ -5,7 +5,7 @@ use mathlib.Core.Bool.{true}
 use borrow.Author.Tests.{not-true, not-false}
 use Rattle.records.specs.Buffers.{written}
 use Rattle.records.specs.Jobs.{jobBytes}
-use Rattle.boundary.specs.Boundary.{modelOf, jobFrom, checkCode}
+use Rattle.boundary.specs.Boundary.{modelOf, jobFrom, checkCall, codeOf}
 use Rattle.capi.specs.Records.{regionLengths}
 use Rattle.capi.proofs.formats.vengutari_write_job.Statement.{statement}
 use Rattle.capi.proofs.formats.vengutari_write_job.Tie as tie
@@ -43,7 +43,7 @@ returns-2 c =
     let is-job : j .job-of .result ≡ jobFrom (modelOf (a .n) (a .d) (a .scale) (a .p) (a .eps)) (a .t) (a .budget) (a .rows) (a .corners .now) (a .start .now) = j .job-of .ensures ∙ ap (λ m. jobFrom m (a .t) (a .budget) (a .rows) (a .corners .now) (a .start .now)) (j .before .model-of .ensures) in
     let checked = w .write-job .ensures .0 in
     rw right (
-      c .check-code .ensures ∙ ap checkCode checked,
+      c .check-code .ensures ∙ ap (λ k. codeOf (checkCall true k)) checked,
       w .write-job .ensures .1 ∙ (λ i. written (checked i) (jobBytes (is-job i)) (a .bytes .now)),
     )
 

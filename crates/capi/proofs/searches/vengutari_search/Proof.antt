@@ -1,16 +1,15 @@
 -- By the lengths: where they are right, the search of the job that the numbers and buffers make is handed over.
 use mathlib.Core.Path.{_≡_, refl, sym, ap, subst, _∙_}
-use mathlib.Core.Bool.{true, false}
-use Prim.Native.Nat.{ℕ}
+use mathlib.Core.Bool.{true, true≢false}
 use native.Mathlib.Omega.{arith}
 use borrow.Author.Tests.{not-true, not-false}
-use lib.ListN.{length}
 use Rattle.jobs.specs.declared.Job.{Job}
 use Rattle.search.specs.Search.{searchAnswer, TableAfter, Certified}
 use Rattle.boundary.specs.Boundary.{modelOf, jobFrom}
 use Rattle.boundary.proofs.Buffers.{filled-whole}
-use Rattle.capi.specs.Searches.{searchLengths, numbersOf}
+use Rattle.capi.specs.Searches.{searchLengths, searchNumbers}
 use Rattle.capi.proofs.Lengths.{search-lengths}
+use Rattle.capi.proofs.Certifying.{certified-call}
 use borrow.Author.Needs.{needs}
 use Rattle.capi.proofs.searches.vengutari_search.Statement.{statement}
 use Rattle.capi.proofs.searches.vengutari_search.Tie as tie
@@ -26,16 +25,7 @@ returns c =
       refl,
       (
         refl,
-        (
-          refl,
-          (
-            refl,
-            (
-              record { searched = λ e. let z : _≡_ {A = ℕ} 0 1 = cc in absurd (omega arith); kept = λ e. refl },
-              λ e. absurd (omega arith),
-            ),
-          ),
-        ),
+        (refl, (refl, (record { searched = λ right. absurd (true≢false (sym right ∙ wrong)); kept = λ _. refl }, λ e. absurd (omega arith)))),
       ),
     )
 
@@ -67,28 +57,32 @@ returns-2 c =
     let j = s .before .before in
     let test = j .before .before in
     let a = test .before .before .before .before .args in
-    let job = jobFrom (modelOf (a .n) (a .d) (a .scale) (a .p) (a .eps)) (a .t) (a .budget) 0 (a .corners .now) (a .start .now) in
+    let m = modelOf (a .n) (a .d) (a .scale) (a .p) (a .eps) in
+    let job = jobFrom m (a .t) (a .budget) 0 (a .corners .now) (a .start .now) in
     let is-job : j .job-of .result ≡ job = j .job-of .ensures ∙ ap (λ m. jobFrom m (a .t) (a .budget) 0 (a .corners .now) (a .start .now)) (j .before .model-of .ensures) in
     let found : s .search .result ≡ searchAnswer (a .store .now) job (a .table .now) = s .search .ensures .0 ∙ ap (λ (x : Job). searchAnswer (a .store .now) x (a .table .now)) is-job in
     let right : searchLengths (a .corners .now) (a .start .now) (a .vector .now) (a .numbers .now) ≡ true = sym (test .before .lengths-right .ensures) ∙ not-false _ (test .if1 .left) in
     let room = search-lengths (a .corners .now) (a .start .now) (a .vector .now) (a .numbers .now) right in
     let out = h .hand-over .ensures in
     let laid = filled-whole (a .vector .now) (s .search .result .vector) (room .0 ∙ sym (out .1 .1 .1 .1)) in
-    let told = filled-whole (a .numbers .now) (numbersOf (s .search .result)) (room .1) in
+    let told = filled-whole (a .numbers .now) (searchNumbers (s .search .result)) (room .1) in
+    let handed-vector = rw laid at (out .1 .1 .0) in
+    let handed-numbers = rw told at (out .1 .1 .1 .0) in
+    let certificate = subst (λ (x : Job). Certified (a .store .now) x (a .table .now) (s .search .result)) is-job (s .search .ensures .1 .1) in
     rw (right, ← found) (
       out .0,
       (
         out .1 .0,
         (
-          rw laid at (out .1 .1 .0),
+          handed-vector,
           (
-            rw told at (out .1 .1 .1 .0),
+            handed-numbers,
             (
               record {
-                searched = λ e. subst (λ (x : Job). TableAfter (a .store .now) x (a .table .now) (s .search .last .1 .1 .0)) is-job (s .search .ensures .1 .0);
-                kept = λ e. let z : _≡_ {A = ℕ} 0 1 = cc in absurd (omega arith);
+                searched = λ _. subst (λ (x : Job). TableAfter (a .store .now) x (a .table .now) (s .search .last .1 .1 .0)) is-job (s .search .ensures .1 .0);
+                kept = λ wrong. absurd (true≢false (sym right ∙ wrong));
               },
-              λ e. subst (λ (x : Job). Certified (a .store .now) x (a .table .now) (s .search .result)) is-job (s .search .ensures .1 .1),
+              λ e. certified-call (a .store .now) m (a .t) (a .budget) (a .corners .now) (a .start .now) (a .table .now) (a .vector .now) (a .numbers .now) (s .search .result) (a .value .now) _ _ _ found certificate (sym (out .0) ∙ e) (out .1 .0) handed-vector handed-numbers,
             ),
           ),
         ),
