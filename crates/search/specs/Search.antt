@@ -74,7 +74,7 @@ abbrev pub answerUnlessRefused : Check → Search.Answer → Answer
 answerUnlessRefused Pass r = told r
 answerUnlessRefused (Refuse why) r = refused why
 
--- What a search answers: where none of its checks "refuses the call", what it comes to, and else the first refusal.
+-- What a search answers: it "accepts a job when none of the checks that it makes, by the codes below, refuses the call".
 unfoldable pub searchAnswer : List ℕ → Job → List ℤ → Answer
 searchAnswer store job table = answerUnlessRefused (checkSearch store job (length table)) (searched store job table)
 
