@@ -71,15 +71,26 @@ pub fn write_row(table: &mut [i16], i: usize, b: Box)
     }
 }
 
-// Moves each box in the rows behind row `at`, up to the n-th, one row down: it is read from its row and written as its own.
+// Moves a box one row down: of two rows that are lent, the second is written as the first too.
+fn move_row(pair: &mut [i16])
+    requires { ⌜ length (now pair) ≡ 32 ⌝ }
+    ensures { λ _. ⌜ now (pair .exit) ≡ drop 16 (now (pair .entry)) ++ drop 16 (now (pair .entry)) ⌝ }
+{
+    let mut k = 0;
+    while k < 16 {
+        pair[k] = pair[k + 16];
+        k += 1;
+    }
+}
+
+// Moves each box in the rows behind row `at`, up to the n-th, one row down.
 fn move_down(table: &mut [i16], n: usize, at: usize)
     requires { ⌜ (at < n) × (n ≤ rowCount (now table)) ⌝ }
     ensures { λ _. ⌜ now (table .exit) ≡ withoutRow (now (table .entry)) n at ⌝ }
 {
     let mut i = at + 1;
     while i < n {
-        let b = read_row(table, i);
-        write_row(table, i - 1, b);
+        move_row(&mut table[16 * i - 16..16 * i + 16]);
         i += 1;
     }
 }
