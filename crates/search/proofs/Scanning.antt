@@ -19,13 +19,14 @@ module _ (bound : Box → ℕ) (c : ℕ) (t : List ℤ) where
   pub record Scanned (i least at : ℕ) : Type 0 where
     pub lowest : least ≡ lowerBound bound c (rowsOf t i)
     pub first : at ≡ firstSmallest bound (rowsOf t i)
+    pub within : least ≤ c
 
   pub none-scanned : Scanned 0 c 0
   unfolding rowsOf lowerBound firstSmallest
-  none-scanned = record { lowest = refl; first = refl }
+  none-scanned = record { lowest = refl; first = refl; within = omega arith }
 
-  -- x is what was found of the bound of the next row: that bound, or `least` if that is less
-  module _ (i least at x : ℕ) (s : Scanned i least at) (found : x ≡ min (bound (rowAt t i)) least) (below : bound (rowAt t i) < c) where
+  -- x is what was found of the bound of the next row: that bound, or a cap if that is less
+  module _ (i least at x cap : ℕ) (s : Scanned i least at) (found : x ≡ min (bound (rowAt t i)) cap) (far : least ≤ cap) (below : bound (rowAt t i) < c) where
     snoc : lowerBound bound c (rowsOf t (i + 1)) ≡ min least (bound (rowAt t i))
     snoc = ap (lowerBound bound c) (rows-more t i) ∙ lower-snoc bound c (rowsOf t i) (rowAt t i) below ∙ rw (← s .lowest)
 
@@ -35,6 +36,7 @@ module _ (bound : Box → ℕ) (c : ℕ) (t : List ℤ) where
         record {
           lowest = omega (arith, snoc);
           first = sym (ap (firstSmallest bound) (rows-more t i) ∙ first-new bound c (rowsOf t i) (rowAt t i) new ∙ rows-length t i);
+          within = omega (arith, s .within);
         }
 
     pub scanned-old : least ≤ x → Scanned (i + 1) least at
@@ -43,6 +45,7 @@ module _ (bound : Box → ℕ) (c : ℕ) (t : List ℤ) where
         record {
           lowest = omega (arith, snoc);
           first = s .first ∙ sym (ap (firstSmallest bound) (rows-more t i) ∙ first-old bound c (rowsOf t i) (rowAt t i) below old);
+          within = s .within;
         }
 
   module _ (at : ℕ) where

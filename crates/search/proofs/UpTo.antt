@@ -20,20 +20,20 @@ use Rattle.certificate.specs.Search.{cheaper}
 use Rattle.search.specs.declared.branch.Best.{Best}
 use Rattle.search.specs.Inside.{bestOf}
 
--- a number is below the cap where the lesser of the two is
-pub below-cap : (x cap : ℕ) → ltb (min x cap) cap ≡ ltb x cap
-below-cap x cap =
+-- a number is below c where the lesser of it and a cap is, and c is no more than the cap
+pub below-cap : (x c cap : ℕ) → c ≤ cap → ltb (min x cap) c ≡ ltb x c
+below-cap x c cap far =
     ⊎-elim
-    (λ (h : cap ≤ x). let e : cap ≤ min x cap = omega arith in le-ltb (min x cap) cap e ∙ sym (le-ltb x cap h))
-    (λ (h : x < cap). let e : min x cap < cap = omega arith in lt-ltb (min x cap) cap e ∙ sym (lt-ltb x cap h))
-    (le-or-lt cap x)
+    (λ (h : c ≤ x). let e : c ≤ min x cap = omega arith in le-ltb (min x cap) c e ∙ sym (le-ltb x c h))
+    (λ (h : x < c). let e : min x cap < c = omega arith in lt-ltb (min x cap) c e ∙ sym (lt-ltb x c h))
+    (le-or-lt c x)
 
 -- the outcome x of a test of the box b, which is d
 pub test-of : (f : Box → ℕ) (c : ℕ) {b d : Box} {r x : Bool} → b ≡ d → r ≡ ltb (f b) c → r ≡ x → ltb (f d) c ≡ x
 test-of f c e t h = ap (λ (a : Box). ltb (f a) c) (sym e) ∙ sym t ∙ h
 
--- a vector v that is tried, x being what was found of its cost: that cost, or the best one's if that is less
-module _ (cost : List ℤ → ℕ) (best v : List ℤ) (x : ℕ) (found : x ≡ min (cost v) (cost best)) where
+-- a vector v that is tried, x being what was found of its cost: that cost, or a cap if that is less, which is no less than the best one's
+module _ (cost : List ℤ → ℕ) (best v : List ℤ) (x cap : ℕ) (found : x ≡ min (cost v) cap) (far : cost best ≤ cap) where
   pub tried-new : x < cost best → _≡_ {A = Best} (record { vector = v; cost = x }) (bestOf cost (cheaper cost best v))
   unfolding cheaper
   tried-new less =
@@ -53,3 +53,7 @@ module _ (store : List ℕ) (m : Model) (ok : checkModel store m ≡ Pass) where
   pub bound-up-to : (b : Box) (cap : ℕ) → boundUpTo store m b cap ≡ min (bound m (pointsOf store) b) cap
   unfolding boundUpTo
   bound-up-to b cap = rw ok
+
+  -- what was found of the bound of the box b, which is d
+  pub found-up-to : (cap : ℕ) {b d : Box} {x : ℕ} → x ≡ boundUpTo store m b cap → b ≡ d → x ≡ min (bound m (pointsOf store) d) cap
+  found-up-to cap {b = b} f e = f ∙ bound-up-to b cap ∙ ap (λ (a : Box). min (bound m (pointsOf store) a) cap) e

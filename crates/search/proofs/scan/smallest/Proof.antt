@@ -1,8 +1,8 @@
 -- The invariant: the place and the bound are those of the first i rows. The measure is the rows left.
 use borrow.Author.Needs.{needs}
-use mathlib.Core.Path.{_≡_, ap, _∙_}
+use mathlib.Core.Path.{_≡_}
 use mathlib.Core.Logic.{⊎-elim}
-use Prim.Native.Nat.{ℕ, _-_, _≤_, _<_, min}
+use Prim.Native.Nat.{ℕ, _-_, _≤_, _<_}
 use native.Mathlib.Omega.{arith}
 use Rattle.boxes.specs.declared.Box.{Box}
 use Rattle.boxes.specs.Split.{zeroBox}
@@ -11,7 +11,7 @@ use Rattle.model.specs.Cost.{bound}
 use Rattle.rows.specs.Rows.{rowAt}
 use Rattle.rows.proofs.Rows.{rows-at, rows-length}
 use Rattle.certificate.proofs.Lists.{all-at}
-use Rattle.search.proofs.UpTo.{bound-up-to}
+use Rattle.search.proofs.UpTo.{found-up-to}
 use Rattle.search.proofs.Scanning.{Scanned, none-scanned, scanned-new, scanned-old}
 use Rattle.search.proofs.scan.smallest.Statement.{statement}
 use Rattle.search.proofs.scan.smallest.Tie as tie
@@ -53,12 +53,6 @@ module _ (c : tie.After-bound-up-to Inv-loop μ-loop) where
   abbrev row : Box
   row = rowAt (start .args .table .now) (turn .loop .i)
 
-  found : c .bound-up-to .result ≡ min (B row) (turn .loop .least)
-  found =
-      c .bound-up-to .ensures
-      ∙ bound-up-to (start .args .store .now) (start .args .m) (start .pre .0) (c .before .read-row .result) (turn .loop .least)
-      ∙ ap (λ (b : Box). min (B b) (turn .loop .least)) (c .before .read-row .ensures)
-
   row-below : B row < start .args .cost
   row-below =
       let t = start .args .table .now in
@@ -70,11 +64,12 @@ loop-again : tie.Need-loop-again Inv-loop μ-loop
 loop-again c =
     let p = c .before in
     let l = turn p .loop in
-    let a = start p .args in (
+    let a = start p .args in
+    let found = found-up-to (a .store .now) (a .m) (start p .pre .0) _ (p .bound-up-to .ensures) (p .before .read-row .ensures) in (
       omega arith,
       ⊎-elim
-          (λ w. rw (w .1, w .2) (scanned-new (B p) (a .cost) (a .table .now) (l .i) (l .least) (l .at) _ (l .inv .1) (found p) (row-below p) (w .0 .taken)))
-          (λ w. rw (w .1, w .2) (scanned-old (B p) (a .cost) (a .table .now) (l .i) (l .least) (l .at) _ (l .inv .1) (found p) (row-below p) (w .0 .left)))
+          (λ w. rw (w .1, w .2) (scanned-new (B p) (a .cost) (a .table .now) (l .i) (l .least) (l .at) _ _ (l .inv .1) found (omega (arith, l .inv .1 .within)) (row-below p) (w .0 .taken)))
+          (λ w. rw (w .1, w .2) (scanned-old (B p) (a .cost) (a .table .now) (l .i) (l .least) (l .at) _ _ (l .inv .1) found (omega (arith, l .inv .1 .within)) (row-below p) (w .0 .left)))
           (c .if1 .came),
     )
 
