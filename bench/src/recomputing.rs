@@ -1,5 +1,5 @@
-//! A search in plain Rust without a place for bounds: it finds those of its open boxes again at each step, each only as far as it is
-//! compared. These are the evaluations and the caps of the proved search.
+//! A search in plain Rust without a place for bounds: it finds those of its open boxes again, once a step, each only as far as it
+//! is compared. These are the evaluations and the caps of the proved search.
 use crate::search::{Answer, Domain, Job, Kind, Progress};
 
 /// A row of the table: low, then high.
@@ -19,66 +19,60 @@ fn write(row: &mut Row, b: &Domain) {
     vectors[1] = b.high;
 }
 
-/// The place of the first box with the smallest bound, and that bound; C where no box is open.
-fn smallest(job: &Job, open: &[Row], cost: u64) -> (usize, u64) {
-    let (mut at, mut least) = (0, cost);
-    for (i, row) in open.iter().enumerate() {
-        let bound = job.bound_up_to(&read(row), least);
-        if bound < least {
-            (at, least) = (i, bound);
-        }
-    }
-    (at, least)
-}
-
-fn below(job: &Job, b: &Domain, cost: u64) -> bool {
-    job.bound_up_to(b, cost) < cost
-}
-
 /// How many of the open boxes but the one at `at` have bounds below `cost`.
 fn kept_rows(job: &Job, open: &[Row], at: usize, cost: u64) -> usize {
     let others = open[..at].iter().chain(&open[at + 1..]);
-    others.filter(|row| below(job, &read(row), cost)).count()
+    others
+        .filter(|row| job.bound_up_to(&read(row), cost) < cost)
+        .count()
 }
 
-/// The boxes with bounds below `cost` become the first, in order. Says how many.
-fn compact(job: &Job, open: &mut [Row], cost: u64) -> usize {
-    let mut kept = 0;
-    for i in 0..open.len() {
-        if below(job, &read(&open[i]), cost) {
-            open[kept] = open[i];
-            kept += 1;
-        }
-    }
-    kept
-}
-
-/// The table, whose first rows are the open boxes.
+/// The table, whose first rows are the open boxes, with the place of the first that has the smallest bound, and that bound: C where no
+/// box is open.
 struct Table<'a> {
     rows: &'a mut [Row],
     open: usize,
+    at: usize,
+    bound: u64,
 }
 
 impl Table<'_> {
-    fn push(&mut self, b: &Domain) {
-        write(&mut self.rows[self.open], b);
+    /// The next row is open too.
+    fn count(&mut self, bound: u64) {
+        if bound < self.bound {
+            (self.at, self.bound) = (self.open, bound);
+        }
         self.open += 1;
     }
 
-    /// Whether there is room for so many more when the box at `at` is taken out. Where the cost fell, to `fell`, boxes with bounds
-    /// not below it make room too; they are looked for only if it is needed.
-    fn has_room(&self, job: &Job, at: usize, more: usize, fell: Option<u64>) -> bool {
-        let open = &self.rows[..self.open];
-        self.open - 1 + more <= self.rows.len()
-            || fell.is_some_and(|cost| kept_rows(job, open, at, cost) + more <= self.rows.len())
+    /// A box becomes the next row if its bound is below `cost`.
+    fn keep(&mut self, b: &Domain, bound: u64, cost: u64) {
+        if bound < cost {
+            write(&mut self.rows[self.open], b);
+            self.count(bound);
+        }
     }
 
-    /// Takes out the box at `at` and, where the cost fell, those with bounds not below it.
-    fn close_up(&mut self, job: &Job, at: usize, fell: Option<u64>) {
-        self.rows.copy_within(at + 1..self.open, at);
-        self.open -= 1;
-        if let Some(cost) = fell {
-            self.open = compact(job, &mut self.rows[..self.open], cost);
+    /// Whether there is room for so many more when the first box with the smallest bound is taken out. Where the cost fell, boxes with
+    /// bounds not below it make room too; they are looked for only if it is needed.
+    fn has_room(&self, job: &Job, more: usize, cost: u64, fell: bool) -> bool {
+        let open = &self.rows[..self.open];
+        self.open - 1 + more <= self.rows.len()
+            || fell && kept_rows(job, open, self.at, cost) + more <= self.rows.len()
+    }
+
+    /// Takes out the first box with the smallest bound and, where the cost fell, those with bounds not below it.
+    fn close_up(&mut self, job: &Job, cost: u64, fell: bool) {
+        self.rows.copy_within(self.at + 1..self.open, self.at);
+        let left = self.open - 1;
+        (self.open, self.at, self.bound) = (0, 0, cost);
+        for i in 0..left {
+            let b = read(&self.rows[i]);
+            if fell {
+                self.keep(&b, job.bound_up_to(&b, cost), cost);
+            } else {
+                self.count(job.bound_up_to(&b, self.bound));
+            }
         }
     }
 }
@@ -86,31 +80,36 @@ impl Table<'_> {
 #[inline(never)]
 pub fn search(job: &Job, table: &mut [i16]) -> Answer {
     let (rows, _) = table.as_chunks_mut::<16>();
-    let mut table = Table { rows, open: 0 };
     let best = job.start();
-    if below(job, &job.domain, best.cost) {
-        table.push(&job.domain);
-    }
+    let mut table = Table {
+        rows,
+        open: 0,
+        at: 0,
+        bound: best.cost,
+    };
+    let bound = job.bound_up_to(&job.domain, best.cost);
+    table.keep(&job.domain, bound, best.cost);
     let mut progress = Progress {
         best,
         count: 0,
         peak: table.open,
     };
     loop {
-        let (at, bound) = smallest(job, &table.rows[..table.open], progress.best.cost);
-        if let Some(kind) = progress.ended(job, bound) {
-            return progress.answer(kind, bound, table.open);
+        if let Some(kind) = progress.ended(job, table.bound) {
+            return progress.answer(kind, table.bound, table.open);
         }
-        let (left, right) = read(&table.rows[at]).cut();
+        let (left, right) = read(&table.rows[table.at]).cut();
         let new = job.tried(job.tried(progress.best, left.low), right.low);
-        let halves = [left, right].map(|half| (half, below(job, &half, new.cost)));
-        let kept = halves.iter().filter(|(_, kept)| *kept);
-        let fell = (new.cost < progress.best.cost).then_some(new.cost);
-        if !table.has_room(job, at, kept.clone().count(), fell) {
-            return progress.answer(Kind::Full, bound, table.open);
+        let halves = [left, right].map(|half| (half, job.bound_up_to(&half, new.cost)));
+        let more = halves.iter().filter(|(_, bound)| *bound < new.cost).count();
+        let fell = new.cost < progress.best.cost;
+        if !table.has_room(job, more, new.cost, fell) {
+            return progress.answer(Kind::Full, table.bound, table.open);
         }
-        table.close_up(job, at, fell);
-        kept.for_each(|(half, _)| table.push(half));
+        table.close_up(job, new.cost, fell);
+        for (half, bound) in halves {
+            table.keep(&half, bound, new.cost);
+        }
         progress.split(new, table.open);
     }
 }

@@ -24,7 +24,7 @@ use Rattle.certificate.proofs.Cover.{Cover, Keeping, left-low, right-lo
 use Rattle.certificate.proofs.Steps.{Case, goes, step-case}
 
 module _ (cost : List ℤ → ℕ) (best v : List ℤ) where
-  cheaper-best : cost (cheaper cost best v) ≤ cost best
+  pub cheaper-best : cost (cheaper cost best v) ≤ cost best
   unfolding cheaper
   cheaper-best =
       by-cond (λ w. cost w ≤ cost best) (ltb (cost v) (cost best)) (λ t. omega (arith, ltb→lt)) (λ t. le-refl (cost best))

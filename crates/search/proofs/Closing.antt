@@ -17,7 +17,8 @@ use Rattle.rows.proofs.Removal.{length-without, rest-without, rows-without}
 use Rattle.certificate.specs.Search.{keepBelow, without}
 use Rattle.certificate.proofs.Lists.{takes-at, takes-all}
 use Rattle.certificate.proofs.Kept.{keep-all, length-kept}
-use Rattle.search.specs.Inside.{Listed}
+use Rattle.search.specs.declared.scan.Open.{Open}
+use Rattle.search.specs.Inside.{openOf, Listed}
 
 module _ (bound : Box → ℕ) (t : List ℤ) (n at : ℕ) (inside : at < n) (there : n ≤ rowCount t) where
   -- one box less
@@ -28,30 +29,45 @@ module _ (bound : Box → ℕ) (t : List ℤ) (n at : ℕ) (inside : at < n) (th
   few-stay c = omega (arith, length-kept bound c (without (rowsOf t n) at), one-less)
 
   module _ (old : ℕ) (below : All (λ b. bound b < old) (rowsOf t n)) where
+    others-below : All (λ b. bound b < old) (without (rowsOf t n) at)
+    others-below = takes-all (takes-at zeroBox (rowsOf t n) at (omega (arith, rows-length t n))) below .1
+
     all-stay : keepBelow bound old (without (rowsOf t n) at) ≡ without (rowsOf t n) at
-    all-stay = keep-all bound old (takes-all (takes-at zeroBox (rowsOf t n) at (omega (arith, rows-length t n))) below .1)
+    all-stay = keep-all bound old others-below
 
     pub all-but-one : length (keepBelow bound old (without (rowsOf t n) at)) ≡ n - 1
     all-but-one = ap length all-stay ∙ one-less
 
-    pub closed-all : Listed (keepBelow bound old (without (rowsOf t n) at)) t n (n - 1) (withoutRow t n at)
-    closed-all =
+    -- they are the first rows once the one at `at` is taken out, and all of them have bounds below the cost
+    abbrev left : List Box
+    left = rowsOf (withoutRow t n at) (n - 1)
+
+    pub left-below : All (λ b. bound b < old) left
+    left-below = rw (rows-without t n at inside there) (others-below)
+
+    pub closed-all : (o : Open) → o ≡ openOf bound old left → Listed bound old (keepBelow bound old (without (rowsOf t n) at)) t n o (withoutRow t n at)
+    closed-all o told =
+        let same : left ≡ keepBelow bound old (without (rowsOf t n) at) = rows-without t n at inside there ∙ sym all-stay in
+        let number : o .rows ≡ n - 1 = ap (λ (x : Open). x .rows) told ∙ rows-length (withoutRow t n at) (n - 1) in
         record {
-          few = omega arith;
+          told = told ∙ ap (openOf bound old) same;
+          few = omega (arith, number);
           long = length-without t n at inside there;
-          held = rows-without t n at inside there ∙ sym all-stay;
+          held = rw number same;
           rest = rest-without t n at inside there (16 * n) (omega arith);
         }
 
   pub closed-some :
-      (new k : ℕ) (u : List ℤ) →
-      Listed (keepBelow bound new (rowsOf (withoutRow t n at) (n - 1))) (withoutRow t n at) (n - 1) k u →
-      Listed (keepBelow bound new (without (rowsOf t n) at)) t n k u
-  closed-some new k u p =
+      (new : ℕ) (o : Open) (u : List ℤ) →
+      Listed bound new (keepBelow bound new (rowsOf (withoutRow t n at) (n - 1))) (withoutRow t n at) (n - 1) o u →
+      Listed bound new (keepBelow bound new (without (rowsOf t n) at)) t n o u
+  closed-some new o u p =
+      let same = ap (keepBelow bound new) (rows-without t n at inside there) in
       record {
+        told = p .told ∙ ap (openOf bound new) same;
         few = omega (arith, p .few);
         long = p .long ∙ length-without t n at inside there;
-        held = p .held ∙ ap (keepBelow bound new) (rows-without t n at inside there);
+        held = p .held ∙ same;
         rest =
             rest-later (withoutRow t n at) u (16 * (n - 1)) (16 * n) (omega arith) (p .rest)
             ∙ rest-without t n at inside there (16 * n) (omega arith);

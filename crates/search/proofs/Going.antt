@@ -26,8 +26,9 @@ use Rattle.certificate.proofs.Running.{Running, running-begins, running-sound, 
 use Rattle.search.specs.declared.branch.Best.{Best}
 use Rattle.search.specs.declared.branch.State.{State}
 use Rattle.search.specs.declared.branch.Stepped.{Stepped}
-use Rattle.search.specs.Search.{kindOf, told}
-use Rattle.search.specs.Inside.{bestOf, stateIn, Steppable, Moved, StepOutcome, Begun, answerWith, Ran}
+use Rattle.search.specs.Search.{kindOf}
+use Rattle.search.specs.declared.scan.Open.{Open}
+use Rattle.search.specs.Inside.{stateIn, Exact, Steppable, Moved, StepOutcome, Begun, answerWith, Ran}
 
 module _
     (cost : List ℤ → ℕ) (bound : Box → ℕ) (laws : Bounds cost bound) (budget tol : ℕ) (start : List ℤ) (domain : Box) (inside : InBox start domain)
@@ -38,7 +39,7 @@ module _
 
     pub record Going (s : State) (u : List ℤ) : Type 0 where
       pub running : Running cost bound budget (rowCount t) tol start domain (stateIn u s)
-      pub best : s .best ≡ bestOf cost (s .best .vector)
+      pub exact : Exact cost bound u s
       pub long : length u ≡ length t
       pub longer : first .peak ≤ s .peak
       pub rest : drop (16 * s .peak) u ≡ drop (16 * s .peak) t
@@ -47,7 +48,7 @@ module _
     going-begins b =
         record {
           running = rw (b .state) (running-begins cost bound budget (rowCount t) tol start domain);
-          best = b .best;
+          exact = b .exact;
           long = refl;
           longer = le-refl (first .peak);
           rest = refl;
@@ -55,13 +56,13 @@ module _
 
     module _ (s : State) (u : List ℤ) (g : Going s u) where
       abbrev list : List Box
-      list = rowsOf u (s .«open»)
+      list = rowsOf u (s .list .rows)
 
       sound : Sound cost bound budget (rowCount t) domain (stateIn u s)
       sound = running-sound cost bound budget (rowCount t) tol start domain (stateIn u s) (g .running) laws inside
 
       exact : s .best .cost ≡ cost (s .best .vector)
-      exact = ap (λ (b : Best). b .cost) (g .best)
+      exact = ap (λ (b : Best). b .cost) (g .exact .best)
 
       -- peak never falls
       grows : (after : State) (v : List ℤ) → Moved cost bound u s after v → s .peak ≤ after .peak
@@ -69,92 +70,103 @@ module _
       grows after v m = omega (arith, ap (λ (x : Search.State). x .peak) (m .state))
 
       -- every open box has a bound below C
-      pub going-below : All (λ b. bound b < s .best .cost) list
+      going-below : All (λ b. bound b < s .best .cost) list
       going-below = rw exact (sound .below)
 
-      pub going-within : s .count ≤ budget
+      going-within : s .count ≤ budget
       going-within = g .running .within
 
-      module _ (low at : ℕ) (lowest : low ≡ lowerBound bound (s .best .cost) list) (place : at ≡ firstSmallest bound list) where
-        pub low-le : low ≤ s .best .cost
-        low-le = rw lowest (lower-le bound (s .best .cost) list going-below)
+      -- L, and the place of the box that has it
+      abbrev low : ℕ
+      low = s .list .bound
 
-        low-is : low ≡ lowerBound bound (cost (s .best .vector)) list
-        low-is = lowest ∙ ap (λ (c : ℕ). lowerBound bound c list) exact
+      abbrev at : ℕ
+      at = s .list .at
 
-        gap-is : gap cost bound (stateIn u s) ≡ s .best .cost - low
-        gap-is = omega (arith, exact, low-is)
+      lowest : low ≡ lowerBound bound (s .best .cost) list
+      lowest = ap (λ (o : Open). o .bound) (g .exact .told)
 
-        answers : (kind : Search.Kind) → def ≡ answer cost bound kind (stateIn u s) → Ran def t first (answerWith (kindOf kind) s low) u
-        unfolding answer
-        answers kind e =
-            rw e
-            (record {
-              answer = rw (low-is, exact, rows-length u (s .«open»));
-              long = g .long;
-              open-rows = rw (rows-length u (s .«open»));
-              longer = g .longer;
-              rest = g .rest;
-            })
+      place : at ≡ firstSmallest bound list
+      place = ap (λ (o : Open). o .at) (g .exact .told)
 
-        -- (a)
-        pub going-solved : s .best .cost - low ≤ tol → Ran def t first (answerWith (kindOf solved) s low) u
-        going-solved near =
-            answers solved (running-solved cost bound budget (rowCount t) tol start domain (stateIn u s) (g .running) (omega (arith, gap-is)))
+      pub low-le : low ≤ s .best .cost
+      low-le = rw lowest (lower-le bound (s .best .cost) list going-below)
 
-        module _ (far : tol < s .best .cost - low) where
-          far-gap : tol < gap cost bound (stateIn u s)
-          far-gap = omega (arith, gap-is)
+      low-is : low ≡ lowerBound bound (cost (s .best .vector)) list
+      low-is = lowest ∙ ap (λ (c : ℕ). lowerBound bound c list) exact
 
-          -- (b)
-          pub going-spent : s .count ≡ budget → Ran def t first (answerWith (kindOf spent) s low) u
-          going-spent all =
-              answers spent (running-spent cost bound budget (rowCount t) tol start domain (stateIn u s) (g .running) far-gap all)
+      gap-is : gap cost bound (stateIn u s) ≡ s .best .cost - low
+      gap-is = omega (arith, exact, low-is)
 
-          -- (c)
-          module _ (left : s .count ≡ budget → ⊥) where
-            less : s .count < budget
-            less = omega (arith, going-within)
+      answers : (kind : Search.Kind) → def ≡ answer cost bound kind (stateIn u s) → Ran def t first (answerWith (kindOf kind) s) u
+      unfolding answer
+      answers kind e =
+          rw e
+          (record {
+            answer = rw (low-is, exact, rows-length u (s .list .rows));
+            long = g .long;
+            open-rows = rw (rows-length u (s .list .rows));
+            longer = g .longer;
+            rest = g .rest;
+          })
 
-            pub going-steppable : budget < 4294967296 → Steppable cost bound u s at
-            going-steppable few =
-                let many : 1 ≤ length list = lower-open bound (cost (s .best .vector)) list (omega (arith, far-gap)) in
-                let there : at < s .«open» = rw place (omega (arith, (smallest bound list many) .inside, rows-length u (s .«open»))) in
+      -- (a)
+      pub going-solved : s .best .cost - low ≤ tol → Ran def t first (answerWith (kindOf solved) s) u
+      going-solved near =
+          answers solved (running-solved cost bound budget (rowCount t) tol start domain (stateIn u s) (g .running) (omega (arith, gap-is)))
+
+      module _ (far : tol < s .best .cost - low) where
+        far-gap : tol < gap cost bound (stateIn u s)
+        far-gap = omega (arith, gap-is)
+
+        -- (b)
+        pub going-spent : s .count ≡ budget → Ran def t first (answerWith (kindOf spent) s) u
+        going-spent all =
+            answers spent (running-spent cost bound budget (rowCount t) tol start domain (stateIn u s) (g .running) far-gap all)
+
+        -- (c)
+        module _ (left : s .count ≡ budget → ⊥) where
+          less : s .count < budget
+          less = omega (arith, going-within)
+
+          pub going-steppable : budget < 4294967296 → Steppable cost bound u s
+          going-steppable few =
+              let many : 1 ≤ length list = lower-open bound (cost (s .best .vector)) list (omega (arith, far-gap)) in
+              let there : at < s .list .rows = rw place (omega (arith, (smallest bound list many) .inside, rows-length u (s .list .rows))) in
+              record {
+                exact = g .exact;
+                inside = there;
+                wide = rw (rows-at u (s .list .rows) at zeroBox there) at ((all-at zeroBox (sound .opened) at (omega (arith, rows-length u (s .list .rows)))) .two);
+                below = going-below;
+                room = omega (arith, sound .longest, sound .room, rows-length u (s .list .rows), g .long);
+                longest = omega (arith, sound .longest, rows-length u (s .list .rows));
+                countable = omega (arith, less);
+              }
+
+          module _ (r : Stepped) (v : List ℤ) (o : StepOutcome cost bound u s r v) where
+            pub going-full : r .full ≡ true → Ran def t first (answerWith (kindOf full) s) v
+            going-full e =
+                let many = ltb-true (rowCount u) (length ((split cost bound (stateIn u s)) .list)) (sym (o .told) ∙ e) in
+                rw (o .kept e)
+                (answers full
+                (running-full cost bound budget (rowCount t) tol start domain (stateIn u s) (g .running) far-gap less (omega (arith, g .long))))
+
+            -- one split less is left
+            pub going-counts : r .full ≡ false → budget - r .state .count < budget - s .count
+            unfolding split
+            going-counts e = omega (arith, less, ap (λ (x : Search.State). x .count) (o .moved e .state))
+
+            pub going-on : r .full ≡ false → Going (r .state) v
+            going-on e =
+                let few = ltb-false (rowCount u) (length ((split cost bound (stateIn u s)) .list)) (sym (o .told) ∙ e) in
+                let m = o .moved e in
+                let peaks = grows (r .state) v m in
                 record {
-                  best = g .best;
-                  first = place;
-                  inside = there;
-                  wide = rw (rows-at u (s .«open») at zeroBox there) at ((all-at zeroBox (sound .opened) at (omega (arith, rows-length u (s .«open»)))) .two);
-                  below = going-below;
-                  room = omega (arith, sound .longest, sound .room, rows-length u (s .«open»), g .long);
-                  longest = omega (arith, sound .longest, rows-length u (s .«open»));
-                  countable = omega (arith, less);
+                  running =
+                      rw (m .state)
+                      (running-goes cost bound budget (rowCount t) tol start domain (stateIn u s) (g .running) far-gap less (omega (arith, g .long)));
+                  exact = m .exact;
+                  long = m .long ∙ g .long;
+                  longer = omega (arith, g .longer);
+                  rest = m .rest ∙ rest-later t u (16 * s .peak) (16 * r .state .peak) (omega arith) (g .rest);
                 }
-
-            module _ (r : Stepped) (v : List ℤ) (o : StepOutcome cost bound u s r v) where
-              pub going-full : r .full ≡ true → Ran def t first (answerWith (kindOf full) s low) v
-              going-full e =
-                  let many = ltb-true (rowCount u) (length ((split cost bound (stateIn u s)) .list)) (sym (o .told) ∙ e) in
-                  rw (o .kept e)
-                  (answers full
-                  (running-full cost bound budget (rowCount t) tol start domain (stateIn u s) (g .running) far-gap less (omega (arith, g .long))))
-
-              -- one split less is left
-              pub going-counts : r .full ≡ false → budget - r .state .count < budget - s .count
-              unfolding split
-              going-counts e = omega (arith, less, ap (λ (x : Search.State). x .count) (o .moved e .state))
-
-              pub going-on : r .full ≡ false → Going (r .state) v
-              going-on e =
-                  let few = ltb-false (rowCount u) (length ((split cost bound (stateIn u s)) .list)) (sym (o .told) ∙ e) in
-                  let m = o .moved e in
-                  let peaks = grows (r .state) v m in
-                  record {
-                    running =
-                        rw (m .state)
-                        (running-goes cost bound budget (rowCount t) tol start domain (stateIn u s) (g .running) far-gap less (omega (arith, g .long)));
-                    best = m .best;
-                    long = m .long ∙ g .long;
-                    longer = omega (arith, g .longer);
-                    rest = m .rest ∙ rest-later t u (16 * s .peak) (16 * r .state .peak) (omega arith) (g .rest);
-                  }

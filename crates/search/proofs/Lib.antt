@@ -1,7 +1,7 @@
 pub mod UpTo
 pub mod Taking
-pub mod Scanning
-pub mod Compacting
+pub mod Listing
+pub mod Counting
 pub mod Closing
 pub mod Placing
 pub mod Stepping

@@ -1,14 +1,10 @@
 -- Costs and bounds that are found only as far as a cap, under a model that was checked. Assumes nothing.
 use borrow.Author.Tests.{lt-ltb, le-ltb}
-use mathlib.Core.Path.{_≡_, sym, ap, _∙_}
-use mathlib.Core.Bool.{Bool}
+use mathlib.Core.Path.{_≡_, ap}
 use mathlib.Core.List.{List}
-use mathlib.Core.Logic.{⊎-elim}
 use Prim.Native.Nat.{ℕ, _≤_, _<_, min}
 use native.Mathlib.Omega.{arith}
-use lib.Dec.{ltb}
 use lib.IntN.{ℤ}
-use Rattle.integers.proofs.Tests.{le-or-lt}
 use Rattle.codes.specs.declared.Check.the-variants.{Pass}
 use Rattle.boxes.specs.declared.Box.{Box}
 use Rattle.jobs.specs.declared.Model.{Model}
@@ -17,20 +13,9 @@ use Rattle.model.specs.Cost.{bound}
 use Rattle.model.specs.Cost as model
 use Rattle.model.specs.Calls.{checkModel, costUpTo, boundUpTo}
 use Rattle.certificate.specs.Search.{cheaper}
+use Rattle.certificate.proofs.Reached.{cheaper-best}
 use Rattle.search.specs.declared.branch.Best.{Best}
-use Rattle.search.specs.Inside.{bestOf}
-
--- a number is below c where the lesser of it and a cap is, and c is no more than the cap
-pub below-cap : (x c cap : ℕ) → c ≤ cap → ltb (min x cap) c ≡ ltb x c
-below-cap x c cap far =
-    ⊎-elim
-    (λ (h : c ≤ x). let e : c ≤ min x cap = omega arith in le-ltb (min x cap) c e ∙ sym (le-ltb x c h))
-    (λ (h : x < c). let e : min x cap < c = omega arith in lt-ltb (min x cap) c e ∙ sym (lt-ltb x c h))
-    (le-or-lt c x)
-
--- the outcome x of a test of the box b, which is d
-pub test-of : (f : Box → ℕ) (c : ℕ) {b d : Box} {r x : Bool} → b ≡ d → r ≡ ltb (f b) c → r ≡ x → ltb (f d) c ≡ x
-test-of f c e t h = ap (λ (a : Box). ltb (f a) c) (sym e) ∙ sym t ∙ h
+use Rattle.search.specs.Inside.{SameBelow, bestOf}
 
 -- a vector v that is tried, x being what was found of its cost: that cost, or a cap if that is less, which is no less than the best one's
 module _ (cost : List ℤ → ℕ) (best v : List ℤ) (x cap : ℕ) (found : x ≡ min (cost v) cap) (far : cost best ≤ cap) where
@@ -45,6 +30,11 @@ module _ (cost : List ℤ → ℕ) (best v : List ℤ) (x cap : ℕ) (found : x 
   unfolding cheaper
   tried-old reaches = let old : cost best ≤ cost v = omega arith in rw (le-ltb (cost v) (cost best) old)
 
+-- the cost does not rise where a vector is tried
+pub tried-falls : (cost : List ℤ → ℕ) (v : List ℤ) (before after : Best) → before ≡ bestOf cost (before .vector) → after ≡ bestOf cost (cheaper cost (before .vector) v) → after .cost ≤ before .cost
+tried-falls cost v before after is becomes =
+    omega (arith, ap (λ (b : Best). b .cost) is, ap (λ (b : Best). b .cost) becomes, cheaper-best cost (before .vector) v)
+
 module _ (store : List ℕ) (m : Model) (ok : checkModel store m ≡ Pass) where
   pub cost-up-to : (v : List ℤ) (cap : ℕ) → costUpTo store m v cap ≡ min (model.cost m (pointsOf store) v) cap
   unfolding costUpTo
@@ -54,6 +44,6 @@ module _ (store : List ℕ) (m : Model) (ok : checkModel store m ≡ Pass) where
   unfolding boundUpTo
   bound-up-to b cap = rw ok
 
-  -- what was found of the bound of the box b, which is d
-  pub found-up-to : (cap : ℕ) {b d : Box} {x : ℕ} → x ≡ boundUpTo store m b cap → b ≡ d → x ≡ min (bound m (pointsOf store) d) cap
-  found-up-to cap {b = b} f e = f ∙ bound-up-to b cap ∙ ap (λ (a : Box). min (bound m (pointsOf store) a) cap) e
+  -- what was found of the bound of the box b, as far as it is below c, which is no more than the cap
+  pub found-below : (b : Box) (c far x : ℕ) → x ≡ boundUpTo store m b far → c ≤ far → SameBelow c x (bound m (pointsOf store) b)
+  found-below b c far x f no-less = omega (arith, f, bound-up-to b far)

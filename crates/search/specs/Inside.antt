@@ -2,7 +2,7 @@
 use mathlib.Core.Path.{_≡_}
 use mathlib.Core.Bool.{true, false, cond}
 use mathlib.Core.List.{List}
-use Prim.Native.Nat.{ℕ, _+_, _*_, _≤_, _<_}
+use Prim.Native.Nat.{ℕ, _+_, _*_, _≤_, _<_, min}
 use lib.Dec.{ltb}
 use lib.IntN.{ℤ}
 use lib.ListN.{length, drop}
@@ -12,66 +12,84 @@ use Rattle.boxes.specs.Boxes.{volume}
 use Rattle.rows.specs.Rows.{rowCount, rowAt, rowsOf}
 use Rattle.boxes.specs.Split.{leftHalf, rightHalf}
 use Rattle.certificate.specs.Search as Search
-use Rattle.certificate.specs.Search.{keepBelow, firstSmallest, without, cheaper, begin, split}
+use Rattle.certificate.specs.Search.{keepBelow, lowerBound, firstSmallest, without, cheaper, begin, split}
 use Rattle.search.specs.declared.Kind.{Kind}
 use Rattle.search.specs.declared.Answer.{Answer}
 use Rattle.search.specs.declared.branch.Best.{Best}
-use Rattle.search.specs.declared.branch.Child.{Child}
 use Rattle.search.specs.declared.branch.Branches.{Branches}
 use Rattle.search.specs.declared.branch.State.{State}
 use Rattle.search.specs.declared.branch.Stepped.{Stepped}
+use Rattle.search.specs.declared.scan.Open.{Open}
 use Rattle.search.specs.Search.{told}
 
--- The first k rows of u hold a list of boxes, in order, and from row n on u is as t was.
-pub record Listed (list : List Box) (t : List ℤ) (n k : ℕ) (u : List ℤ) : Type 0 where
-  pub few : k ≤ n
+-- x is y as far as they are below c
+abbrev pub SameBelow : ℕ → ℕ → ℕ → Type 0
+SameBelow c x y = min x c ≡ min y c
+
+-- a list of open boxes: how many, the place of the first with the smallest bound, and L
+abbrev pub openOf : (Box → ℕ) → ℕ → List Box → Open
+openOf bound c list = record { rows = length list; at = firstSmallest bound list; bound = lowerBound bound c list }
+
+-- no open box
+abbrev pub noneOpen : ℕ → Open
+noneOpen c = record { rows = 0; at = 0; bound = c }
+
+-- open boxes and one more behind them, of which x is the bound as far as it is below the smallest one
+abbrev pub openWith : Open → ℕ → Open
+openWith o x =
+    cond (ltb x (o .bound)) (record { rows = o .rows + 1; at = o .rows; bound = x }) (record { rows = o .rows + 1; at = o .at; bound = o .bound })
+
+-- The first rows of u hold a list of boxes, in order, of which r tells, and from row n on u is as t was.
+pub record Listed (bound : Box → ℕ) (c : ℕ) (list : List Box) (t : List ℤ) (n : ℕ) (r : Open) (u : List ℤ) : Type 0 where
+  pub told : r ≡ openOf bound c list
+  pub few : r .rows ≤ n
   pub long : length u ≡ length t
-  pub held : rowsOf u k ≡ list
+  pub held : rowsOf u (r .rows) ≡ list
   pub rest : drop (16 * n) u ≡ drop (16 * n) t
 
 -- the best vector beside its cost
 abbrev pub bestOf : (List ℤ → ℕ) → List ℤ → Best
 bestOf cost v = record { vector = v; cost = cost v }
 
--- a half, kept if its bound is below c
-abbrev pub childOf : (Box → ℕ) → ℕ → Box → Child
-childOf bound c half = record { half = half; kept = ltb (bound half) c }
+-- What is left of a box b that is cut, where v was the best vector: the new best, and the halves with their bounds as far as these are below the new cost.
+pub record Cut (cost : List ℤ → ℕ) (bound : Box → ℕ) (b : Box) (v : List ℤ) (r : Branches) : Type 0 where
+  pub best : r .best ≡ bestOf cost (cheaper cost (cheaper cost v ((leftHalf b) .low)) ((rightHalf b) .low))
+  pub left : r .left .half ≡ leftHalf b
+  pub right : r .right .half ≡ rightHalf b
+  pub left-bound : SameBelow (r .best .cost) (r .left .bound) (bound (r .left .half))
+  pub right-bound : SameBelow (r .best .cost) (r .right .bound) (bound (r .right .half))
 
--- what is left of a box b that is cut, where v was the best vector
-abbrev pub branchesOf : (List ℤ → ℕ) → (Box → ℕ) → Box → List ℤ → Branches
-branchesOf cost bound b v =
-    let best = cheaper cost (cheaper cost v ((leftHalf b) .low)) ((rightHalf b) .low) in
-    record {
-      best = bestOf cost best;
-      left = childOf bound (cost best) (leftHalf b);
-      right = childOf bound (cost best) (rightHalf b);
-    }
-
--- The halves are as `childOf` says, and the table has room for all that is kept.
+-- The bounds of the halves are as `Cut` says, and the table has room for all that is kept.
 pub record Placeable (bound : Box → ℕ) (t : List ℤ) (n at : ℕ) (br : Branches) : Type 0 where
-  pub left : br .left ≡ childOf bound (br .best .cost) (br .left .half)
-  pub right : br .right ≡ childOf bound (br .best .cost) (br .right .half)
+  pub left : SameBelow (br .best .cost) (br .left .bound) (bound (br .left .half))
+  pub right : SameBelow (br .best .cost) (br .right .bound) (bound (br .right .half))
   pub room :
-      length (keepBelow bound (br .best .cost) (without (rowsOf t n) at)) + (cond (br .left .kept) 1 0 + cond (br .right .kept) 1 0) ≤ rowCount t
+      length (keepBelow bound (br .best .cost) (without (rowsOf t n) at))
+      + (cond (ltb (br .left .bound) (br .best .cost)) 1 0 + cond (ltb (br .right .bound) (br .best .cost)) 1 0)
+      ≤ rowCount t
 
 -- the state of a search whose open boxes are the first rows of t
 abbrev pub stateIn : List ℤ → State → Search.State
-stateIn t s = record { best = s .best .vector; list = rowsOf t (s .«open»); count = s .count; peak = s .peak }
+stateIn t s = record { best = s .best .vector; list = rowsOf t (s .list .rows); count = s .count; peak = s .peak }
 
--- What a step is handed: a box that can be cut, at the place of the first smallest bound.
-pub record Steppable (cost : List ℤ → ℕ) (bound : Box → ℕ) (t : List ℤ) (s : State) (at : ℕ) : Type 0 where
+-- What a state says beside that: C, and the first smallest bound of the rows of t.
+pub record Exact (cost : List ℤ → ℕ) (bound : Box → ℕ) (t : List ℤ) (s : State) : Type 0 where
   pub best : s .best ≡ bestOf cost (s .best .vector)
-  pub first : at ≡ firstSmallest bound (rowsOf t (s .«open»))
-  pub inside : at < s .«open»
-  pub wide : 2 ≤ volume (rowAt t at)
-  pub below : All (λ b. bound b < s .best .cost) (rowsOf t (s .«open»))
-  pub room : s .«open» ≤ rowCount t
-  pub longest : s .«open» ≤ s .peak
+  pub told : s .list ≡ openOf bound (s .best .cost) (rowsOf t (s .list .rows))
+
+-- What a step is handed: the box with the first smallest bound is there and can be cut.
+pub record Steppable (cost : List ℤ → ℕ) (bound : Box → ℕ) (t : List ℤ) (s : State) : Type 0 where
+  pub exact : Exact cost bound t s
+  pub inside : s .list .at < s .list .rows
+  pub wide : 2 ≤ volume (rowAt t (s .list .at))
+  pub below : All (λ b. bound b < s .best .cost) (rowsOf t (s .list .rows))
+  pub room : s .list .rows ≤ rowCount t
+  pub longest : s .list .rows ≤ s .peak
   pub countable : s .count < 4294967295
 
 -- The state s₂ and the table u are those after a split of s₁ and t.
 pub record Moved (cost : List ℤ → ℕ) (bound : Box → ℕ) (t : List ℤ) (s₁ s₂ : State) (u : List ℤ) : Type 0 where
-  pub best : s₂ .best ≡ bestOf cost (s₂ .best .vector)
+  pub exact : Exact cost bound u s₂
   pub state : stateIn u s₂ ≡ split cost bound (stateIn t s₁)
   pub long : length u ≡ length t
   pub rest : drop (16 * s₂ .peak) u ≡ drop (16 * s₂ .peak) t
@@ -85,21 +103,21 @@ pub record StepOutcome (cost : List ℤ → ℕ) (bound : Box → ℕ) (t : List
 
 -- The state s and the table u are those of the beginning, where the table was t.
 pub record Begun (cost : List ℤ → ℕ) (bound : Box → ℕ) (start : List ℤ) (domain : Box) (t : List ℤ) (s : State) (u : List ℤ) : Type 0 where
-  pub best : s .best ≡ bestOf cost (s .best .vector)
+  pub exact : Exact cost bound u s
   pub state : stateIn u s ≡ begin cost bound start domain
   pub long : length u ≡ length t
   pub rest : drop (16 * s .peak) u ≡ drop (16 * s .peak) t
 
--- an answer with a state and its L
-abbrev pub answerWith : Kind → State → ℕ → Answer
-answerWith kind s low =
+-- an answer with a state
+abbrev pub answerWith : Kind → State → Answer
+answerWith kind s =
     record {
       kind = kind;
       vector = s .best .vector;
       cost = s .best .cost;
-      bound = low;
+      bound = s .list .bound;
       count = s .count;
-      «open» = s .«open»;
+      «open» = s .list .rows;
       peak = s .peak;
     }
 

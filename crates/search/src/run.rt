@@ -4,8 +4,9 @@ use crate::Kind;
 use crate::branch::Best;
 use crate::branch::State;
 use crate::branch::step;
-use crate::scan::below;
-use crate::scan::smallest;
+use crate::scan::bound_below;
+use crate::scan::keep;
+use crate::scan::none_open;
 use boxes::Box;
 use jobs::Job;
 use jobs::Model;
@@ -28,39 +29,37 @@ pub fn begin(store: &[u8], m: Model, table: &mut [i16], domain: Box, start: [i16
     ensures { λ r. ⌜ Begun (cost m (pointsOf (now (store .entry)))) (bound m (pointsOf (now (store .entry)))) start domain (now (table .entry)) r (now (table .exit)) ⌝ }
 {
     let c = model::cost_up_to(store, m, start, NO_CAP);
-    let best = Best {
-        vector: start,
-        cost: c,
-    };
-    if below(store, m, domain, c) {
-        rows::write_row(table, 0, domain);
-        return State {
-            best,
-            open: 1,
-            count: 0,
-            peak: 1,
-        };
-    }
+    let list = keep(
+        table,
+        none_open(c),
+        domain,
+        bound_below(store, m, domain, c),
+        c,
+    );
     State {
-        best,
-        open: 0,
+        best: Best {
+            vector: start,
+            cost: c,
+        },
+        list,
         count: 0,
-        peak: 0,
+        peak: list.rows,
     }
 }
 
-fn answer(kind: Kind, s: State, bound: u64) -> Answer
-    ensures { λ r. ⌜ r ≡ answerWith kind s bound ⌝ }
+fn answer(kind: Kind, s: State) -> Answer
+    ensures { λ r. ⌜ r ≡ answerWith kind s ⌝ }
 {
     let best = s.best;
     let vector = best.vector;
+    let list = s.list;
     Answer {
         kind,
         vector,
         cost: best.cost,
-        bound,
+        bound: list.bound,
         count: s.count,
-        open: s.open,
+        open: list.rows,
         peak: s.peak,
     }
 }
@@ -75,16 +74,18 @@ pub fn run(store: &[u8], job: Job, table: &mut [i16], first: State) -> Answer
     let mut s = first;
     loop {
         let best = s.best;
-        let least = smallest(store, m, table, s.open, best.cost);
-        if best.cost - least.bound <= job.t {
-            return answer(Kind::Solved, s, least.bound);
+        let list = s.list;
+        let solved = best.cost - list.bound <= job.t;
+        let spent = s.count == job.budget;
+        if solved {
+            return answer(Kind::Solved, s);
         }
-        if s.count == job.budget {
-            return answer(Kind::Spent, s, least.bound);
+        if spent {
+            return answer(Kind::Spent, s);
         }
-        let next = step(store, m, table, s, least.at);
+        let next = step(store, m, table, s);
         if next.full {
-            return answer(Kind::Full, s, least.bound);
+            return answer(Kind::Full, s);
         }
         s = next.state;
     }

@@ -1,9 +1,9 @@
-// Passes over the open boxes, the first rows of the table. There is no place for their bounds, so each pass finds those that it needs.
+// Passes over the open boxes, the first rows of the table. There is no place for their bounds, so each step finds them again, once.
 use boxes::Box;
 use jobs::Model;
 ghost use mathlib.Core.Path.{_≡_};
 ghost use mathlib.Core.Bool.{cond};
-ghost use Prim.Native.Nat.{_+_, _≤_, _<_};
+ghost use Prim.Native.Nat.{_≤_, _<_};
 ghost use lib.Dec.{ltb};
 ghost use lib.ListN.{length};
 ghost use Rattle.integers.specs.Lists.{All};
@@ -11,42 +11,68 @@ ghost use Rattle.codes.specs.declared.Check.the-variants.{Pass};
 ghost use Rattle.points.specs.Points.{pointsOf};
 ghost use Rattle.model.specs.Cost.{bound};
 ghost use Rattle.model.specs.Calls.{checkModel};
-ghost use Rattle.rows.specs.Rows.{rowCount, rowAt, rowsOf, withRow};
-ghost use Rattle.certificate.specs.Search.{keepBelow, lowerBound, firstSmallest, without};
-ghost use Rattle.search.specs.Inside.{Listed};
+ghost use Rattle.rows.specs.Rows.{rowCount, rowsOf, withRow};
+ghost use Rattle.certificate.specs.Search.{keepBelow, without};
+ghost use Rattle.search.specs.Inside.{SameBelow, openOf, noneOpen, openWith, Listed};
 
-// The place of the first box with the smallest bound, and that bound.
-pub struct Lowest {
+// The open boxes, which are the first rows of the table: how many, the place of the first with the smallest bound, and that bound, L.
+// Where none is open, L is the cost.
+pub struct Open {
+    pub rows: usize,
     pub at: usize,
     pub bound: u64,
 }
 
-// Where none is open, the bound is the cost. A bound is summed only as far as the smallest one before it.
-pub fn smallest(store: &[u8], m: Model, table: &[i16], n: usize, cost: u64) -> Lowest
-    requires { ⌜ (checkModel (now store) m ≡ Pass) × All (λ b. bound m (pointsOf (now store)) b < cost) (rowsOf (now table) n) ⌝ }
-    ensures lowest { λ r. ⌜ r .bound ≡ lowerBound (bound m (pointsOf (now (store .entry)))) cost (rowsOf (now (table .entry)) n) ⌝ }
-    ensures first { λ r. ⌜ r .at ≡ firstSmallest (bound m (pointsOf (now (store .entry)))) (rowsOf (now (table .entry)) n) ⌝ }
+pub fn none_open(cost: u64) -> Open
+    ensures { λ r. ⌜ r ≡ noneOpen cost ⌝ }
 {
-    let mut at = 0;
-    let mut least = cost;
-    let mut i = 0;
-    while i < n {
-        let b = model::bound_up_to(store, m, rows::read_row(table, i), least);
-        if b < least {
-            least = b;
-            at = i;
-        }
-        i += 1;
+    Open {
+        rows: 0,
+        at: 0,
+        bound: cost,
     }
-    Lowest { at, bound: least }
 }
 
-// Whether a box's bound is below a cost.
-pub fn below(store: &[u8], m: Model, b: Box, cost: u64) -> bool
-    requires { ⌜ checkModel (now store) m ≡ Pass ⌝ }
-    ensures { λ r. ⌜ r ≡ ltb (bound m (pointsOf (now (store .entry))) b) cost ⌝ }
+// One more box behind the open ones. Its bound is compared with the smallest one, so it is known if it is below that.
+fn with_box(list: Open, bound: u64) -> Open
+    requires { ⌜ list .rows < 18446744073709551615 ⌝ }
+    ensures { λ r. ⌜ r ≡ openWith list bound ⌝ }
 {
-    model::bound_up_to(store, m, b, cost) < cost
+    let rows = list.rows + 1;
+    if bound < list.bound {
+        Open {
+            rows,
+            at: list.rows,
+            bound,
+        }
+    } else {
+        Open {
+            rows,
+            at: list.at,
+            bound: list.bound,
+        }
+    }
+}
+
+// The first n rows, all with bounds below the cost. A bound is summed only as far as the smallest one before it.
+pub fn smallest(store: &[u8], m: Model, table: &[i16], n: usize, cost: u64) -> Open
+    requires { ⌜ (checkModel (now store) m ≡ Pass) × All (λ b. bound m (pointsOf (now store)) b < cost) (rowsOf (now table) n) ⌝ }
+    ensures { λ r. ⌜ r ≡ openOf (bound m (pointsOf (now (store .entry)))) cost (rowsOf (now (table .entry)) n) ⌝ }
+{
+    let mut list = none_open(cost);
+    while list.rows < n {
+        let b = rows::read_row(table, list.rows);
+        list = with_box(list, model::bound_up_to(store, m, b, list.bound));
+    }
+    list
+}
+
+// A box's bound as far as it is below a cost.
+pub fn bound_below(store: &[u8], m: Model, b: Box, cost: u64) -> u64
+    requires { ⌜ checkModel (now store) m ≡ Pass ⌝ }
+    ensures { λ r. ⌜ SameBelow cost r (bound m (pointsOf (now (store .entry))) b) ⌝ }
+{
+    model::bound_up_to(store, m, b, cost)
 }
 
 // How many of the open boxes but the one at `at` have bounds below a cost.
@@ -58,7 +84,7 @@ pub fn kept_rows(store: &[u8], m: Model, table: &[i16], n: usize, at: usize, cos
     let mut i = 0;
     while i < n {
         if i != at {
-            if below(store, m, rows::read_row(table, i), cost) {
+            if bound_below(store, m, rows::read_row(table, i), cost) < cost {
                 kept += 1;
             }
         }
@@ -67,30 +93,30 @@ pub fn kept_rows(store: &[u8], m: Model, table: &[i16], n: usize, at: usize, cos
     kept
 }
 
-// Row i becomes row `kept` if its bound is below the cost.
-fn keep_row(store: &[u8], m: Model, table: &mut [i16], i: usize, kept: usize, cost: u64) -> usize
-    requires { ⌜ (checkModel (now store) m ≡ Pass) × (kept ≤ i) × (i < rowCount (now table)) ⌝ }
-    ensures { λ r. ⌜ r ≡ cond (ltb (bound m (pointsOf (now (store .entry))) (rowAt (now (table .entry)) i)) cost) (kept + 1) kept ⌝ }
-    ensures { λ _. ⌜ now (table .exit) ≡ cond (ltb (bound m (pointsOf (now (store .entry))) (rowAt (now (table .entry)) i)) cost) (withRow (now (table .entry)) kept (rowAt (now (table .entry)) i)) (now (table .entry)) ⌝ }
+// Writes a box behind the open ones if its bound is below the cost.
+pub fn keep(table: &mut [i16], list: Open, b: Box, bound: u64, cost: u64) -> Open
+    requires { ⌜ list .rows ≤ rowCount (now table) ⌝ }
+    ensures told { λ r. ⌜ r ≡ cond (ltb bound cost) (openWith list bound) list ⌝ }
+    ensures table { λ _. ⌜ now (table .exit) ≡ cond (ltb bound cost) (withRow (now (table .entry)) (list .rows) b) (now (table .entry)) ⌝ }
 {
-    let b = rows::read_row(table, i);
-    if below(store, m, b, cost) {
-        rows::write_row(table, kept, b);
-        return kept + 1;
+    if bound < cost {
+        rows::write_row(table, list.rows, b);
+        return with_box(list, bound);
     }
-    kept
+    list
 }
 
-// Of the first n rows those with bounds below the cost become the first, in order. Says how many.
-pub fn compact(store: &[u8], m: Model, table: &mut [i16], n: usize, cost: u64) -> usize
+// Of the first n rows those with bounds below the cost become the first, in order.
+pub fn compact(store: &[u8], m: Model, table: &mut [i16], n: usize, cost: u64) -> Open
     requires { ⌜ (checkModel (now store) m ≡ Pass) × (n ≤ rowCount (now table)) ⌝ }
-    ensures { λ r. ⌜ Listed (keepBelow (bound m (pointsOf (now (store .entry)))) cost (rowsOf (now (table .entry)) n)) (now (table .entry)) n r (now (table .exit)) ⌝ }
+    ensures { λ r. ⌜ Listed (bound m (pointsOf (now (store .entry)))) cost (keepBelow (bound m (pointsOf (now (store .entry)))) cost (rowsOf (now (table .entry)) n)) (now (table .entry)) n r (now (table .exit)) ⌝ }
 {
-    let mut kept = 0;
+    let mut list = none_open(cost);
     let mut i = 0;
     while i < n {
-        kept = keep_row(store, m, table, i, kept, cost);
+        let b = rows::read_row(table, i);
+        list = keep(table, list, b, bound_below(store, m, b, cost), cost);
         i += 1;
     }
-    kept
+    list
 }

@@ -35,7 +35,7 @@ run-requires c κs =
     let q = c .before .before in
     let p = has (q .before .before .before .before .before) in
     let b = q .begin .ensures in
-    ((p .checked, omega (arith, p .rows, b .long), p .inside), record { best = b .best; state = b .state; long = refl; rest = refl })
+    ((p .checked, omega (arith, p .rows, b .long), p .inside), record { exact = b .exact; state = b .state; long = refl; rest = refl })
 
 enum-known-why : tie.Need-enum-known-why
 enum-known-why c = search needs

@@ -5,12 +5,14 @@ use mathlib.Core.Bool.{Bool, true, false, cond}
 use mathlib.Core.List.{List}
 use Prim.Native.Nat.{ℕ, _+_, _≤_}
 use native.Mathlib.Omega.{arith}
+use lib.Dec.{ltb}
 use lib.IntN.{ℤ}
 use Rattle.boxes.specs.declared.Box.{Box}
 use Rattle.points.specs.Points.{pointsOf}
 use Rattle.model.specs.Cost.{cost, bound}
 use Rattle.rows.specs.Rows.{rowAt}
-use Rattle.search.specs.Inside.{branchesOf}
+use Rattle.search.specs.Inside.{Cut}
+use Rattle.search.proofs.Listing.{one-at-most}
 use Rattle.search.proofs.Stepping.{step-told, step-fits, step-moved}
 use borrow.Author.Needs.{needs}
 use Rattle.search.proofs.branch.step.Statement.{statement}
@@ -21,19 +23,19 @@ read-row-requires c κs = search needs
 
 cut-box-requires : tie.Need-cut-box-requires
 cut-box-requires c κs =
-    let start = c .before .before .before .before in
-    (start .pre .0, start .pre .1 .best, rw (c .read-row .ensures) (start .pre .1 .wide))
+    let start = c .before .before .before .before .before in
+    (start .pre .0, start .pre .1 .exact .best, rw (c .read-row .ensures) (start .pre .1 .wide))
 
-one-if-requires : tie.Need-one-if-requires
-one-if-requires c κs = search needs
+added-requires : tie.Need-added-requires
+added-requires c κs = search needs
 
-one-if-requires-2 : tie.Need-one-if-requires-2
-one-if-requires-2 c κs = search needs
+added-requires-2 : tie.Need-added-requires-2
+added-requires-2 c κs = search needs
 
 -- what is known once the box is cut
 module _ (c : tie.After-cut-box) where
   abbrev start : tie.Start
-  start = c .before .before .before .before .before
+  start = c .before .before .before .before .before .before
 
   abbrev C : List ℤ → ℕ
   C = cost (start .args .m) (pointsOf (start .args .store .now))
@@ -44,18 +46,14 @@ module _ (c : tie.After-cut-box) where
   abbrev table : List ℤ
   table = start .args .table .now
 
-  made : c .cut-box .result ≡ branchesOf C B (rowAt table (start .args .at)) (start .args .s .best .vector)
-  made = c .cut-box .ensures ∙ ap (λ (b : Box). branchesOf C B b (start .args .s .best .vector)) (c .before .read-row .ensures)
+  made : Cut C B (rowAt table (start .args .s .list .at)) (start .args .s .best .vector) (c .cut-box .result)
+  made = rw (c .before .read-row .ensures) at (c .cut-box .ensures)
 
 -- and how many halves are kept
-ones : (b : Bool) → cond b 1 0 ≤ 1
-ones true = omega arith
-ones false = omega arith
-
-few : (c : tie.After-one-if2) → c .before .one-if .result + c .one-if2 .result ≤ 2
+few : (c : tie.After-added2) → c .before .added .result + c .added2 .result ≤ 2
 few c =
     let q = c .before .before .before .before .before in
-    omega (arith, c .before .one-if .ensures, c .one-if2 .ensures, ones (q .cut-box .result .left .kept), ones (q .cut-box .result .right .kept))
+    omega (arith, c .before .added .ensures, c .added2 .ensures, one-at-most (ltb (q .cut-box .result .left .bound) (q .cut-box .result .best .cost)), one-at-most (ltb (q .cut-box .result .right .bound) (q .cut-box .result .best .cost)))
 
 add-more : tie.Need-add-more
 add-more c = omega (arith, few c)
@@ -63,10 +61,13 @@ add-more c = omega (arith, few c)
 too-many-requires : tie.Need-too-many-requires
 too-many-requires c κs =
     let p = start (c .before .before .before .before .before .before) .pre in
-    (p .0, p .1 .inside, p .1 .room, few (c .before), p .1 .below)
+    (p .0, p .1 .inside, p .1 .room, omega (arith, few (c .before)), p .1 .below)
 
 same-length : tie.Need-same-length
 same-length c = search needs
+
+full-or-not : {P : Type 0} → false ≡ true → P
+full-or-not e = let z : _≡_ {A = ℕ} 0 1 = ap (λ (b : Bool). cond b 1 0) e in absurd (omega arith)
 
 returns : tie.Need-returns
 returns c =
@@ -79,9 +80,9 @@ returns c =
           let q = ones .before .before .before .before .before in
           let a = start q .args in
           sym (c .if1 .taken)
-          ∙ step-told (C q) (B q) (table q) (a .s) (a .at) (start q .pre .1) (q .cut-box .result) (made q) (tested .too-many .result)
-          (ones .before .one-if .result) (ones .one-if2 .result) (ones .before .one-if .ensures) (ones .one-if2 .ensures) (tested .too-many .ensures);
-      moved = λ e. let z : _≡_ {A = ℕ} 0 1 = cc in absurd (omega arith);
+          ∙ step-told (C q) (B q) (table q) (a .s) (start q .pre .1) (q .cut-box .result) (made q) (tested .too-many .result)
+          (ones .before .added .result) (ones .added2 .result) (ones .before .added .ensures) (ones .added2 .ensures) (tested .too-many .ensures);
+      moved = λ e. full-or-not (sym e);
     }
 
 place-requires : tie.Need-place-requires
@@ -92,8 +93,8 @@ place-requires c κs =
     let a = start q .args in
     let p = start q .pre in (
       (p .0, p .1 .inside, p .1 .room, p .1 .below),
-      step-fits (C q) (B q) (table q) (a .s) (a .at) (p .1) (q .cut-box .result) (made q) (tested .too-many .result)
-          (ones .before .one-if .result) (ones .one-if2 .result) (ones .before .one-if .ensures) (ones .one-if2 .ensures) (tested .too-many .ensures) (c .before .if1 .left),
+      step-fits (C q) (B q) (table q) (a .s) (p .1) (q .cut-box .result) (made q) (tested .too-many .result)
+          (ones .before .added .result) (ones .added2 .result) (ones .before .added .ensures) (ones .added2 .ensures) (tested .too-many .ensures) (c .before .if1 .left),
     )
 
 add-t23 : tie.Need-add-t23
@@ -117,15 +118,15 @@ returns-2 c =
     let a = start q .args in
     let p = start q .pre in
     record {
-      same = λ e. let z : _≡_ {A = ℕ} 0 1 = cc in absurd (omega arith);
-      kept = λ e. let z : _≡_ {A = ℕ} 0 1 = cc in absurd (omega arith);
+      same = λ e. full-or-not e;
+      kept = λ e. full-or-not e;
       told =
           sym (left .if1 .left)
-          ∙ step-told (C q) (B q) (table q) (a .s) (a .at) (p .1) (q .cut-box .result) (made q) (tested .too-many .result)
-          (ones .before .one-if .result) (ones .one-if2 .result) (ones .before .one-if .ensures) (ones .one-if2 .ensures) (tested .too-many .ensures);
+          ∙ step-told (C q) (B q) (table q) (a .s) (p .1) (q .cut-box .result) (made q) (tested .too-many .result)
+          (ones .before .added .result) (ones .added2 .result) (ones .before .added .ensures) (ones .added2 .ensures) (tested .too-many .ensures);
       moved = λ e.
-          step-moved (C q) (B q) (table q) (a .s) (a .at) (p .1) (q .cut-box .result) (made q) (placed .place .result) (placed .place .last .1 .1 .0)
-          (placed .place .ensures) (a .s .count + 1) (c .larger .result) refl (c .larger .ensures);
+          step-moved (C q) (B q) (table q) (a .s) (p .1) (q .cut-box .result) (made q) (placed .place .result) (placed .place .last .1 .1 .0)
+          (placed .place .ensures) _ (c .larger .result) (omega arith) (omega (arith, c .larger .ensures));
     }
 
 pub step-spec : {M : Type 1} → statement M
@@ -134,8 +135,8 @@ step-spec =
     (tie.spec
     read-row-requires
     cut-box-requires
-    one-if-requires
-    one-if-requires-2
+    added-requires
+    added-requires-2
     add-more
     too-many-requires
     same-length

@@ -5,25 +5,38 @@ use Prim.Native.Nat.{_-_, _≤_}
 use native.Mathlib.Omega.{arith}
 use Rattle.points.specs.Points.{pointsOf}
 use Rattle.model.specs.Cost.{bound}
-use Rattle.search.proofs.Compacting.{Compacted, none-compacted, one-compacted}
+use Rattle.rows.specs.Rows.{rowsOf}
+use Rattle.certificate.specs.Search.{keepBelow}
+use Rattle.search.specs.Inside.{Listed}
+use Rattle.search.proofs.Listing.{none-listed, row-listed}
+use borrow.Author.Needs.{needs}
 use Rattle.search.proofs.scan.compact.Statement.{statement}
 use Rattle.search.proofs.scan.compact.Tie as tie
 
 abbrev Inv-loop : tie.InvT-loop
-Inv-loop store m table₀ n cost kept₀ i₀ table kept i = (i ≤ n) × Compacted (bound m (pointsOf store)) cost table₀ i kept table
+Inv-loop store m table₀ n cost open₀ i₀ table o i =
+    (i ≤ n) × Listed (bound m (pointsOf store)) cost (keepBelow (bound m (pointsOf store)) cost (rowsOf table₀ i)) table₀ i o table
 
 abbrev μ-loop : tie.MeasureT-loop
-μ-loop store m table₀ n cost kept₀ i₀ table kept i = n - i
+μ-loop store m table₀ n cost open₀ i₀ table o i = n - i
+
+none-open-requires : tie.Need-none-open-requires Inv-loop μ-loop
+none-open-requires c κs = search needs
 
 loop-holds : tie.Need-loop-holds Inv-loop μ-loop
+unfolding rowsOf keepBelow
 loop-holds c =
-    let a = c .before .args in
-    (omega arith, none-compacted (bound (a .m) (pointsOf (a .store .now))) (a .cost) (a .table .now))
+    let a = c .before .before .args in
+    (omega arith, rw (c .none-open .ensures) (none-listed (bound (a .m) (pointsOf (a .store .now))) (a .cost) (a .table .now)))
 
-keep-row-requires : tie.Need-keep-row-requires Inv-loop μ-loop
-keep-row-requires c κs =
-    let l = c .before .before in
-    (l .before .before .pre .0, omega (arith, l .loop .inv .1 .few), omega (arith, l .loop .inv .1 .long))
+read-row-requires : tie.Need-read-row-requires Inv-loop μ-loop
+read-row-requires c κs = search needs
+
+bound-below-requires : tie.Need-bound-below-requires Inv-loop μ-loop
+bound-below-requires c κs = search needs
+
+keep-requires : tie.Need-keep-requires Inv-loop μ-loop
+keep-requires c κs = search needs
 
 add-i : tie.Need-add-i Inv-loop μ-loop
 add-i c = omega arith
@@ -33,11 +46,16 @@ loop-less c = omega arith
 
 loop-again : tie.Need-loop-again Inv-loop μ-loop
 loop-again c =
-    let l = c .before .before .before .before in
-    let a = l .before .before .args in (
+    let kept = c .before in
+    let found = kept .before in
+    let read = found .before .before in
+    let l = read .before .before .before in
+    let a = l .before .before .before .args in
+    let B = bound (a .m) (pointsOf (a .store .now)) in (
       omega arith,
-      rw (c .before .keep-row .ensures .0, c .before .keep-row .ensures .1)
-          (one-compacted (bound (a .m) (pointsOf (a .store .now))) (a .cost) (a .table .now) (l .loop .i) (l .loop .kept) (l .loop .table) (omega arith) (l .loop .inv .1)),
+      rw (kept .keep .ensures .0, kept .keep .ensures .1, read .read-row .ensures)
+          (row-listed B (a .cost) (a .table .now) (l .loop .i) (l .loop .list) (l .loop .table) (omega arith) (l .loop .inv .1) (found .bound-below .result)
+          (rw (read .read-row .ensures) at (found .bound-below .ensures))),
     )
 
 same-length : tie.Need-same-length Inv-loop μ-loop
@@ -46,7 +64,7 @@ same-length c = c .before .loop .inv .1 .long
 returns : tie.Need-returns Inv-loop μ-loop
 returns c =
     let l = c .before in
-    let all : l .loop .i ≡ l .before .before .args .n = omega arith in
+    let all : l .loop .i ≡ l .before .before .before .args .n = omega arith in
     rw all at (l .loop .inv .1)
 
 pub compact-spec : {M : Type 1} → statement M
@@ -55,8 +73,11 @@ compact-spec =
     (tie.spec
     Inv-loop
     μ-loop
+    none-open-requires
     loop-holds
-    keep-row-requires
+    read-row-requires
+    bound-below-requires
+    keep-requires
     add-i
     loop-less
     loop-again

@@ -1,14 +1,12 @@
 -- The invariant: the number is that of the first i rows. The measure is the rows left.
 use borrow.Author.Needs.{needs}
-use borrow.Author.Tests.{ltb-true, ltb-false}
 use mathlib.Core.Path.{_≡_}
 use mathlib.Core.Logic.{⊎-elim}
 use Prim.Native.Nat.{_-_, _≤_}
 use native.Mathlib.Omega.{arith}
 use Rattle.points.specs.Points.{pointsOf}
 use Rattle.model.specs.Cost.{bound}
-use Rattle.search.proofs.UpTo.{test-of}
-use Rattle.search.proofs.Scanning.{Counted, none-counted, counted-taken, counted-kept, counted-dropped}
+use Rattle.search.proofs.Counting.{Counted, none-counted, counted-taken, counted-kept, counted-dropped}
 use Rattle.search.proofs.scan.kept_rows.Statement.{statement}
 use Rattle.search.proofs.scan.kept_rows.Tie as tie
 
@@ -26,8 +24,8 @@ loop-holds c =
 read-row-requires : tie.Need-read-row-requires Inv-loop μ-loop
 read-row-requires c κs = search needs
 
-below-requires : tie.Need-below-requires Inv-loop μ-loop
-below-requires c κs = search needs
+bound-below-requires : tie.Need-bound-below-requires Inv-loop μ-loop
+bound-below-requires c κs = search needs
 
 add-kept : tie.Need-add-kept Inv-loop μ-loop
 add-kept c = omega (arith, c .before .before .before .before .before .loop .inv .1 .few)
@@ -48,12 +46,12 @@ loop-again c =
           (λ w.
           rw (w .4)
           (counted-kept B (a .cost) (a .table .now) (a .at) (l .loop .i) (l .loop .kept) (l .loop .inv .1) (w .0 .taken)
-          (ltb-true _ _ (test-of B (a .cost) (w .1 .ensures) (w .2 .ensures) (w .3 .taken)))))
+          (let found = rw (w .1 .ensures) at (w .2 .ensures) in omega (arith, w .3 .taken))))
           (⊎-elim
           (λ w.
           rw (w .4)
           (counted-dropped B (a .cost) (a .table .now) (a .at) (l .loop .i) (l .loop .kept) (l .loop .inv .1) (w .0 .taken)
-          (ltb-false _ _ (test-of B (a .cost) (w .1 .ensures) (w .2 .ensures) (w .3 .left)))))
+          (let found = rw (w .1 .ensures) at (w .2 .ensures) in omega (arith, w .3 .left))))
           (λ w. rw (w .1) (counted-taken B (a .cost) (a .table .now) (a .at) (l .loop .i) (l .loop .kept) (l .loop .inv .1) (w .0 .left))))
           (c .if1 .came),
     )
@@ -73,7 +71,7 @@ kept-rows-spec =
     μ-loop
     loop-holds
     read-row-requires
-    below-requires
+    bound-below-requires
     add-kept
     add-i
     loop-less

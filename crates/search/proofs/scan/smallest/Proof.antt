@@ -1,31 +1,39 @@
--- The invariant: the place and the bound are those of the first i rows. The measure is the rows left.
+-- The invariant: what is told is of the rows passed. The measure is the rows left.
 use borrow.Author.Needs.{needs}
-use mathlib.Core.Path.{_≡_}
-use mathlib.Core.Logic.{⊎-elim}
-use Prim.Native.Nat.{ℕ, _-_, _≤_, _<_}
+use mathlib.Core.Path.{_≡_, sym, ap, _∙_}
+use mathlib.Core.Bool.{true}
+use mathlib.Core.List.{List}
+use Prim.Native.Nat.{ℕ, _+_, _-_, _≤_, _<_, min}
 use native.Mathlib.Omega.{arith}
+use lib.IntN.{ℤ}
 use Rattle.boxes.specs.declared.Box.{Box}
 use Rattle.boxes.specs.Split.{zeroBox}
 use Rattle.points.specs.Points.{pointsOf}
 use Rattle.model.specs.Cost.{bound}
-use Rattle.rows.specs.Rows.{rowAt}
+use Rattle.rows.specs.Rows.{rowAt, rowsOf}
 use Rattle.rows.proofs.Rows.{rows-at, rows-length}
 use Rattle.certificate.proofs.Lists.{all-at}
-use Rattle.search.proofs.UpTo.{found-up-to}
-use Rattle.search.proofs.Scanning.{Scanned, none-scanned, scanned-new, scanned-old}
+use Rattle.search.specs.declared.scan.Open.{Open}
+use Rattle.search.specs.Inside.{SameBelow, openOf}
+use Rattle.search.proofs.UpTo.{found-below}
+use Rattle.search.proofs.Listing.{none-told, row-told, rows-if}
 use Rattle.search.proofs.scan.smallest.Statement.{statement}
 use Rattle.search.proofs.scan.smallest.Tie as tie
 
 abbrev Inv-loop : tie.InvT-loop
-Inv-loop store m table n cost at₀ least₀ i₀ at least i = (i ≤ n) × Scanned (bound m (pointsOf store)) cost table i least at
+Inv-loop store m table n cost list₀ list = (list .rows ≤ n) × (list ≡ openOf (bound m (pointsOf store)) cost (rowsOf table (list .rows)))
 
 abbrev μ-loop : tie.MeasureT-loop
-μ-loop store m table n cost at₀ least₀ i₀ at least i = n - i
+μ-loop store m table n cost list₀ list = n - list .rows
+
+none-open-requires : tie.Need-none-open-requires Inv-loop μ-loop
+none-open-requires c κs = search needs
 
 loop-holds : tie.Need-loop-holds Inv-loop μ-loop
+unfolding rowsOf
 loop-holds c =
-    let a = c .before .args in
-    (omega arith, none-scanned (bound (a .m) (pointsOf (a .store .now))) (a .cost) (a .table .now))
+    let a = c .before .before .args in
+    rw (c .none-open .ensures) (omega arith, none-told (bound (a .m) (pointsOf (a .store .now))) (a .cost))
 
 read-row-requires : tie.Need-read-row-requires Inv-loop μ-loop
 read-row-requires c κs = search needs
@@ -33,53 +41,59 @@ read-row-requires c κs = search needs
 bound-up-to-requires : tie.Need-bound-up-to-requires Inv-loop μ-loop
 bound-up-to-requires c κs = search needs
 
-add-i : tie.Need-add-i Inv-loop μ-loop
-add-i c = omega arith
+with-box-requires : tie.Need-with-box-requires Inv-loop μ-loop
+with-box-requires c κs = omega arith
 
-loop-less : tie.Need-loop-less Inv-loop μ-loop
-loop-less c = omega arith
-
--- what a turn knows, once the bound is found
-module _ (c : tie.After-bound-up-to Inv-loop μ-loop) where
+-- what a turn knows, once the row is passed
+module _ (c : tie.After-with-box Inv-loop μ-loop) where
   abbrev turn : tie.At-loop Inv-loop μ-loop
-  turn = c .before .before .before
+  turn = c .before .before .before .before .before
 
   abbrev start : tie.Start Inv-loop μ-loop
-  start = turn .before .before
+  start = turn .before .before .before
 
   abbrev B : Box → ℕ
   B = bound (start .args .m) (pointsOf (start .args .store .now))
 
-  abbrev row : Box
-  row = rowAt (start .args .table .now) (turn .loop .i)
+  abbrev t : List ℤ
+  t = start .args .table .now
 
-  row-below : B row < start .args .cost
+  abbrev i : ℕ
+  i = turn .loop .list .rows
+
+  one-more : c .with-box .result .rows ≡ i + 1
+  one-more = ap (λ (o : Open). o .rows) (c .with-box .ensures) ∙ rows-if true (turn .loop .list) (c .before .bound-up-to .result)
+
+  row-below : B (rowAt t i) < start .args .cost
   row-below =
-      let t = start .args .table .now in
       let n = start .args .n in
-      let i = turn .loop .i in
       rw (rows-at t n i zeroBox (omega arith)) at (all-at zeroBox (start .pre .1) i (omega (arith, rows-length t n)))
+
+  found : SameBelow (turn .loop .list .bound) (c .before .bound-up-to .result) (B (rowAt t i))
+  found =
+      found-below (start .args .store .now) (start .args .m) (start .pre .0) (c .before .before .read-row .result) (turn .loop .list .bound) _ _
+      (c .before .bound-up-to .ensures) (omega arith)
+      ∙ ap (λ (b : Box). min (B b) (turn .loop .list .bound)) (c .before .before .read-row .ensures)
+
+loop-less : tie.Need-loop-less Inv-loop μ-loop
+loop-less c = omega (arith, one-more c)
 
 loop-again : tie.Need-loop-again Inv-loop μ-loop
 loop-again c =
-    let p = c .before in
-    let l = turn p .loop in
-    let a = start p .args in
-    let found = found-up-to (a .store .now) (a .m) (start p .pre .0) _ (p .bound-up-to .ensures) (p .before .read-row .ensures) in (
-      omega arith,
-      ⊎-elim
-          (λ w. rw (w .1, w .2) (scanned-new (B p) (a .cost) (a .table .now) (l .i) (l .least) (l .at) _ _ (l .inv .1) found (omega (arith, l .inv .1 .within)) (row-below p) (w .0 .taken)))
-          (λ w. rw (w .1, w .2) (scanned-old (B p) (a .cost) (a .table .now) (l .i) (l .least) (l .at) _ _ (l .inv .1) found (omega (arith, l .inv .1 .within)) (row-below p) (w .0 .left)))
-          (c .if1 .came),
+    let l = turn c .loop in
+    let cost = start c .args .cost in (
+      omega (arith, one-more c),
+      c .with-box .ensures
+          ∙ row-told (B c) cost (t c) (i c) (l .list) (c .before .bound-up-to .result) (l .inv .1) (found c) (row-below c)
+          ∙ ap (λ (k : ℕ). openOf (B c) cost (rowsOf (t c) k)) (sym (one-more c)),
     )
 
 returns : tie.Need-returns Inv-loop μ-loop
 returns c =
-    let l = c .before in
-    let a = l .before .before .args in
-    let all : l .loop .i ≡ a .n = omega arith in
-    let s = rw all at (l .loop .inv .1) in
-    (s .lowest, s .first)
+    let l = c .before .before in
+    let a = l .before .before .before .args in
+    let all : l .loop .list .rows ≡ a .n = omega arith in
+    l .loop .inv .1 ∙ ap (λ (k : ℕ). openOf (bound (a .m) (pointsOf (a .store .now))) (a .cost) (rowsOf (a .table .now) k)) all
 
 pub smallest-spec : {M : Type 1} → statement M
 smallest-spec =
@@ -87,10 +101,11 @@ smallest-spec =
     (tie.spec
     Inv-loop
     μ-loop
+    none-open-requires
     loop-holds
     read-row-requires
     bound-up-to-requires
-    add-i
+    with-box-requires
     loop-less
     loop-again
     returns)
