@@ -1,6 +1,7 @@
 //! A search in plain Rust without a place for bounds: it finds those of its open boxes again, once a step, each only as far as it
 //! is compared. These are the evaluations and the caps of the proved search.
 use crate::search::{Answer, Domain, Job, Kind, Progress};
+use std::ops::Range;
 
 /// A row of the table: low, then high.
 type Row = [i16; 16];
@@ -61,18 +62,52 @@ impl Table<'_> {
             || fell && kept_rows(job, open, self.at, cost) + more <= self.rows.len()
     }
 
+    /// The first with the smallest bound of some rows, of which none is below `low`.
+    fn smallest(&self, job: &Job, rows: Range<usize>, cost: u64, low: u64) -> (usize, u64) {
+        let (mut at, mut least) = (rows.start, cost);
+        for i in rows {
+            if least <= low {
+                break;
+            }
+            let bound = job.bound_up_to(&read(&self.rows[i]), least);
+            if bound < least {
+                (at, least) = (i, bound);
+            }
+        }
+        (at, least)
+    }
+
+    /// Finds the first box with the smallest bound where the one before it was taken out and all others stay: those before its place
+    /// had larger bounds, so they are looked at only if none behind it has as small a one.
+    fn find_next(&mut self, job: &Job, cost: u64) {
+        let (place, low) = (self.at, self.bound);
+        (self.at, self.bound) = self.smallest(job, place..self.open, cost, low);
+        if low < self.bound {
+            let front = self.smallest(job, 0..place, cost, low);
+            if front.1 <= self.bound {
+                (self.at, self.bound) = front;
+            }
+        }
+    }
+
+    /// Keeps the boxes with bounds below `cost`, in order.
+    fn compact(&mut self, job: &Job, cost: u64) {
+        let rows = self.open;
+        (self.open, self.at, self.bound) = (0, 0, cost);
+        for i in 0..rows {
+            let b = read(&self.rows[i]);
+            self.keep(&b, job.bound_up_to(&b, cost), cost);
+        }
+    }
+
     /// Takes out the first box with the smallest bound and, where the cost fell, those with bounds not below it.
     fn close_up(&mut self, job: &Job, cost: u64, fell: bool) {
         self.rows.copy_within(self.at + 1..self.open, self.at);
-        let left = self.open - 1;
-        (self.open, self.at, self.bound) = (0, 0, cost);
-        for i in 0..left {
-            let b = read(&self.rows[i]);
-            if fell {
-                self.keep(&b, job.bound_up_to(&b, cost), cost);
-            } else {
-                self.count(job.bound_up_to(&b, self.bound));
-            }
+        self.open -= 1;
+        if fell {
+            self.compact(job, cost);
+        } else {
+            self.find_next(job, cost);
         }
     }
 }

@@ -1,12 +1,12 @@
 -- The smallest bound and the first box that has it, of a list and of a list with one more box behind. Assumes nothing.
-use mathlib.Core.Path.{_≡_, ap}
-use mathlib.Core.List.{List, [], _∷_, _++_}
-use Prim.Native.Nat.{ℕ, zero, suc, _≤_, _<_, min}
+use mathlib.Core.Path.{_≡_, refl, ap, _∙_}
+use mathlib.Core.List.{List, [], _∷_, _++_, append-nil, append-assoc}
+use Prim.Native.Nat.{ℕ, zero, suc, _+_, _≤_, _<_, min}
 use native.Mathlib.Omega.{arith}
 use native.Mathlib.Nat.{le-refl}
 use borrow.Author.Tests.{le-leb, lt-leb}
 use lib.Dec.{leb, leb→le, nleb→lt}
-use lib.ListN.{length}
+use lib.ListN.{length, length-append, take}
 use Rattle.integers.specs.Lists.{All, none, also}
 use Rattle.integers.proofs.Lists.{all-head, all-map, append-all}
 use Rattle.integers.proofs.Tests.{by-cond}
@@ -117,6 +117,49 @@ module _ (bound : Box → ℕ) where
     -- and else that stays the one it was
     pub first-old : bound b < c → lowerBound bound c bs ≤ bound b → firstSmallest bound (bs ++ (b ∷ [])) ≡ firstSmallest bound bs
     first-old below above = not-smaller c bs b (lower-open c bs (omega arith)) above
+
+  -- The first with the smallest bound of two lists, one behind the other: it is in the first one where none of the second has a
+  -- smaller bound,
+  pub append-old :
+      (c : ℕ) (bs ds : List Box) →
+      All (λ d. lowerBound bound c bs ≤ bound d) ds →
+      All (λ d. bound d < c) ds →
+      (lowerBound bound c (bs ++ ds) ≡ lowerBound bound c bs) × (firstSmallest bound (bs ++ ds) ≡ firstSmallest bound bs)
+  append-old c bs [] above below = rw (append-nil bs) (refl, refl)
+  append-old c bs (d ∷ ds) (also h hs) (also k ks) =
+      let more = bs ++ (d ∷ []) in
+      let same : lowerBound bound c more ≡ lowerBound bound c bs = omega (arith, lower-snoc c bs d k) in
+      let rest = append-old c more ds (rw same hs) ks in
+      rw (← append-assoc bs (d ∷ []) ds) (rest .0 ∙ same, rest .1 ∙ first-old c bs d k h)
+
+  -- where there is a box, L does not depend on C
+  lower-any : (b c : ℕ) (bs : List Box) → 1 ≤ length bs → lowerBound bound b bs ≡ lowerBound bound c bs
+  unfolding lowerBound
+  lower-any b c [] some = absurd (omega arith)
+  lower-any b c (d ∷ ds) some = refl
+
+  -- and in the second where all of the first have larger bounds than L of the second.
+  pub append-new :
+      (c : ℕ) (bs ds : List Box) →
+      All (λ b. lowerBound bound c ds < bound b) bs →
+      1 ≤ length ds →
+      (lowerBound bound c (bs ++ ds) ≡ lowerBound bound c ds) × (firstSmallest bound (bs ++ ds) ≡ length bs + firstSmallest bound ds)
+  unfolding lowerBound firstSmallest
+  append-new c [] ds larger some = (refl, omega arith)
+  append-new c (b ∷ bs) ds (also h hs) some =
+      let rest = append-new c bs ds hs some in
+      let low = lower-any (bound b) c (bs ++ ds) (omega (arith, length-append bs ds)) ∙ rest .0 in
+      (omega arith, rw (lt-leb (bound b) (lowerBound bound (bound b) (bs ++ ds)) (omega arith)) (omega (arith, rest .1)))
+
+  -- the boxes before the first with the smallest bound have larger ones
+  pub larger-front : (c : ℕ) (bs : List Box) → All (λ b. lowerBound bound c bs < bound b) (take (firstSmallest bound bs) bs)
+  unfolding lowerBound firstSmallest
+  larger-front c [] = none
+  larger-front c (b ∷ bs) =
+      let low = lowerBound bound (bound b) bs in
+      by-cond (λ k. All (λ d. min (bound b) low < bound d) (take k (b ∷ bs))) (leb (bound b) low)
+      (λ t. none)
+      (λ t. let less = nleb→lt (bound b) low t in also {x = b} (omega arith) (all-map (λ d h. omega arith) (larger-front (bound b) bs)))
 
 pub smallest : AllSmallest
 smallest bound bs some =

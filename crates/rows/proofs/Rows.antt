@@ -8,7 +8,7 @@ use native.Mathlib.Numerals.{add-one}
 use native.Mathlib.Omega.{arith}
 use lib.IntN.{ℤ}
 use lib.ListN.{length, getD, take, drop, length-append, length-drop, List·getD-append}
-use lib.Seq.{take-at, drop-at, drop-drop, length-take-le, getD-at}
+use lib.Seq.{take-all, take-at, take-append-le, drop-at, drop-drop, length-take-le, getD-at}
 use Rattle.integers.proofs.Tests.{le-or-lt}
 use Rattle.boxes.specs.declared.Box.{Box}
 use Rattle.boxes.specs.Split.{zeroBox}
@@ -138,6 +138,16 @@ pub rows-length : (t : List ℤ) (n : ℕ) → length (rowsOf t n) ≡ n
 unfolding rowsOf
 rows-length t zero = refl
 rows-length t (suc n) = length-append (rowsOf t n) (rowAt t n ∷ []) ∙ omega (arith, rows-length t n)
+
+-- those before row i are the first i
+pub rows-take : (t : List ℤ) (n i : ℕ) → i ≤ n → take i (rowsOf t n) ≡ rowsOf t i
+unfolding rowsOf
+rows-take t zero i h = let e : i ≡ 0 = omega arith in rw e
+rows-take t (suc n) i h =
+    ⊎-elim
+    (λ (k : suc n ≤ i). let e : i ≡ suc n = omega arith in rw e (take-all (suc n) (rowsOf t (suc n)) (omega (arith, rows-length t (suc n)))))
+    (λ (k : i < suc n). take-append-le i (rowsOf t n) (rowAt t n ∷ []) (omega (arith, rows-length t n)) ∙ rows-take t n i (omega arith))
+    (le-or-lt (suc n) i)
 
 pub rows-at : (t : List ℤ) (n i : ℕ) (other : Box) → i < n → getD (rowsOf t n) i other ≡ rowAt t i
 unfolding rowsOf

@@ -3,22 +3,25 @@ use borrow.Author.Tests.{lt-ltb, le-ltb}
 use mathlib.Core.Bool.{true, false}
 use mathlib.Core.Path.{_≡_, sym, ap, _∙_}
 use mathlib.Core.List.{List}
-use Prim.Native.Nat.{ℕ, _+_, _*_, _-_, _≤_, _<_}
+use Prim.Native.Nat.{ℕ, suc, _+_, _*_, _-_, _≤_, _<_}
 use native.Mathlib.Omega.{arith}
 use lib.Dec.{ltb}
 use lib.IntN.{ℤ}
-use lib.ListN.{length}
+use lib.ListN.{length, take, drop}
+use lib.Seq.{take-at, drop-at, length-take-le}
 use Rattle.integers.specs.Lists.{All}
+use Rattle.integers.proofs.Lists.{append-all}
 use Rattle.boxes.specs.declared.Box.{Box}
 use Rattle.boxes.specs.Split.{zeroBox}
 use Rattle.rows.specs.Rows.{rowCount, rowsOf, withoutRow}
-use Rattle.rows.proofs.Rows.{rows-length, rest-later}
+use Rattle.rows.proofs.Rows.{rows-length, rows-take, rest-later}
 use Rattle.rows.proofs.Removal.{length-without, rest-without, rows-without}
-use Rattle.certificate.specs.Search.{keepBelow, without}
-use Rattle.certificate.proofs.Lists.{takes-at, takes-all}
+use Rattle.certificate.specs.Search.{keepBelow, lowerBound, firstSmallest, without}
+use Rattle.certificate.proofs.Lists.{takes-at, takes-all, all-at}
 use Rattle.certificate.proofs.Kept.{keep-all, length-kept}
+use Rattle.certificate.proofs.Smallest.{lower-below, larger-front}
 use Rattle.search.specs.declared.scan.Open.{Open}
-use Rattle.search.specs.Inside.{openOf, Listed}
+use Rattle.search.specs.Inside.{openOf, Left, Listed}
 
 module _ (bound : Box → ℕ) (t : List ℤ) (n at : ℕ) (inside : at < n) (there : n ≤ rowCount t) where
   -- one box less
@@ -42,8 +45,30 @@ module _ (bound : Box → ℕ) (t : List ℤ) (n at : ℕ) (inside : at < n) (th
     abbrev left : List Box
     left = rowsOf (withoutRow t n at) (n - 1)
 
-    pub left-below : All (λ b. bound b < old) left
-    left-below = rw (rows-without t n at inside there) (others-below)
+    -- in two parts, the rows before `at` and those from there on
+    pub left-parts :
+        (low : ℕ) →
+        low ≡ lowerBound bound old (rowsOf t n) →
+        at ≡ firstSmallest bound (rowsOf t n) →
+        Left bound old low (rowsOf (withoutRow t n at) at) (drop at left)
+    left-parts low lowest first =
+        let u = withoutRow t n at in
+        let l = rowsOf t n in
+        let long : at < length l = omega (arith, rows-length t n) in
+        let rest = rows-without t n at inside there in
+        let cut = length-take-le at l (omega arith) in
+        let front : rowsOf u at ≡ take at l = sym (rows-take u (n - 1) at (omega arith)) ∙ ap (take at) rest ∙ take-at (take at l) (drop (suc at) l) at cut in
+        let back : drop at left ≡ drop (suc at) l = ap (drop at) rest ∙ drop-at (take at l) (drop (suc at) l) at cut in
+        let least = lower-below bound old l in
+        let parts = append-all (take at l) others-below in
+        rw (front, back)
+        (record {
+          low-below = omega (arith, all-at zeroBox least at long, all-at zeroBox below at long);
+          larger = rw (lowest, first) (larger-front bound old l);
+          no-smaller = rw lowest (append-all (take at l) (takes-all (takes-at zeroBox l at long) least .1) .1);
+          front-below = parts .0;
+          back-below = parts .1;
+        })
 
     pub closed-all : (o : Open) → o ≡ openOf bound old left → Listed bound old (keepBelow bound old (without (rowsOf t n) at)) t n o (withoutRow t n at)
     closed-all o told =

@@ -134,11 +134,15 @@ module _
               let many : 1 ≤ length list = lower-open bound (cost (s .best .vector)) list (omega (arith, far-gap)) in
               let there : at < s .list .rows = rw place (omega (arith, (smallest bound list many) .inside, rows-length u (s .list .rows))) in
               record {
-                exact = g .exact;
-                inside = there;
+                best = g .exact .best;
+                removable =
+                    record {
+                      told = g .exact .told;
+                      inside = there;
+                      room = omega (arith, sound .longest, sound .room, rows-length u (s .list .rows), g .long);
+                      below = going-below;
+                    };
                 wide = rw (rows-at u (s .list .rows) at zeroBox there) at ((all-at zeroBox (sound .opened) at (omega (arith, rows-length u (s .list .rows)))) .two);
-                below = going-below;
-                room = omega (arith, sound .longest, sound .room, rows-length u (s .list .rows), g .long);
                 longest = omega (arith, sound .longest, rows-length u (s .list .rows));
                 countable = omega (arith, less);
               }

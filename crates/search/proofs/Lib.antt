@@ -1,6 +1,7 @@
 pub mod UpTo
 pub mod Taking
 pub mod Listing
+pub mod Parts
 pub mod Counting
 pub mod Closing
 pub mod Placing

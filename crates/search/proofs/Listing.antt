@@ -40,44 +40,66 @@ rows-if true o x = go (ltb x (o .bound))
     go false = refl
 
 module _ (bound : Box → ℕ) (c : ℕ) where
-  pub none-told : noneOpen c ≡ openOf bound c []
+  -- the part of a list from place k on, as o tells it
+  pub record Told (k : ℕ) (part : List Box) (o : Open) : Type 0 where
+    pub ends : o .rows ≡ k + length part
+    pub first : o .at ≡ k + firstSmallest bound part
+    pub lowest : o .bound ≡ lowerBound bound c part
+
+  pub none-told : (k : ℕ) → Told k [] (record { rows = k; at = k; bound = c })
   unfolding lowerBound firstSmallest
-  none-told = refl
+  none-told k = record { ends = omega arith; first = omega arith; lowest = refl }
 
   -- one more box, with a bound below c, of which x is known as far as it is below the smallest one
   pub one-told :
-      (list : List Box) (b : Box) (o : Open) (x : ℕ) →
-      o ≡ openOf bound c list →
+      (k : ℕ) (part : List Box) (b : Box) (o : Open) (x : ℕ) →
+      Told k part o →
       SameBelow (o .bound) x (bound b) →
       bound b < c →
-      openWith o x ≡ openOf bound c (list ++ (b ∷ []))
-  one-told list b o x told same below =
-      let number : o .rows ≡ length list = ap (λ (q : Open). q .rows) told in
-      let place : o .at ≡ firstSmallest bound list = ap (λ (q : Open). q .at) told in
-      let lowest : o .bound ≡ lowerBound bound c list = ap (λ (q : Open). q .bound) told in
-      let more : length (list ++ (b ∷ [])) ≡ o .rows + 1 = omega (arith, length-append list (b ∷ [])) in
-      let snoc = lower-snoc bound c list b below in
+      Told k (part ++ (b ∷ [])) (openWith o x)
+  one-told k part b o x told same below =
+      let number = told .ends in
+      let lowest = told .lowest in
+      let more : length (part ++ (b ∷ [])) ≡ length part + 1 = length-append part (b ∷ []) in
+      let snoc = lower-snoc bound c part b below in
       ⊎-elim
       (λ (h : o .bound ≤ x).
-      let old : lowerBound bound c list ≤ bound b = omega arith in
-      let low : lowerBound bound c (list ++ (b ∷ [])) ≡ o .bound = omega arith in
-      rw (le-ltb x (o .bound) h, more, low, first-old bound c list b below old, ← place))
+      let old : lowerBound bound c part ≤ bound b = omega arith in
+      rw (le-ltb x (o .bound) h)
+      (record {
+        ends = omega arith;
+        first = told .first ∙ ap (λ (i : ℕ). k + i) (sym (first-old bound c part b below old));
+        lowest = omega arith;
+      }))
       (λ (h : x < o .bound).
-      let new : bound b < lowerBound bound c list = omega arith in
-      let low : lowerBound bound c (list ++ (b ∷ [])) ≡ x = omega arith in
-      rw (lt-ltb x (o .bound) h, more, low, first-new bound c list b new, ← number))
+      let new : bound b < lowerBound bound c part = omega arith in
+      rw (lt-ltb x (o .bound) h)
+      (record {
+        ends = omega arith;
+        first = number ∙ ap (λ (i : ℕ). k + i) (sym (first-new bound c part b new));
+        lowest = omega arith;
+      }))
       (le-or-lt (o .bound) x)
 
-  module _ (t : List ℤ) where
-    -- row i behind the rows before it
-    pub row-told :
-        (i : ℕ) (o : Open) (x : ℕ) → o ≡ openOf bound c (rowsOf t i) → SameBelow (o .bound) x (bound (rowAt t i)) → bound (rowAt t i) < c →
-        openWith o x ≡ openOf bound c (rowsOf t (i + 1))
-    row-told i o x told same below = one-told (rowsOf t i) (rowAt t i) o x told same below ∙ ap (openOf bound c) (sym (rows-more t i))
+  -- a whole list
+  pub whole-told : (list : List Box) (o : Open) → o ≡ openOf bound c list → Told 0 list o
+  whole-told list o e =
+      record {
+        ends = omega (arith, ap (λ (q : Open). q .rows) e);
+        first = omega (arith, ap (λ (q : Open). q .at) e);
+        lowest = ap (λ (q : Open). q .bound) e;
+      }
 
+  pub told-whole : (list : List Box) (o : Open) → Told 0 list o → o ≡ openOf bound c list
+  told-whole list o told =
+      let number : o .rows ≡ length list = omega (arith, told .ends) in
+      let place : o .at ≡ firstSmallest bound list = omega (arith, told .first) in
+      rw (← number, ← place, ← told .lowest)
+
+  module _ (t : List ℤ) where
     pub none-listed : Listed bound c [] t 0 (noneOpen c) t
     unfolding rowsOf
-    none-listed = record { told = none-told; few = omega arith; long = refl; held = refl; rest = refl }
+    none-listed = record { told = told-whole [] (noneOpen c) (none-told 0); few = omega arith; long = refl; held = refl; rest = refl }
 
     -- One more box b as the next row, if x, which is its bound as far as that is below c, is below c.
     module _ (list : List Box) (n : ℕ) (o : Open) (u : List ℤ) (b : Box) (w : Whole b) (p : Listed bound c list t n o u) (x : ℕ) (found : SameBelow c x (bound b)) where
@@ -100,7 +122,9 @@ module _ (bound : Box → ℕ) (c : ℕ) where
           let known : x ≡ bound b = omega arith in
           rw (keep-one bound c b (omega arith))
           (record {
-            told = one-told list b o x (p .told) (ap (λ (y : ℕ). min y (o .bound)) known) (omega arith);
+            told =
+                told-whole (list ++ (b ∷ [])) (openWith o x)
+                (one-told 0 list b o x (whole-told list o (p .told)) (ap (λ (y : ℕ). min y (o .bound)) known) (omega arith));
             few = few;
             long = length-with u (o .rows) b w ∙ p .long;
             held = rw (rows-if true o x) (rows-with u (o .rows) b (omega (arith, p .long)) w ∙ rw (p .held));

@@ -56,10 +56,10 @@ module _
     after = split cost bound (stateIn t s)
 
     first : at ≡ firstSmallest bound (rowsOf t n)
-    first = ap (λ (o : Open). o .at) (p .exact .told)
+    first = ap (λ (o : Open). o .at) (p .removable .told)
 
     taken : boxAt (rowsOf t n) at ≡ rowAt t at
-    taken = rows-at t n at zeroBox (p .inside)
+    taken = rows-at t n at zeroBox (p .removable .inside)
 
     -- the split, part by part
     split-is : after ≡ record { best = br .best .vector; list = kept; count = suc (s .count); peak = max (s .peak) (length kept) }

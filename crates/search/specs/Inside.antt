@@ -30,6 +30,10 @@ SameBelow c x y = min x c ≡ min y c
 abbrev pub openOf : (Box → ℕ) → ℕ → List Box → Open
 openOf bound c list = record { rows = length list; at = firstSmallest bound list; bound = lowerBound bound c list }
 
+-- the part of a list from place k on: where it ends, the place of the first with the smallest bound, and that bound
+abbrev pub openFrom : (Box → ℕ) → ℕ → ℕ → List Box → Open
+openFrom bound c k part = record { rows = k + length part; at = k + firstSmallest bound part; bound = lowerBound bound c part }
+
 -- no open box
 abbrev pub noneOpen : ℕ → Open
 noneOpen c = record { rows = 0; at = 0; bound = c }
@@ -46,6 +50,22 @@ pub record Listed (bound : Box → ℕ) (c : ℕ) (list : List Box) (t : List �
   pub long : length u ≡ length t
   pub held : rowsOf u (r .rows) ≡ list
   pub rest : drop (16 * n) u ≡ drop (16 * n) t
+
+-- The first box with the smallest bound can be taken out of the first rows of t: `list` tells of them, there is one, the table has them
+-- all, and all have bounds below c.
+pub record Removable (bound : Box → ℕ) (c : ℕ) (t : List ℤ) (list : Open) : Type 0 where
+  pub told : list ≡ openOf bound c (rowsOf t (list .rows))
+  pub inside : list .at < list .rows
+  pub room : list .rows ≤ rowCount t
+  pub below : All (λ b. bound b < c) (rowsOf t (list .rows))
+
+-- The bounds of the boxes that are left where one with the bound `low`, the first smallest, was taken out from between two parts of a list.
+pub record Left (bound : Box → ℕ) (c low : ℕ) (front back : List Box) : Type 0 where
+  pub low-below : low < c
+  pub larger : All (λ b. low < bound b) front
+  pub no-smaller : All (λ b. low ≤ bound b) back
+  pub front-below : All (λ b. bound b < c) front
+  pub back-below : All (λ b. bound b < c) back
 
 -- the best vector beside its cost
 abbrev pub bestOf : (List ℤ → ℕ) → List ℤ → Best
@@ -77,13 +97,11 @@ pub record Exact (cost : List ℤ → ℕ) (bound : Box → ℕ) (t : List ℤ) 
   pub best : s .best ≡ bestOf cost (s .best .vector)
   pub told : s .list ≡ openOf bound (s .best .cost) (rowsOf t (s .list .rows))
 
--- What a step is handed: the box with the first smallest bound is there and can be cut.
+-- What a step is handed: the first box with the smallest bound can be taken out and cut.
 pub record Steppable (cost : List ℤ → ℕ) (bound : Box → ℕ) (t : List ℤ) (s : State) : Type 0 where
-  pub exact : Exact cost bound t s
-  pub inside : s .list .at < s .list .rows
+  pub best : s .best ≡ bestOf cost (s .best .vector)
+  pub removable : Removable bound (s .best .cost) t (s .list)
   pub wide : 2 ≤ volume (rowAt t (s .list .at))
-  pub below : All (λ b. bound b < s .best .cost) (rowsOf t (s .list .rows))
-  pub room : s .list .rows ≤ rowCount t
   pub longest : s .list .rows ≤ s .peak
   pub countable : s .count < 4294967295
 

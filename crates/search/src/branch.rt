@@ -4,16 +4,15 @@ use crate::scan::bound_below;
 use crate::scan::compact;
 use crate::scan::keep;
 use crate::scan::kept_rows;
-use crate::scan::smallest;
+use crate::scan::smallest_left;
 use boxes::Box;
 use jobs::Model;
 ghost use mathlib.Core.Path.{_≡_};
 ghost use mathlib.Core.Bool.{cond};
 ghost use mathlib.Core.List.{[], _∷_, _++_};
-ghost use Prim.Native.Nat.{_+_, _≤_, _<_, max};
+ghost use Prim.Native.Nat.{_+_, _≤_, max};
 ghost use lib.Dec.{ltb};
 ghost use lib.ListN.{length};
-ghost use Rattle.integers.specs.Lists.{All};
 ghost use Rattle.codes.specs.declared.Check.the-variants.{Pass};
 ghost use Rattle.boxes.specs.Boxes.{volume};
 ghost use Rattle.points.specs.Points.{pointsOf};
@@ -21,7 +20,7 @@ ghost use Rattle.model.specs.Cost.{bound, cost};
 ghost use Rattle.model.specs.Calls.{checkModel};
 ghost use Rattle.rows.specs.Rows.{rowCount, rowsOf};
 ghost use Rattle.certificate.specs.Search.{keepBelow, without, cheaper};
-ghost use Rattle.search.specs.Inside.{Listed, bestOf, Cut, Placeable, Steppable, StepOutcome};
+ghost use Rattle.search.specs.Inside.{Listed, Removable, bestOf, Cut, Placeable, Steppable, StepOutcome};
 
 // The best vector and its cost, C.
 pub struct Best {
@@ -97,7 +96,7 @@ fn too_many(
     new: u64,
     more: usize,
 ) -> bool
-    requires { ⌜ (checkModel (now store) m ≡ Pass) × (list .at < list .rows) × (list .rows ≤ rowCount (now table)) × (more ≤ 2) × All (λ b. bound m (pointsOf (now store)) b < old) (rowsOf (now table) (list .rows)) ⌝ }
+    requires { ⌜ (checkModel (now store) m ≡ Pass) × Removable (bound m (pointsOf (now store))) old (now table) list × (more ≤ 2) ⌝ }
     ensures { λ r. ⌜ r ≡ ltb (rowCount (now (table .entry))) (length (keepBelow (bound m (pointsOf (now (store .entry)))) new (without (rowsOf (now (table .entry)) (list .rows)) (list .at))) + more) ⌝ }
 {
     let rows = table.len() / 16;
@@ -112,20 +111,19 @@ fn too_many(
 
 // Takes out the first box with the smallest bound, and those whose bounds are not below the new cost. All others stay where the cost has not fallen.
 fn close_up(store: &[u8], m: Model, table: &mut [i16], list: Open, old: u64, new: u64) -> Open
-    requires { ⌜ (checkModel (now store) m ≡ Pass) × (list .at < list .rows) × (list .rows ≤ rowCount (now table)) × All (λ b. bound m (pointsOf (now store)) b < old) (rowsOf (now table) (list .rows)) ⌝ }
+    requires { ⌜ (checkModel (now store) m ≡ Pass) × Removable (bound m (pointsOf (now store))) old (now table) list ⌝ }
     ensures { λ r. ⌜ Listed (bound m (pointsOf (now (store .entry)))) new (keepBelow (bound m (pointsOf (now (store .entry)))) new (without (rowsOf (now (table .entry)) (list .rows)) (list .at))) (now (table .entry)) (list .rows) r (now (table .exit)) ⌝ }
 {
     rows::remove_row(table, list.rows, list.at);
-    let others = list.rows - 1;
     if new == old {
-        return smallest(store, m, table, others, new);
+        return smallest_left(store, m, table, list, new);
     }
-    compact(store, m, table, others, new)
+    compact(store, m, table, list.rows - 1, new)
 }
 
 // Leaves the boxes that stay, and behind them the halves that are kept.
 fn place(store: &[u8], m: Model, table: &mut [i16], list: Open, old: u64, br: Branches) -> Open
-    requires { ⌜ (checkModel (now store) m ≡ Pass) × (list .at < list .rows) × (list .rows ≤ rowCount (now table)) × All (λ b. bound m (pointsOf (now store)) b < old) (rowsOf (now table) (list .rows)) ⌝ }
+    requires { ⌜ (checkModel (now store) m ≡ Pass) × Removable (bound m (pointsOf (now store))) old (now table) list ⌝ }
     requires { ⌜ Placeable (bound m (pointsOf (now store))) (now table) (list .rows) (list .at) br ⌝ }
     ensures { λ r. ⌜ Listed (bound m (pointsOf (now (store .entry)))) (br .best .cost) (keepBelow (bound m (pointsOf (now (store .entry)))) (br .best .cost) (without (rowsOf (now (table .entry)) (list .rows)) (list .at) ++ (br .left .half ∷ br .right .half ∷ []))) (now (table .entry)) (max (list .rows) (r .rows)) r (now (table .exit)) ⌝ }
 {

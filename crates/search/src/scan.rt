@@ -3,9 +3,9 @@ use boxes::Box;
 use jobs::Model;
 ghost use mathlib.Core.Path.{_≡_};
 ghost use mathlib.Core.Bool.{cond};
-ghost use Prim.Native.Nat.{_≤_, _<_};
+ghost use Prim.Native.Nat.{_-_, _≤_, _<_};
 ghost use lib.Dec.{ltb};
-ghost use lib.ListN.{length};
+ghost use lib.ListN.{length, drop};
 ghost use Rattle.integers.specs.Lists.{All};
 ghost use Rattle.codes.specs.declared.Check.the-variants.{Pass};
 ghost use Rattle.points.specs.Points.{pointsOf};
@@ -13,7 +13,7 @@ ghost use Rattle.model.specs.Cost.{bound};
 ghost use Rattle.model.specs.Calls.{checkModel};
 ghost use Rattle.rows.specs.Rows.{rowCount, rowsOf, withRow};
 ghost use Rattle.certificate.specs.Search.{keepBelow, without};
-ghost use Rattle.search.specs.Inside.{SameBelow, openOf, noneOpen, openWith, Listed};
+ghost use Rattle.search.specs.Inside.{SameBelow, openOf, openFrom, noneOpen, openWith, Left, Listed};
 
 // The open boxes, which are the first rows of the table: how many, the place of the first with the smallest bound, and that bound, L.
 // Where none is open, L is the cost.
@@ -54,17 +54,56 @@ fn with_box(list: Open, bound: u64) -> Open
     }
 }
 
-// The first n rows, all with bounds below the cost. A bound is summed only as far as the smallest one before it.
-pub fn smallest(store: &[u8], m: Model, table: &[i16], n: usize, cost: u64) -> Open
-    requires { ⌜ (checkModel (now store) m ≡ Pass) × All (λ b. bound m (pointsOf (now store)) b < cost) (rowsOf (now table) n) ⌝ }
-    ensures { λ r. ⌜ r ≡ openOf (bound m (pointsOf (now (store .entry)))) cost (rowsOf (now (table .entry)) n) ⌝ }
+// The first with the smallest bound of the rows from `start` up to the n-th, all with bounds below the cost. A bound is summed only as
+// far as the smallest one before it, and none is below `low`, so the rows behind one that has this bound are not looked at.
+fn smallest(
+    store: &[u8],
+    m: Model,
+    table: &[i16],
+    start: usize,
+    n: usize,
+    cost: u64,
+    low: u64,
+) -> Open
+    requires { ⌜ (checkModel (now store) m ≡ Pass) × (start ≤ n) × All (λ b. low ≤ bound m (pointsOf (now store)) b) (drop start (rowsOf (now table) n)) × All (λ b. bound m (pointsOf (now store)) b < cost) (drop start (rowsOf (now table) n)) ⌝ }
+    ensures { λ r. ⌜ r ≡ openFrom (bound m (pointsOf (now (store .entry)))) cost start (drop start (rowsOf (now (table .entry)) n)) ⌝ }
 {
-    let mut list = none_open(cost);
-    while list.rows < n {
+    let mut list = Open {
+        rows: start,
+        at: start,
+        bound: cost,
+    };
+    while list.rows < n && low < list.bound {
         let b = rows::read_row(table, list.rows);
         list = with_box(list, model::bound_up_to(store, m, b, list.bound));
     }
-    list
+    Open {
+        rows: n,
+        at: list.at,
+        bound: list.bound,
+    }
+}
+
+// The rows that are left of a list where the first with the smallest bound is taken out and all others stay. Those before its place have
+// larger bounds than it had, so they are looked at only if none behind it has as small a one.
+pub fn smallest_left(store: &[u8], m: Model, table: &[i16], list: Open, cost: u64) -> Open
+    requires { ⌜ (checkModel (now store) m ≡ Pass) × (list .at < list .rows) × Left (bound m (pointsOf (now store))) cost (list .bound) (rowsOf (now table) (list .at)) (drop (list .at) (rowsOf (now table) (list .rows - 1))) ⌝ }
+    ensures { λ r. ⌜ r ≡ openOf (bound m (pointsOf (now (store .entry)))) cost (rowsOf (now (table .entry)) (list .rows - 1)) ⌝ }
+{
+    let n = list.rows - 1;
+    let back = smallest(store, m, table, list.at, n, cost, list.bound);
+    if back.bound <= list.bound {
+        return back;
+    }
+    let front = smallest(store, m, table, 0, list.at, cost, list.bound);
+    if back.bound < front.bound {
+        return back;
+    }
+    Open {
+        rows: n,
+        at: front.at,
+        bound: front.bound,
+    }
 }
 
 // A box's bound as far as it is below a cost.

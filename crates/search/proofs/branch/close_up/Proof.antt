@@ -1,7 +1,9 @@
 -- By whether the cost has fallen.
+use mathlib.Core.Path.{ap}
 use Rattle.points.specs.Points.{pointsOf}
 use Rattle.model.specs.Cost.{bound}
-use Rattle.search.proofs.Closing.{left-below, closed-all, closed-some}
+use Rattle.search.specs.declared.scan.Open.{Open}
+use Rattle.search.proofs.Closing.{left-parts, closed-all, closed-some}
 use borrow.Author.Needs.{needs}
 use Rattle.search.proofs.branch.close_up.Statement.{statement}
 use Rattle.search.proofs.branch.close_up.Tie as tie
@@ -9,18 +11,17 @@ use Rattle.search.proofs.branch.close_up.Tie as tie
 remove-row-requires : tie.Need-remove-row-requires
 remove-row-requires c κs = search needs
 
-sub-others : tie.Need-sub-others
-sub-others c = search needs
-
-smallest-requires : tie.Need-smallest-requires
-smallest-requires c κs =
+smallest-left-requires : tie.Need-smallest-left-requires
+smallest-left-requires c κs =
     let then = c .before in
-    let removed = then .before .before .before in
+    let removed = then .before .before in
     let start = removed .before .before .before in
     let a = start .args in (
       start .pre .0,
+      start .pre .1 .inside,
       rw (then .if1 .taken, removed .remove-row .ensures)
-          (left-below (bound (a .m) (pointsOf (a .store .now))) (a .table .now) (a .list .rows) (a .list .at) (start .pre .1) (start .pre .2) (a .old) (start .pre .3)),
+          (left-parts (bound (a .m) (pointsOf (a .store .now))) (a .table .now) (a .list .rows) (a .list .at) (start .pre .1 .inside) (start .pre .1 .room) (a .old) (start .pre .1 .below) (a .list .bound)
+          (ap (λ (o : Open). o .bound) (start .pre .1 .told)) (ap (λ (o : Open). o .at) (start .pre .1 .told))),
     )
 
 same-length : tie.Need-same-length
@@ -29,12 +30,15 @@ same-length c = search needs
 returns : tie.Need-returns
 returns c =
     let then = c .before .before in
-    let removed = then .before .before .before in
+    let removed = then .before .before in
     let start = removed .before .before .before in
     let a = start .args in
     rw (then .if1 .taken, removed .remove-row .ensures)
-    (closed-all (bound (a .m) (pointsOf (a .store .now))) (a .table .now) (a .list .rows) (a .list .at) (start .pre .1) (start .pre .2) (a .old) (start .pre .3) (c .smallest .result)
-    (rw (then .if1 .taken, removed .remove-row .ensures) at (c .smallest .ensures)))
+    (closed-all (bound (a .m) (pointsOf (a .store .now))) (a .table .now) (a .list .rows) (a .list .at) (start .pre .1 .inside) (start .pre .1 .room) (a .old) (start .pre .1 .below) (c .smallest-left .result)
+    (rw (then .if1 .taken, removed .remove-row .ensures) at (c .smallest-left .ensures)))
+
+sub-compact : tie.Need-sub-compact
+sub-compact c = search needs
 
 compact-requires : tie.Need-compact-requires
 compact-requires c κs = search needs
@@ -47,7 +51,7 @@ returns-2 c =
     let removed = c .before .before .before .before .before .before in
     let start = removed .before .before .before in
     let a = start .args in
-    closed-some (bound (a .m) (pointsOf (a .store .now))) (a .table .now) (a .list .rows) (a .list .at) (start .pre .1) (start .pre .2) (a .new) (c .before .compact .result) (c .before .compact .last .1 .1 .0)
+    closed-some (bound (a .m) (pointsOf (a .store .now))) (a .table .now) (a .list .rows) (a .list .at) (start .pre .1 .inside) (start .pre .1 .room) (a .new) (c .before .compact .result) (c .before .compact .last .1 .1 .0)
     (rw (removed .remove-row .ensures) at (c .before .compact .ensures))
 
 pub close-up-spec : {M : Type 1} → statement M
@@ -55,10 +59,10 @@ close-up-spec =
     tie.close
     (tie.spec
     remove-row-requires
-    sub-others
-    smallest-requires
+    smallest-left-requires
     same-length
     returns
+    sub-compact
     compact-requires
     same-length-2
     returns-2)

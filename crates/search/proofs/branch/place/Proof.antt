@@ -16,10 +16,10 @@ keep-requires c κs = search needs
 -- the halves have sixteen numbers each
 module _ (s : tie.Start) where
   left-whole : Whole (s .args .br .left .half)
-  left-whole = record { low = search (needs, s .good .1 .1 .1 .1 .1 .0); high = search (needs, s .good .1 .1 .1 .1 .1 .0) }
+  left-whole = let left = s .good .1 .1 .1 .1 .1 .0 .1 .1 .1 .0 in record { low = search (needs, left); high = search (needs, left) }
 
   right-whole : Whole (s .args .br .right .half)
-  right-whole = record { low = search (needs, s .good .1 .1 .1 .1 .1 .0 .1 .1 .1 .1 .0); high = search (needs, s .good .1 .1 .1 .1 .1 .0 .1 .1 .1 .1 .0) }
+  right-whole = let right = s .good .1 .1 .1 .1 .1 .0 .1 .1 .1 .1 .0 in record { low = search (needs, right); high = search (needs, right) }
 
 abbrev begun : tie.After-close-up → tie.Start
 begun c = c .before .before .before .before .before .before .before .before

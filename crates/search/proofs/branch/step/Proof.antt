@@ -24,7 +24,7 @@ read-row-requires c κs = search needs
 cut-box-requires : tie.Need-cut-box-requires
 cut-box-requires c κs =
     let start = c .before .before .before .before .before in
-    (start .pre .0, start .pre .1 .exact .best, rw (c .read-row .ensures) (start .pre .1 .wide))
+    (start .pre .0, start .pre .1 .best, rw (c .read-row .ensures) (start .pre .1 .wide))
 
 added-requires : tie.Need-added-requires
 added-requires c κs = search needs
@@ -61,7 +61,7 @@ add-more c = omega (arith, few c)
 too-many-requires : tie.Need-too-many-requires
 too-many-requires c κs =
     let p = start (c .before .before .before .before .before .before) .pre in
-    (p .0, p .1 .inside, p .1 .room, omega (arith, few (c .before)), p .1 .below)
+    (p .0, p .1 .removable, omega (arith, few (c .before)))
 
 same-length : tie.Need-same-length
 same-length c = search needs
@@ -92,7 +92,7 @@ place-requires c κs =
     let q = ones .before .before .before .before .before in
     let a = start q .args in
     let p = start q .pre in (
-      (p .0, p .1 .inside, p .1 .room, p .1 .below),
+      (p .0, p .1 .removable),
       step-fits (C q) (B q) (table q) (a .s) (p .1) (q .cut-box .result) (made q) (tested .too-many .result)
           (ones .before .added .result) (ones .added2 .result) (ones .before .added .ensures) (ones .added2 .ensures) (tested .too-many .ensures) (c .before .if1 .left),
     )

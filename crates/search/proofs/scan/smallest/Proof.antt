@@ -1,39 +1,36 @@
 -- The invariant: what is told is of the rows passed. The measure is the rows left.
 use borrow.Author.Needs.{needs}
-use mathlib.Core.Path.{_≡_, sym, ap, _∙_}
+use borrow.Author.Tests.{ltb-false}
+use mathlib.Core.Path.{_≡_, ap, _∙_}
 use mathlib.Core.Bool.{true}
 use mathlib.Core.List.{List}
-use Prim.Native.Nat.{ℕ, _+_, _-_, _≤_, _<_, min}
+use Prim.Native.Nat.{ℕ, _+_, _-_, _≤_, min}
 use native.Mathlib.Omega.{arith}
 use lib.IntN.{ℤ}
 use Rattle.boxes.specs.declared.Box.{Box}
-use Rattle.boxes.specs.Split.{zeroBox}
 use Rattle.points.specs.Points.{pointsOf}
 use Rattle.model.specs.Cost.{bound}
-use Rattle.rows.specs.Rows.{rowAt, rowsOf}
-use Rattle.rows.proofs.Rows.{rows-at, rows-length}
-use Rattle.certificate.proofs.Lists.{all-at}
+use Rattle.rows.specs.Rows.{rowAt}
 use Rattle.search.specs.declared.scan.Open.{Open}
-use Rattle.search.specs.Inside.{SameBelow, openOf}
+use Rattle.search.specs.Inside.{SameBelow}
 use Rattle.search.proofs.UpTo.{found-below}
-use Rattle.search.proofs.Listing.{none-told, row-told, rows-if}
+use Rattle.search.proofs.Listing.{Told, rows-if}
+use Rattle.search.proofs.Parts.{part, part-all, none-yet, part-told, part-ends, part-stops}
 use Rattle.search.proofs.scan.smallest.Statement.{statement}
 use Rattle.search.proofs.scan.smallest.Tie as tie
 
 abbrev Inv-loop : tie.InvT-loop
-Inv-loop store m table n cost list₀ list = (list .rows ≤ n) × (list ≡ openOf (bound m (pointsOf store)) cost (rowsOf table (list .rows)))
+Inv-loop store m table start n cost low list₀ list =
+    (start ≤ list .rows) × (list .rows ≤ n) × Told (bound m (pointsOf store)) cost start (part table start (list .rows)) list
 
 abbrev μ-loop : tie.MeasureT-loop
-μ-loop store m table n cost list₀ list = n - list .rows
-
-none-open-requires : tie.Need-none-open-requires Inv-loop μ-loop
-none-open-requires c κs = search needs
+μ-loop store m table start n cost low list₀ list = n - list .rows
 
 loop-holds : tie.Need-loop-holds Inv-loop μ-loop
-unfolding rowsOf
 loop-holds c =
-    let a = c .before .before .args in
-    rw (c .none-open .ensures) (omega arith, none-told (bound (a .m) (pointsOf (a .store .now))) (a .cost))
+    let s = c .before in
+    let a = s .args in
+    (omega arith, s .pre .1, none-yet (a .table .now) (bound (a .m) (pointsOf (a .store .now))) (a .cost) (a .start))
 
 read-row-requires : tie.Need-read-row-requires Inv-loop μ-loop
 read-row-requires c κs = search needs
@@ -47,16 +44,16 @@ with-box-requires c κs = omega arith
 -- what a turn knows, once the row is passed
 module _ (c : tie.After-with-box Inv-loop μ-loop) where
   abbrev turn : tie.At-loop Inv-loop μ-loop
-  turn = c .before .before .before .before .before
+  turn = c .before .before .before .before .before .before .before
 
-  abbrev start : tie.Start Inv-loop μ-loop
-  start = turn .before .before .before
+  abbrev begun : tie.Start Inv-loop μ-loop
+  begun = turn .before .before
 
   abbrev B : Box → ℕ
-  B = bound (start .args .m) (pointsOf (start .args .store .now))
+  B = bound (begun .args .m) (pointsOf (begun .args .store .now))
 
   abbrev t : List ℤ
-  t = start .args .table .now
+  t = begun .args .table .now
 
   abbrev i : ℕ
   i = turn .loop .list .rows
@@ -64,14 +61,9 @@ module _ (c : tie.After-with-box Inv-loop μ-loop) where
   one-more : c .with-box .result .rows ≡ i + 1
   one-more = ap (λ (o : Open). o .rows) (c .with-box .ensures) ∙ rows-if true (turn .loop .list) (c .before .bound-up-to .result)
 
-  row-below : B (rowAt t i) < start .args .cost
-  row-below =
-      let n = start .args .n in
-      rw (rows-at t n i zeroBox (omega arith)) at (all-at zeroBox (start .pre .1) i (omega (arith, rows-length t n)))
-
   found : SameBelow (turn .loop .list .bound) (c .before .bound-up-to .result) (B (rowAt t i))
   found =
-      found-below (start .args .store .now) (start .args .m) (start .pre .0) (c .before .before .read-row .result) (turn .loop .list .bound) _ _
+      found-below (begun .args .store .now) (begun .args .m) (begun .pre .0) (c .before .before .read-row .result) (turn .loop .list .bound) _ _
       (c .before .bound-up-to .ensures) (omega arith)
       ∙ ap (λ (b : Box). min (B b) (turn .loop .list .bound)) (c .before .before .read-row .ensures)
 
@@ -81,19 +73,27 @@ loop-less c = omega (arith, one-more c)
 loop-again : tie.Need-loop-again Inv-loop μ-loop
 loop-again c =
     let l = turn c .loop in
-    let cost = start c .args .cost in (
+    let a = begun c .args in (
       omega (arith, one-more c),
-      c .with-box .ensures
-          ∙ row-told (B c) cost (t c) (i c) (l .list) (c .before .bound-up-to .result) (l .inv .1) (found c) (row-below c)
-          ∙ ap (λ (k : ℕ). openOf (B c) cost (rowsOf (t c) k)) (sym (one-more c)),
+      omega (arith, one-more c),
+      part-told (t c) (B c) (a .cost) (a .start) (l .list) (c .before .bound-up-to .result) (c .with-box .result) (l .inv .0) (l .inv .2) (found c)
+          (part-all (t c) (a .start) (i c) (a .n) (l .inv .0) (omega arith) (begun c .pre .3)) (c .with-box .ensures),
     )
 
 returns : tie.Need-returns Inv-loop μ-loop
 returns c =
+    let l = c .before .before .before .before in
+    let s = l .before .before in
+    let a = s .args in
+    let o = l .loop .list in
+    part-stops (a .table .now) (bound (a .m) (pointsOf (a .store .now))) (a .cost) (a .start) (o .rows) (a .n) o (l .loop .inv .0) (l .loop .inv .1) (l .loop .inv .2) (a .low) (ltb-false (a .low) (o .bound) (c .if2 .left)) (s .pre .2) (s .pre .3)
+
+returns-2 : tie.Need-returns-2 Inv-loop μ-loop
+returns-2 c =
     let l = c .before .before in
-    let a = l .before .before .before .args in
-    let all : l .loop .list .rows ≡ a .n = omega arith in
-    l .loop .inv .1 ∙ ap (λ (k : ℕ). openOf (bound (a .m) (pointsOf (a .store .now))) (a .cost) (rowsOf (a .table .now) k)) all
+    let a = l .before .before .args in
+    let o = l .loop .list in
+    part-ends (a .table .now) (bound (a .m) (pointsOf (a .store .now))) (a .cost) (a .start) (o .rows) (a .n) o (l .loop .inv .0) (l .loop .inv .1) (l .loop .inv .2) (omega (arith, c .if1 .left))
 
 pub smallest-spec : {M : Type 1} → statement M
 smallest-spec =
@@ -101,11 +101,11 @@ smallest-spec =
     (tie.spec
     Inv-loop
     μ-loop
-    none-open-requires
     loop-holds
     read-row-requires
     bound-up-to-requires
     with-box-requires
     loop-less
     loop-again
-    returns)
+    returns
+    returns-2)
