@@ -1,5 +1,5 @@
-//! A search in plain Rust without a place for bounds: it finds those of its open boxes again, once a step, each only as far as it
-//! is compared. These are the evaluations and the caps of the proved search.
+//! A search in plain Rust without a place for bounds: a step finds those that it needs again, each only as far as it is compared.
+//! These are the evaluations and the caps of the proved search.
 use crate::search::{Answer, Domain, Job, Kind, Progress};
 use std::ops::Range;
 

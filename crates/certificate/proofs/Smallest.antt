@@ -8,7 +8,7 @@ use borrow.Author.Tests.{le-leb, lt-leb}
 use lib.Dec.{leb, leb→le, nleb→lt}
 use lib.ListN.{length, length-append, take}
 use Rattle.integers.specs.Lists.{All, none, also}
-use Rattle.integers.proofs.Lists.{all-head, all-map, append-all}
+use Rattle.integers.proofs.Lists.{all-map}
 use Rattle.integers.proofs.Tests.{by-cond}
 use Rattle.boxes.specs.declared.Box.{Box}
 use Rattle.boxes.specs.Split.{zeroBox}
@@ -75,14 +75,6 @@ module _ (bound : Box → ℕ) where
   min-snoc x [] b = omega arith
   min-snoc x (d ∷ ds) b = omega (arith, min-snoc (bound d) ds b)
 
-  larger-before : (bs : List Box) (b : Box) → All (λ d. bound b < bound d) bs → firstSmallest bound (bs ++ (b ∷ [])) ≡ length bs
-  unfolding firstSmallest lowerBound
-  larger-before [] b h = rw (le-leb (bound b) (bound b) (le-refl (bound b)))
-  larger-before (d ∷ ds) b (also h hs) =
-      let longer = lowerBound bound (bound d) (ds ++ (b ∷ [])) in
-      let below = append-all ds (lower-below (bound d) (ds ++ (b ∷ []))) .1 in
-      rw (lt-leb (bound d) longer (omega (arith, all-head below)), larger-before ds b hs)
-
   not-smaller :
       (c : ℕ) (bs : List Box) (b : Box) →
       1 ≤ length bs →
@@ -109,14 +101,19 @@ module _ (bound : Box → ℕ) where
   lower-snoc c [] b below = omega arith
   lower-snoc c (d ∷ ds) b below = min-snoc (bound d) ds b
 
-  module _ (c : ℕ) (bs : List Box) (b : Box) where
-    -- it is the first with the smallest bound where it is below L
-    pub first-new : bound b < lowerBound bound c bs → firstSmallest bound (bs ++ (b ∷ [])) ≡ length bs
-    first-new below = larger-before bs b (all-map (λ d h. omega arith) (lower-below c bs))
+  -- the first with the smallest bound stays the one it was where the new one is not below L
+  pub first-old :
+      (c : ℕ) (bs : List Box) (b : Box) →
+      bound b < c →
+      lowerBound bound c bs ≤ bound b →
+      firstSmallest bound (bs ++ (b ∷ [])) ≡ firstSmallest bound bs
+  first-old c bs b below above = not-smaller c bs b (lower-open c bs (omega arith)) above
 
-    -- and else that stays the one it was
-    pub first-old : bound b < c → lowerBound bound c bs ≤ bound b → firstSmallest bound (bs ++ (b ∷ [])) ≡ firstSmallest bound bs
-    first-old below above = not-smaller c bs b (lower-open c bs (omega arith)) above
+  -- where there is a box, L does not depend on C
+  lower-any : (b c : ℕ) (bs : List Box) → 1 ≤ length bs → lowerBound bound b bs ≡ lowerBound bound c bs
+  unfolding lowerBound
+  lower-any b c [] some = absurd (omega arith)
+  lower-any b c (d ∷ ds) some = refl
 
   -- The first with the smallest bound of two lists, one behind the other: it is in the first one where none of the second has a
   -- smaller bound,
@@ -132,12 +129,6 @@ module _ (bound : Box → ℕ) where
       let rest = append-old c more ds (rw same hs) ks in
       rw (← append-assoc bs (d ∷ []) ds) (rest .0 ∙ same, rest .1 ∙ first-old c bs d k h)
 
-  -- where there is a box, L does not depend on C
-  lower-any : (b c : ℕ) (bs : List Box) → 1 ≤ length bs → lowerBound bound b bs ≡ lowerBound bound c bs
-  unfolding lowerBound
-  lower-any b c [] some = absurd (omega arith)
-  lower-any b c (d ∷ ds) some = refl
-
   -- and in the second where all of the first have larger bounds than L of the second.
   pub append-new :
       (c : ℕ) (bs ds : List Box) →
@@ -150,6 +141,13 @@ module _ (bound : Box → ℕ) where
       let rest = append-new c bs ds hs some in
       let low = lower-any (bound b) c (bs ++ ds) (omega (arith, length-append bs ds)) ∙ rest .0 in
       (omega arith, rw (lt-leb (bound b) (lowerBound bound (bound b) (bs ++ ds)) (omega arith)) (omega (arith, rest .1)))
+
+  -- one more box is it where it is below L
+  pub first-new : (c : ℕ) (bs : List Box) (b : Box) → bound b < lowerBound bound c bs → firstSmallest bound (bs ++ (b ∷ [])) ≡ length bs
+  unfolding lowerBound firstSmallest
+  first-new c bs b below =
+      append-new c bs (b ∷ []) (all-map (λ d h. omega arith) (lower-below c bs)) (omega arith) .1
+      ∙ rw (le-leb (bound b) (bound b) (le-refl (bound b))) (omega arith)
 
   -- the boxes before the first with the smallest bound have larger ones
   pub larger-front : (c : ℕ) (bs : List Box) → All (λ b. lowerBound bound c bs < bound b) (take (firstSmallest bound bs) bs)

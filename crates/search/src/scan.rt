@@ -1,4 +1,4 @@
-// Passes over the open boxes, the first rows of the table. There is no place for their bounds, so each step finds them again, once.
+// Passes over the open boxes, the first rows of the table. There is no place for their bounds, so a step finds those that it needs again.
 use boxes::Box;
 use jobs::Model;
 ghost use mathlib.Core.Path.{_≡_};
