@@ -83,7 +83,7 @@ impl Table<'_> {
         let (place, low) = (self.at, self.bound);
         (self.at, self.bound) = self.smallest(job, place..self.open, cost, low);
         if low < self.bound {
-            let front = self.smallest(job, 0..place, cost, low);
+            let front = self.smallest(job, 0..place, cost, low + 1);
             if front.1 <= self.bound {
                 (self.at, self.bound) = front;
             }

@@ -1,4 +1,5 @@
--- The smallest bound and the first box that has it, of a list and of a list with one more box behind. Assumes nothing.
+-- The smallest bound and the first box that has it, of a list, of one with one more box behind, and of two lists, one behind the other.
+-- Assumes nothing.
 use mathlib.Core.Path.{_≡_, refl, ap, _∙_}
 use mathlib.Core.List.{List, [], _∷_, _++_, append-nil, append-assoc}
 use Prim.Native.Nat.{ℕ, zero, suc, _+_, _≤_, _<_, min}

@@ -79,10 +79,10 @@ fn cut_box(store: &[u8], m: Model, b: Box, best: Best) -> Branches
 }
 
 // How many boxes a half adds: one if its bound is below the cost.
-fn added(half: Child, cost: u64) -> usize
-    ensures { λ r. ⌜ r ≡ cond (ltb (half .bound) cost) 1 0 ⌝ }
+fn added(child: Child, cost: u64) -> usize
+    ensures { λ r. ⌜ r ≡ cond (ltb (child .bound) cost) 1 0 ⌝ }
 {
-    if half.bound < cost { 1 } else { 0 }
+    if child.bound < cost { 1 } else { 0 }
 }
 
 // Whether more boxes would remain than the table has rows: of the open ones those but the first smallest with bounds below the new
@@ -133,8 +133,8 @@ fn place(store: &[u8], m: Model, table: &mut [i16], list: Open, old: u64, br: Br
     let left_half = left.half;
     let right_half = right.half;
     let stay = close_up(store, m, table, list, old, best.cost);
-    let more = keep(table, stay, left_half, left.bound, best.cost);
-    keep(table, more, right_half, right.bound, best.cost)
+    let with_left = keep(table, stay, left_half, left.bound, best.cost);
+    keep(table, with_left, right_half, right.bound, best.cost)
 }
 
 fn larger(a: usize, b: usize) -> usize

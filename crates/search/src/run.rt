@@ -64,7 +64,7 @@ fn answer(kind: Kind, s: State) -> Answer
     }
 }
 
-// Step after step, from the beginning. (a), (b) and (c) are the paper's.
+// Step after step, from the beginning: solved is the paper's (a), spent its (b), and `step` its (c).
 pub fn run(store: &[u8], job: Job, table: &mut [i16], first: State) -> Answer
     requires { ⌜ (checkModel (now store) (job .model) ≡ Pass) × (1 ≤ rowCount (now table)) × InBox (job .start) (job .domain) ⌝ }
     requires { ⌜ Begun (cost (job .model) (pointsOf (now store))) (bound (job .model) (pointsOf (now store))) (job .start) (job .domain) (now table) first (now table) ⌝ }

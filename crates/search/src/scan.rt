@@ -33,7 +33,7 @@ pub fn none_open(cost: u64) -> Open
     }
 }
 
-// One more box behind the open ones. Its bound is compared with the smallest one, so it is known if it is below that.
+// One more box behind the open ones. Its bound has to be exact only if it is below the smallest one.
 fn with_box(list: Open, bound: u64) -> Open
     requires { ⌜ list .rows < 18446744073709551615 ⌝ }
     ensures { λ r. ⌜ r ≡ openWith list bound ⌝ }
@@ -54,8 +54,17 @@ fn with_box(list: Open, bound: u64) -> Open
     }
 }
 
-// The first with the smallest bound of the rows from `start` up to the n-th, all with bounds below the cost. A bound is summed only as
-// far as the smallest one before it, and none is below `low`, so the rows behind one that has this bound are not looked at.
+// A box's bound as far as it is below a cost.
+pub fn bound_below(store: &[u8], m: Model, b: Box, cost: u64) -> u64
+    requires { ⌜ checkModel (now store) m ≡ Pass ⌝ }
+    ensures { λ r. ⌜ SameBelow cost r (bound m (pointsOf (now (store .entry))) b) ⌝ }
+{
+    model::bound_up_to(store, m, b, cost)
+}
+
+// Of the rows from `start` up to the n-th, all with bounds below the cost, the first with the smallest one. `rows` is how far they have
+// been looked at, and in the answer n. A bound is summed only as far as the smallest one before it; none is below `low`, so one that
+// equals it ends the pass.
 fn smallest(
     store: &[u8],
     m: Model,
@@ -75,7 +84,7 @@ fn smallest(
     };
     while list.rows < n && low < list.bound {
         let b = rows::read_row(table, list.rows);
-        list = with_box(list, model::bound_up_to(store, m, b, list.bound));
+        list = with_box(list, bound_below(store, m, b, list.bound));
     }
     Open {
         rows: n,
@@ -84,8 +93,8 @@ fn smallest(
     }
 }
 
-// The rows that are left of a list where the first with the smallest bound is taken out and all others stay. Those before its place have
-// larger bounds than it had, so they are looked at only if none behind it has as small a one.
+// The open boxes where the first with the smallest bound is taken out and all others stay: the table is the one without it, and `list`
+// still tells of it. Those before its place have larger bounds than it had, so they are looked at only if none from there on has the same.
 pub fn smallest_left(store: &[u8], m: Model, table: &[i16], list: Open, cost: u64) -> Open
     requires { ⌜ (checkModel (now store) m ≡ Pass) × (list .at < list .rows) × Left (bound m (pointsOf (now store))) cost (list .bound) (rowsOf (now table) (list .at)) (drop (list .at) (rowsOf (now table) (list .rows - 1))) ⌝ }
     ensures { λ r. ⌜ r ≡ openOf (bound m (pointsOf (now (store .entry)))) cost (rowsOf (now (table .entry)) (list .rows - 1)) ⌝ }
@@ -95,7 +104,7 @@ pub fn smallest_left(store: &[u8], m: Model, table: &[i16], list: Open, cost: u6
     if back.bound <= list.bound {
         return back;
     }
-    let front = smallest(store, m, table, 0, list.at, cost, list.bound);
+    let front = smallest(store, m, table, 0, list.at, cost, list.bound + 1);
     if back.bound < front.bound {
         return back;
     }
@@ -104,14 +113,6 @@ pub fn smallest_left(store: &[u8], m: Model, table: &[i16], list: Open, cost: u6
         at: front.at,
         bound: front.bound,
     }
-}
-
-// A box's bound as far as it is below a cost.
-pub fn bound_below(store: &[u8], m: Model, b: Box, cost: u64) -> u64
-    requires { ⌜ checkModel (now store) m ≡ Pass ⌝ }
-    ensures { λ r. ⌜ SameBelow cost r (bound m (pointsOf (now (store .entry))) b) ⌝ }
-{
-    model::bound_up_to(store, m, b, cost)
 }
 
 // How many of the open boxes but the one at `at` have bounds below a cost.

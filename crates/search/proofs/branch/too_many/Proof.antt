@@ -19,7 +19,7 @@ returns c =
     let start = c .before .before .before in
     let a = start .args in
     sym
-    (room-for-all (bound (a .m) (pointsOf (a .store .now))) (a .table .now) (a .list .rows) (a .list .at) (start .pre .1 .inside) (start .pre .1 .room) (a .new) (a .more) (c .if1 .taken))
+    (room-for-all (bound (a .m) (pointsOf (a .store .now))) (a .table .now) (a .list .rows) (a .list .at) (start .pre .1 .inside) (start .pre .1 .room) (a .new) (a .more) (omega (arith, c .if1 .taken)))
 
 returns-2 : tie.Need-returns-2
 returns-2 c =
@@ -27,7 +27,7 @@ returns-2 c =
     let a = start .args in
     rw (c .if2 .taken)
     (sym
-    (none-leaves (bound (a .m) (pointsOf (a .store .now))) (a .table .now) (a .list .rows) (a .list .at) (start .pre .1 .inside) (start .pre .1 .room) (a .old) (a .more) (start .pre .1 .below) (c .before .if1 .left)))
+    (none-leaves (bound (a .m) (pointsOf (a .store .now))) (a .table .now) (a .list .rows) (a .list .at) (start .pre .1 .inside) (start .pre .1 .room) (a .old) (a .more) (start .pre .1 .below) (omega (arith, c .before .if1 .left))))
 
 kept-rows-requires : tie.Need-kept-rows-requires
 kept-rows-requires c κs = search needs

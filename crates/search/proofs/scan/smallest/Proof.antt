@@ -13,7 +13,6 @@ use Rattle.model.specs.Cost.{bound}
 use Rattle.rows.specs.Rows.{rowAt}
 use Rattle.search.specs.declared.scan.Open.{Open}
 use Rattle.search.specs.Inside.{SameBelow}
-use Rattle.search.proofs.UpTo.{found-below}
 use Rattle.search.proofs.Listing.{Told, rows-if}
 use Rattle.search.proofs.Parts.{part, part-all, none-yet, part-told, part-ends, part-stops}
 use Rattle.search.proofs.scan.smallest.Statement.{statement}
@@ -35,8 +34,8 @@ loop-holds c =
 read-row-requires : tie.Need-read-row-requires Inv-loop μ-loop
 read-row-requires c κs = search needs
 
-bound-up-to-requires : tie.Need-bound-up-to-requires Inv-loop μ-loop
-bound-up-to-requires c κs = search needs
+bound-below-requires : tie.Need-bound-below-requires Inv-loop μ-loop
+bound-below-requires c κs = search needs
 
 with-box-requires : tie.Need-with-box-requires Inv-loop μ-loop
 with-box-requires c κs = omega arith
@@ -59,13 +58,10 @@ module _ (c : tie.After-with-box Inv-loop μ-loop) where
   i = turn .loop .list .rows
 
   one-more : c .with-box .result .rows ≡ i + 1
-  one-more = ap (λ (o : Open). o .rows) (c .with-box .ensures) ∙ rows-if true (turn .loop .list) (c .before .bound-up-to .result)
+  one-more = ap (λ (o : Open). o .rows) (c .with-box .ensures) ∙ rows-if true (turn .loop .list) (c .before .bound-below .result)
 
-  found : SameBelow (turn .loop .list .bound) (c .before .bound-up-to .result) (B (rowAt t i))
-  found =
-      found-below (begun .args .store .now) (begun .args .m) (begun .pre .0) (c .before .before .read-row .result) (turn .loop .list .bound) _ _
-      (c .before .bound-up-to .ensures) (omega arith)
-      ∙ ap (λ (b : Box). min (B b) (turn .loop .list .bound)) (c .before .before .read-row .ensures)
+  found : SameBelow (turn .loop .list .bound) (c .before .bound-below .result) (B (rowAt t i))
+  found = c .before .bound-below .ensures ∙ ap (λ (b : Box). min (B b) (turn .loop .list .bound)) (c .before .before .read-row .ensures)
 
 loop-less : tie.Need-loop-less Inv-loop μ-loop
 loop-less c = omega (arith, one-more c)
@@ -76,7 +72,7 @@ loop-again c =
     let a = begun c .args in (
       omega (arith, one-more c),
       omega (arith, one-more c),
-      part-told (t c) (B c) (a .cost) (a .start) (l .list) (c .before .bound-up-to .result) (c .with-box .result) (l .inv .0) (l .inv .2) (found c)
+      part-told (t c) (B c) (a .cost) (a .start) (l .list) (c .before .bound-below .result) (c .with-box .result) (l .inv .0) (l .inv .2) (found c)
           (part-all (t c) (a .start) (i c) (a .n) (l .inv .0) (omega arith) (begun c .pre .3)) (c .with-box .ensures),
     )
 
@@ -103,7 +99,7 @@ smallest-spec =
     μ-loop
     loop-holds
     read-row-requires
-    bound-up-to-requires
+    bound-below-requires
     with-box-requires
     loop-less
     loop-again
