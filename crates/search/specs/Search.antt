@@ -8,7 +8,7 @@ use lib.ListN.{length, drop, replicate}
 use Rattle.codes.specs.declared.Check.{Check}
 use Rattle.codes.specs.declared.Check.the-variants.{Pass, Refuse}
 use Rattle.codes.specs.declared.Refusal.{Refusal}
-use Rattle.codes.specs.Codes.{numberOf, passIf, inOrder}
+use Rattle.codes.specs.Codes.{passIf, inOrder}
 use Rattle.boxes.specs.Boxes.{checkBox, checkStart}
 use Rattle.jobs.specs.declared.Job.{Job}
 use Rattle.points.specs.Points.{pointsOf, checkStray}
@@ -33,12 +33,12 @@ kindOf solved = Solved
 kindOf spent = Spent
 kindOf full = Full
 
--- "kind (1 solved, 2 spent, 3 full)"; a refusal has "the refusal number"
+-- "kind (1 solved, 2 spent, 3 full)"; a refusal has no kind, and 0 is no kind's number
 abbrev pub kindNumber : Kind → ℕ
 kindNumber Solved = 1
 kindNumber Spent = 2
 kindNumber Full = 3
-kindNumber (Refused why) = numberOf why
+kindNumber (Refused why) = 0
 
 -- "The answer carries vector, C, L, count, open boxes and peak", the boxes by their number: they stand in the table.
 abbrev pub told : Search.Answer → Answer
