@@ -28,17 +28,17 @@ module _ (cost : List ℤ → ℕ) (bound : Box → ℕ) (budget rows t : ℕ) (
 
   -- V is at least 1 and V − 1 exact, since the start vector lies in the box; C − L is exact by `ordered`.
   pub record Certificate (r : Answer) : Type 0 where
-    -- "the vector lies in the box and costs exactly C"
+    -- "The vector lies in the box and costs exactly C."
     pub inside : InBox (r .vector) box
     pub exact : r .cost ≡ cost (r .vector)
-    -- "L ≤ C"
+    -- "L is at most C,
     pub ordered : r .bound ≤ r .cost
-    -- "every grid vector of the box costs at least L"
+    -- and every other grid vector of the box costs at least L."
     pub least : (v : List ℤ) → InBox v box → r .bound ≤ cost v
-    -- "the count is the number of splits counted and at most V − 1"
+    -- "The count is the number of splits that this search counted, and it is at most V − 1."
     pub counted : Reached (r .count) (stateOf r)
     pub few : r .count ≤ volume box - 1
-    -- "the answer reads solved exactly when C − L ≤ t"
+    -- "The answer reads solved exactly when C − L is at most t,
     pub reads : (r .kind ≡ solved) ↔ (r .cost - r .bound ≤ t)
-    -- "and does so whenever the budget is at least V − 1 and r at least V / 2"
+    -- and it reads solved whenever the budget is at least V − 1 and r is at least V / 2."
     pub suffices : volume box - 1 ≤ budget → volume box ≤ 2 * rows → r .kind ≡ solved
