@@ -36,20 +36,20 @@ int main(void)
 
     uint32_t code = vengutari_cost(store, sizeof store, n, d, scale, p, eps, vector, 8, &value);
     if (code != 0)
-        return printf("refused %u\n", (unsigned)code), 1;
+        return printf("refused %u\n", (unsigned)VENGUTARI_NUMBER(code)), 1;
     printf("cost %llu\n", (unsigned long long)value);
 
     /* No vector with line 1 from 0 to 8 and line 2 from -8 to -1 is cheaper than this. */
     const int16_t corners[16] = {0, -8, 0, 0, 0, 0, 0, 0, 8, -1};
     code = vengutari_bound(store, sizeof store, n, d, scale, p, eps, corners, 16, &value);
     if (code != 0)
-        return printf("refused %u\n", (unsigned)code), 1;
+        return printf("refused %u\n", (unsigned)VENGUTARI_NUMBER(code)), 1;
     printf("bound %llu\n", (unsigned long long)value);
 
     uint8_t labels[POINTS];
     code = vengutari_labels(store, sizeof store, n, d, scale, p, eps, vector, 8, labels, POINTS, &value);
     if (code != 0)
-        return printf("refused %u\n", (unsigned)code), 1;
+        return printf("refused %u\n", (unsigned)VENGUTARI_NUMBER(code)), 1;
     printf("labels");
     for (uint64_t i = 0; i < value; i++)
         printf(" %u", labels[i]);
@@ -58,6 +58,6 @@ int main(void)
     /* A stray field: record 4 has an x2, but one dimension is used. */
     store[4 * RECORD + 3] = 1;
     code = vengutari_cost(store, sizeof store, n, d, scale, p, eps, vector, 8, &value);
-    printf("refused %u, record %llu\n", (unsigned)code, (unsigned long long)value);
+    printf("refused %u, record %u\n", (unsigned)VENGUTARI_NUMBER(code), (unsigned)VENGUTARI_RECORD(code));
     return 0;
 }

@@ -70,7 +70,7 @@ static uint32_t print_line(const struct found *found)
 
 static int refused(uint32_t code)
 {
-    printf("refused %u\n", (unsigned)code);
+    printf("refused %u\n", (unsigned)VENGUTARI_NUMBER(code));
     return 1;
 }
 

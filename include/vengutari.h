@@ -2,11 +2,12 @@
  *
  * Each call returns a code:
  *   0         accepted
- *   1 to 12   refused, by the number of the paper's table of refusals
+ *   1 to 12   refused, by the number of the paper's table of refusals; 7 (an x after the d-th is not 0) comes with 256 times the number of
+ *             that record added, records counting from 0
  *   255       a buffer has the wrong length; looked at before everything else
+ * VENGUTARI_NUMBER takes the number out of a code, and VENGUTARI_RECORD the record.
  *
- * Results go into memory that the caller lends. A call that is not accepted leaves it as it is, with one exception: where the code is 7 (an x
- * after the d-th is not 0), *value is the number of that record.
+ * Results go into memory that the caller lends. A call that is not accepted leaves all of it as it is.
  *
  * A length counts elements, not bytes. No pointer is null, each points to as many elements as its length says, and what one argument
  * lends for writing no other argument reaches. Nothing is allocated or kept, so calls on different memory may run at the same time.
@@ -30,6 +31,10 @@ extern "C" {
 
 /* A buffer of the wrong length: no refusal of the paper. */
 #define VENGUTARI_WRONG_LENGTH 255u
+
+/* The number of a refusal, and where that is 7 the record's. */
+#define VENGUTARI_NUMBER(code) ((code) % 256u)
+#define VENGUTARI_RECORD(code) ((code) / 256u)
 
 /* The loss of a residual e. Refusal 4. */
 uint32_t vengutari_loss(uint8_t p, uint32_t eps, int64_t e, uint64_t *value);

@@ -122,7 +122,7 @@ class Trace(unittest.TestCase):
     def test_a_part_of_another_owner_is_noticed(self):
         self.assertTrue(stands("capi::vengutari_search", ["numbers"]))
         self.assertFalse(stands("capi::vengutari_cost", ["numbers"]))
-        self.assertFalse(stands("model::labels", ["outcome"]))
+        self.assertFalse(stands("labels::labels", ["outcome"]))
         self.assertFalse(stands("search::Kind", ["answer"]))
         self.assertFalse(stands("compare loss", ["outcome"]))
         self.assertTrue(stands("certificate/Certificate: Finished", ["stopped"]))

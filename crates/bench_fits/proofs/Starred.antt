@@ -8,7 +8,8 @@ use Rattle.boxes.specs.Shape.{checkShape}
 use Rattle.boxes.specs.Boxes.{atMost, sideSize, sides, product, checkBox}
 use Rattle.boxes.specs.Split.{firstLargest, leftHalf, rightHalf, splitChecks, splitAnswer}
 use Rattle.loss.specs.Loss.{lossOf}
-use Rattle.model.specs.Cost.{dot, residual, sizeAt, dotMax, dotMin, eMin, eMax, nearestTo0, leastSize, least, firstLeast, label, totalLoss, cost, bound}
+use Rattle.residuals.specs.Cost.{dot, residual, sizeAt, dotMax, dotMin, eMin, eMax, nearestTo0, leastSize, least, totalLoss, cost, bound}
+use Rattle.labels.specs.Labels.{firstLeast, label}
 use Rattle.certificate.specs.Search.{keepBelow, lowerBound, firstSmallest, cheaper, begin, split, answer, ifRoom, step, follow, run, search}
 use Rattle.coefficients.specs.Coefficient.{exponentOf, fractionOf, fieldsOf, patternOf}
 use Rattle.scale.specs.Scale.{checkScale}
@@ -16,14 +17,15 @@ use Rattle.loss.specs.Loss.{checkLoss}
 use Rattle.boxes.specs.Boxes.{checkStart}
 use Rattle.points.specs.Points.{unsignedAt, signedAt, pointAt, firstPoints, pointsOf, checkStore, strayFrom, checkStray}
 use Rattle.model.specs.Calls.{checkModel}
-use Rattle.records.specs.Fields.{bigEndian, fromBigEndian, vectorBytes, vectorOf}
-use Rattle.records.specs.Jobs.{jobBytes, jobOf}
-use Rattle.text.specs.Text.{digitsOf, decimal, signed, behindCommas, joined}
+use Rattle.fields.specs.Fields.{bigEndian, fromBigEndian, vectorBytes, vectorOf}
+use Rattle.job_records.specs.Jobs.{jobBytes, jobOf}
+use Rattle.decimal.specs.Text.{digitsOf, decimal, signed, behindCommas, joined}
 use Rattle.text.specs.Line.{fields, line}
+use Rattle.search.specs.Search.{checkJob, searched}
 use Rattle.report.specs.Report.{checkFit, fitAnswer, fitLine}
 use Rattle.bench_fits.specs.Starred.{StarredHold}
 
 pub starred-hold : StarredHold
-unfolding maxZ minZ floorHalf allZero inOrder checkShape atMost sideSize sides product checkBox firstLargest leftHalf rightHalf splitChecks splitAnswer lossOf dot residual sizeAt dotMax dotMin eMin eMax nearestTo0 leastSize least firstLeast label totalLoss cost bound keepBelow lowerBound firstSmallest cheaper begin split answer ifRoom step follow run search exponentOf fractionOf fieldsOf patternOf size checkScale checkLoss checkStart unsignedAt signedAt pointAt firstPoints pointsOf checkStore strayFrom checkStray checkModel bigEndian fromBigEndian vectorBytes vectorOf jobBytes jobOf digitsOf decimal signed behindCommas joined fields line checkFit fitAnswer fitLine
+unfolding maxZ minZ floorHalf allZero inOrder checkShape atMost sideSize sides product checkBox firstLargest leftHalf rightHalf splitChecks splitAnswer lossOf dot residual sizeAt dotMax dotMin eMin eMax nearestTo0 leastSize least firstLeast label totalLoss cost bound keepBelow lowerBound firstSmallest cheaper begin split answer ifRoom step follow run search exponentOf fractionOf fieldsOf patternOf size checkScale checkLoss checkStart unsignedAt signedAt pointAt firstPoints pointsOf checkStore strayFrom checkStray checkModel bigEndian fromBigEndian vectorBytes vectorOf jobBytes jobOf digitsOf decimal signed behindCommas joined fields line checkJob searched checkFit fitAnswer fitLine
 starred-hold =
     also refl (also refl (also refl (also refl (also refl (also refl (also refl (also refl (also refl (also refl (also refl (also refl (also refl (also refl (also refl (also refl (also refl (also refl (also refl none))))))))))))))))))

@@ -12,11 +12,12 @@ use Rattle.jobs.specs.declared.Job.{Job}
 use Rattle.jobs.specs.declared.Model.{Model}
 use Rattle.loss.specs.Loss.{lossOf}
 use Rattle.points.specs.declared.Point.{Point}
-use Rattle.model.specs.Cost.{residual, leastSize, label}
+use Rattle.residuals.specs.Cost.{residual, leastSize}
+use Rattle.labels.specs.Labels.{label}
 use Rattle.coefficients.specs.Coefficient.{patternOf}
-use Rattle.records.specs.Fields.{vectorBytes}
-use Rattle.records.specs.Jobs.{jobBytes}
-use Rattle.text.specs.Text.{ascii, byte}
+use Rattle.fields.specs.Fields.{vectorBytes}
+use Rattle.job_records.specs.Jobs.{jobBytes}
+use Rattle.decimal.specs.Text.{ascii, byte}
 use Rattle.report.specs.Report.{fitLine}
 
 -- What the paper says in a bench fit: a thing worked out, and behind it the value that it has.

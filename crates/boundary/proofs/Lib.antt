@@ -1,3 +1,2 @@
-pub mod Listed
-pub mod Filling
-pub mod Buffers
+pub mod Codes
+pub mod Lengths

@@ -1,5 +1,5 @@
 -- What is shown of boxes and of their halves, and the two laws of a bound that a search rests on. The proofs stand in proofs/; that the
--- cost and the bound of a model have the two laws is shown in model/proofs/Bounds.antt.
+-- cost and the bound of a model have the two laws is shown in residuals/proofs/Bounds.antt.
 use mathlib.Core.Path.{_≡_}
 use mathlib.Core.Bool.{true}
 use mathlib.Core.List.{List, List·Memᴰ}

@@ -1,21 +1,17 @@
-// The calls of the line fitter for C and everything that speaks C, declared in include/vengutari.h. Each takes numbers and buffers with
-// their lengths, and returns 0, the paper's number of a refusal, or 255 for a buffer of the wrong length. What it answers goes into
-// lent memory, which a refusal leaves as it is; only the record number of a stray field (7) goes where the value would.
-pub mod formats;
-pub mod lines;
-pub mod searches;
-
-use boundary::model_of;
-use boundary::settle;
-use boundary::vector_of;
-use codes::Check;
+// The calls of the line fitter for C and everything that speaks C, declared in include/vengutari.h: each is its topic's call under a name of
+// its own, with the same contract. A call takes numbers and buffers with their lengths, and returns 0, the code of a refusal, or 255 for a
+// buffer of the wrong length. What it answers goes into lent memory, which a refusal leaves as it is.
 ghost use mathlib.Core.Path.{_≡_};
 ghost use Rattle.beacon.specs.Beacon.{storeAfter};
 ghost use Rattle.boundary.specs.Boundary.{modelOf, codeOf, valueAfter};
-ghost use Rattle.capi.specs.Calls.{lossCall, costCall, boundCall, labelsCall, labelsAfter, takeInCall, splitCall, halvesAfter};
-
-// A buffer of the wrong length: no number of the paper.
-const WRONG_LENGTH: u32 = 255;
+ghost use Rattle.evaluation_calls.specs.Calls.{lossCall, costCall, boundCall};
+ghost use Rattle.split_calls.specs.Calls.{splitCall, halvesAfter};
+ghost use Rattle.label_calls.specs.Calls.{labelsCall, labelsAfter};
+ghost use Rattle.search_calls.specs.Calls.{searchCall, vectorAfter, numbersAfter, TableAfterCall, CertifiedCall};
+ghost use Rattle.beacon_calls.specs.Calls.{takeInCall};
+ghost use Rattle.job_calls.specs.Calls.{readJobCall, jobNumbersAfter, cornersAfter, startAfter, writeJobCall, jobRecordAfter};
+ghost use Rattle.answer_calls.specs.Calls.{readAnswerCall, answerVectorAfter, answerNumbersAfter, writeAnswerCall, answerRecordAfter};
+ghost use Rattle.line_calls.specs.Calls.{writeLineCall, patternsAfter, readLineCall, coordinatesAfter};
 
 // The loss of a residual e.
 #[no_mangle]
@@ -23,7 +19,7 @@ pub extern "C" fn vengutari_loss(p: u8, eps: u32, e: i64, value: &mut u64) -> u3
     ensures code { λ k. ⌜ k ≡ codeOf (lossCall p eps e) ⌝ }
     ensures value { λ _. ⌜ now (value .exit) ≡ valueAfter (lossCall p eps e) (now (value .entry)) ⌝ }
 {
-    settle(loss::loss(p, eps, e), value)
+    evaluation_calls::loss(p, eps, e, value)
 }
 
 // The cost of a vector.
@@ -39,15 +35,10 @@ pub extern "C" fn vengutari_cost(
     value: &mut u64,
 ) -> u32
     ensures code { λ k. ⌜ k ≡ codeOf (costCall (now (store .entry)) (modelOf n d scale p eps) (now (vector .entry))) ⌝ }
-    ensures value { λ _. ⌜ now (value .exit) ≡ valueAfter (costCall (now (store .entry)) (modelOf n d scale p eps) (now (vector .entry))) (now (value .entry)) ⌝ }
+    ensures value { λ _. ⌜ now (value .exit)
+        ≡ valueAfter (costCall (now (store .entry)) (modelOf n d scale p eps) (now (vector .entry))) (now (value .entry)) ⌝ }
 {
-    if vector.len() != 8 {
-        return WRONG_LENGTH;
-    }
-    settle(
-        model::cost(store, model_of(n, d, scale, p, eps), vector_of(vector)),
-        value,
-    )
+    evaluation_calls::cost(store, n, d, scale, p, eps, vector, value)
 }
 
 // The bound of a box.
@@ -63,19 +54,10 @@ pub extern "C" fn vengutari_bound(
     value: &mut u64,
 ) -> u32
     ensures code { λ k. ⌜ k ≡ codeOf (boundCall (now (store .entry)) (modelOf n d scale p eps) (now (corners .entry))) ⌝ }
-    ensures value { λ _. ⌜ now (value .exit) ≡ valueAfter (boundCall (now (store .entry)) (modelOf n d scale p eps) (now (corners .entry))) (now (value .entry)) ⌝ }
+    ensures value { λ _. ⌜ now (value .exit)
+        ≡ valueAfter (boundCall (now (store .entry)) (modelOf n d scale p eps) (now (corners .entry))) (now (value .entry)) ⌝ }
 {
-    if corners.len() != 16 {
-        return WRONG_LENGTH;
-    }
-    settle(
-        model::bound(
-            store,
-            model_of(n, d, scale, p, eps),
-            rows::read_row(corners, 0),
-        ),
-        value,
-    )
+    evaluation_calls::bound(store, n, d, scale, p, eps, corners, value)
 }
 
 // Splits one box; the left half goes into the first row of `halves`, the right one into the second.
@@ -84,24 +66,7 @@ pub extern "C" fn vengutari_split(n: u8, d: u8, corners: &[i16], halves: &mut [i
     ensures code { λ k. ⌜ k ≡ codeOf (splitCall n d (now (corners .entry)) (now (halves .entry))) ⌝ }
     ensures halves { λ _. ⌜ now (halves .exit) ≡ halvesAfter n d (now (corners .entry)) (now (halves .entry)) ⌝ }
 {
-    if corners.len() != 16 {
-        return WRONG_LENGTH;
-    }
-    if halves.len() < 32 {
-        return WRONG_LENGTH;
-    }
-    let cut = boxes::split(n, d, rows::read_row(corners, 0));
-    let check = cut.check;
-    match check {
-        Check::Pass => {
-            let left = cut.left;
-            let right = cut.right;
-            rows::write_row(halves, 0, left);
-            rows::write_row(halves, 1, right);
-            0
-        }
-        Check::Refuse(r) => codes::number(r) as u32,
-    }
+    split_calls::split(n, d, corners, halves)
 }
 
 // One label a point into the front of `labels`; the value is their number.
@@ -117,15 +82,71 @@ pub extern "C" fn vengutari_labels(
     labels: &mut [u8],
     value: &mut u64,
 ) -> u32
-    ensures code { λ k. ⌜ k ≡ codeOf (labelsCall (now (store .entry)) (modelOf n d scale p eps) (now (vector .entry)) (now (labels .entry))) ⌝ }
-    ensures value { λ _. ⌜ now (value .exit) ≡ valueAfter (labelsCall (now (store .entry)) (modelOf n d scale p eps) (now (vector .entry)) (now (labels .entry))) (now (value .entry)) ⌝ }
-    ensures labels { λ _. ⌜ now (labels .exit) ≡ labelsAfter (now (store .entry)) (modelOf n d scale p eps) (now (vector .entry)) (now (labels .entry)) ⌝ }
+    ensures code { λ k. ⌜ k
+        ≡ codeOf (labelsCall (now (store .entry)) (modelOf n d scale p eps) (now (vector .entry)) (now (labels .entry))) ⌝ }
+    ensures value { λ _. ⌜ now (value .exit)
+        ≡ valueAfter (labelsCall (now (store .entry)) (modelOf n d scale p eps) (now (vector .entry)) (now (labels .entry)))
+        (now (value .entry)) ⌝ }
+    ensures labels { λ _. ⌜ now (labels .exit)
+        ≡ labelsAfter (now (store .entry)) (modelOf n d scale p eps) (now (vector .entry)) (now (labels .entry)) ⌝ }
 {
-    if vector.len() != 8 {
-        return WRONG_LENGTH;
-    }
-    let m = model_of(n, d, scale, p, eps);
-    settle(model::labels(store, m, vector_of(vector), labels), value)
+    label_calls::labels(store, n, d, scale, p, eps, vector, labels, value)
+}
+
+// Searches a box with the rows of a lent table. The value is the kind of the answer; its vector and its numbers go into their buffers.
+#[no_mangle]
+pub extern "C" fn vengutari_search(
+    store: &[u8],
+    n: u8,
+    d: u8,
+    scale: u8,
+    p: u8,
+    eps: u32,
+    t: u64,
+    budget: u32,
+    corners: &[i16],
+    start: &[i16],
+    table: &mut [i16],
+    vector: &mut [i16],
+    numbers: &mut [u64],
+    value: &mut u64,
+) -> u32
+    ensures code { λ k. ⌜ k
+        ≡ codeOf (searchCall (now (store .entry)) (modelOf n d scale p eps) t budget (now (corners .entry)) (now (start .entry))
+        (now (table .entry)) (now (vector .entry)) (now (numbers .entry))) ⌝ }
+    ensures value { λ _. ⌜ now (value .exit)
+        ≡ valueAfter (searchCall (now (store .entry)) (modelOf n d scale p eps) t budget (now (corners .entry)) (now (start .entry))
+        (now (table .entry)) (now (vector .entry)) (now (numbers .entry))) (now (value .entry)) ⌝ }
+    ensures vector { λ _. ⌜ now (vector .exit)
+        ≡ vectorAfter (now (store .entry)) (modelOf n d scale p eps) t budget (now (corners .entry)) (now (start .entry))
+        (now (table .entry)) (now (vector .entry)) (now (numbers .entry)) ⌝ }
+    ensures numbers { λ _. ⌜ now (numbers .exit)
+        ≡ numbersAfter (now (store .entry)) (modelOf n d scale p eps) t budget (now (corners .entry)) (now (start .entry))
+        (now (table .entry)) (now (vector .entry)) (now (numbers .entry)) ⌝ }
+    ensures table { λ _. ⌜
+        TableAfterCall (now (store .entry)) (modelOf n d scale p eps) t budget (now (corners .entry)) (now (start .entry))
+        (now (table .entry)) (now (vector .entry)) (now (numbers .entry)) (now (table .exit)) ⌝ }
+    ensures certificate { λ k. ⌜ (k ≡ 0 →
+        CertifiedCall (now (store .entry)) (modelOf n d scale p eps) t budget (now (corners .entry)) (now (start .entry))
+        (now (table .entry)) (now (vector .entry)) (now (numbers .entry)) (now (value .exit)) (now (vector .exit))
+        (now (numbers .exit))) ⌝ }
+{
+    search_calls::search(
+        store,
+        n,
+        d,
+        scale,
+        p,
+        eps,
+        t,
+        budget,
+        corners,
+        start,
+        table,
+        vector,
+        numbers,
+        value,
+    )
 }
 
 // Takes a beacon in behind the first `mark` bytes of the store; the value is the new mark.
@@ -137,8 +158,113 @@ pub extern "C" fn vengutari_take_in(
     value: &mut u64,
 ) -> u32
     ensures code { λ k. ⌜ k ≡ codeOf (takeInCall (now (store .entry)) mark (now (beacon .entry))) ⌝ }
-    ensures value { λ _. ⌜ now (value .exit) ≡ valueAfter (takeInCall (now (store .entry)) mark (now (beacon .entry))) (now (value .entry)) ⌝ }
+    ensures value { λ _. ⌜ now (value .exit)
+        ≡ valueAfter (takeInCall (now (store .entry)) mark (now (beacon .entry))) (now (value .entry)) ⌝ }
     ensures store { λ _. ⌜ now (store .exit) ≡ storeAfter (now (store .entry)) mark (now (beacon .entry)) ⌝ }
 {
-    settle(beacon::take_in(store, mark, beacon), value)
+    beacon_calls::take_in(store, mark, beacon, value)
+}
+
+// Reads the job record in the first 72 bytes.
+#[no_mangle]
+pub extern "C" fn vengutari_read_job(
+    bytes: &[u8],
+    numbers: &mut [u64],
+    corners: &mut [i16],
+    start: &mut [i16],
+) -> u32
+    ensures code { λ k. ⌜ k
+        ≡ codeOf (readJobCall (now (bytes .entry)) (now (numbers .entry)) (now (corners .entry)) (now (start .entry))) ⌝ }
+    ensures numbers { λ _. ⌜ now (numbers .exit)
+        ≡ jobNumbersAfter (now (bytes .entry)) (now (numbers .entry)) (now (corners .entry)) (now (start .entry)) ⌝ }
+    ensures corners { λ _. ⌜ now (corners .exit)
+        ≡ cornersAfter (now (bytes .entry)) (now (numbers .entry)) (now (corners .entry)) (now (start .entry)) ⌝ }
+    ensures start { λ _. ⌜ now (start .exit)
+        ≡ startAfter (now (bytes .entry)) (now (numbers .entry)) (now (corners .entry)) (now (start .entry)) ⌝ }
+{
+    job_calls::read_job(bytes, numbers, corners, start)
+}
+
+// Writes a job record into the first 72 bytes.
+#[no_mangle]
+pub extern "C" fn vengutari_write_job(
+    n: u8,
+    d: u8,
+    scale: u8,
+    p: u8,
+    eps: u32,
+    t: u64,
+    budget: u32,
+    rows: u32,
+    corners: &[i16],
+    start: &[i16],
+    bytes: &mut [u8],
+) -> u32
+    ensures code { λ k. ⌜ k ≡ codeOf (writeJobCall (now (corners .entry)) (now (start .entry)) (now (bytes .entry))) ⌝ }
+    ensures bytes { λ _. ⌜ now (bytes .exit)
+        ≡ jobRecordAfter (modelOf n d scale p eps) t budget rows (now (corners .entry)) (now (start .entry)) (now (bytes .entry)) ⌝ }
+{
+    job_calls::write_job(n, d, scale, p, eps, t, budget, rows, corners, start, bytes)
+}
+
+// Reads an answer record of 40 bytes.
+#[no_mangle]
+pub extern "C" fn vengutari_read_answer(
+    bytes: &[u8],
+    vector: &mut [i16],
+    numbers: &mut [u64],
+) -> u32
+    ensures code { λ k. ⌜ k ≡ codeOf (readAnswerCall (now (bytes .entry)) (now (vector .entry)) (now (numbers .entry))) ⌝ }
+    ensures vector { λ _. ⌜ now (vector .exit) ≡ answerVectorAfter (now (bytes .entry)) (now (vector .entry)) (now (numbers .entry)) ⌝ }
+    ensures numbers { λ _. ⌜ now (numbers .exit) ≡ answerNumbersAfter (now (bytes .entry)) (now (vector .entry)) (now (numbers .entry)) ⌝ }
+{
+    answer_calls::read_answer(bytes, vector, numbers)
+}
+
+// Writes an answer record into the first 40 bytes.
+#[no_mangle]
+pub extern "C" fn vengutari_write_answer(
+    vector: &[i16],
+    cost: u64,
+    bound: u64,
+    count: u32,
+    kind: u8,
+    n: u8,
+    d: u8,
+    scale: u8,
+    bytes: &mut [u8],
+) -> u32
+    ensures code { λ k. ⌜ k ≡ codeOf (writeAnswerCall (now (vector .entry)) cost bound count kind n d scale (now (bytes .entry))) ⌝ }
+    ensures bytes { λ _. ⌜ now (bytes .exit)
+        ≡ answerRecordAfter (now (vector .entry)) cost bound count kind n d scale (now (bytes .entry)) ⌝ }
+{
+    answer_calls::write_answer(vector, cost, bound, count, kind, n, d, scale, bytes)
+}
+
+// Writes a line: the patterns of its four coefficients.
+#[no_mangle]
+pub extern "C" fn vengutari_write_line(
+    d: u8,
+    scale: u8,
+    coordinates: &[i16],
+    patterns: &mut [u32],
+) -> u32
+    ensures code { λ k. ⌜ k ≡ codeOf (writeLineCall d scale (now (coordinates .entry)) (now (patterns .entry))) ⌝ }
+    ensures patterns { λ _. ⌜ now (patterns .exit) ≡ patternsAfter d scale (now (coordinates .entry)) (now (patterns .entry)) ⌝ }
+{
+    line_calls::write_line(d, scale, coordinates, patterns)
+}
+
+// Reads a line from the patterns of its four coefficients.
+#[no_mangle]
+pub extern "C" fn vengutari_read_line(
+    d: u8,
+    scale: u8,
+    patterns: &[u32],
+    coordinates: &mut [i16],
+) -> u32
+    ensures code { λ k. ⌜ k ≡ codeOf (readLineCall d scale (now (coordinates .entry)) (now (patterns .entry))) ⌝ }
+    ensures coordinates { λ _. ⌜ now (coordinates .exit) ≡ coordinatesAfter d scale (now (coordinates .entry)) (now (patterns .entry)) ⌝ }
+{
+    line_calls::read_line(d, scale, patterns, coordinates)
 }

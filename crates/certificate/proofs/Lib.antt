@@ -2,7 +2,6 @@ pub mod Lists
 pub mod Kept
 pub mod Smallest
 pub mod Cover
-pub mod Opened
 pub mod Steps
 pub mod Reached
 pub mod Certified

@@ -9,7 +9,7 @@ use mir.Syntax.{w16, w64}
 use mir.Val.{SFits, toZ, ofZ}
 use mir.Facts.{toZ-ofZ}
 use Rattle.integers.proofs.Parts.{size-sfits, fits-add}
-use Rattle.model.specs.Cost.{at, dot}
+use Rattle.residuals.specs.Cost.{at, dot}
 
 -- two numbers whose sum fits
 module _ (a b : ℤ) (h : natAbs a + natAbs b < 2 ^ 63) where

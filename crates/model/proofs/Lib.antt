@@ -1,10 +1,4 @@
-pub mod Least
 pub mod Dots
-pub mod Spans
-pub mod Sums
+pub mod Ends
 pub mod Losses
-pub mod Sizes
-pub mod Filling
 pub mod Passed
-pub mod Bounds
-pub mod Frames

@@ -1,14 +1,11 @@
 -- The calls on a store and a model: which checks each makes, and what it answers. "Codes for jobs that can't run".
-use mathlib.Core.List.{List, [], _∷_, map}
+use mathlib.Core.List.{List, [], _∷_}
 use Prim.Native.Nat.{ℕ, min}
-use lib.Dec.{leb}
 use lib.IntN.{ℤ}
 use lib.ListN.{length}
-use Rattle.integers.specs.Lists.{over}
 use Rattle.codes.specs.declared.Check.{Check}
 use Rattle.codes.specs.declared.Outcome.{Outcome}
-use Rattle.codes.specs.declared.Refusal.the-variants.{Short}
-use Rattle.codes.specs.Codes.{passIf, inOrder, unlessRefused, ifPassed}
+use Rattle.codes.specs.Codes.{inOrder, unlessRefused, ifPassed}
 use Rattle.scale.specs.Scale.{checkScale}
 use Rattle.boxes.specs.declared.Box.{Box}
 use Rattle.boxes.specs.Shape.{checkShape, checkVector}
@@ -16,7 +13,7 @@ use Rattle.boxes.specs.Boxes.{checkBox}
 use Rattle.jobs.specs.declared.Model.{Model}
 use Rattle.points.specs.Points.{pointsOf, checkStore, checkStray}
 use Rattle.loss.specs.Loss.{checkLoss}
-use Rattle.model.specs.Cost.{cost, bound, label}
+use Rattle.residuals.specs.Cost.{cost, bound}
 
 -- Checks 1 to 4, which every call here makes first.
 unfoldable pub checkModel : List ℕ → Model → Check
@@ -38,18 +35,6 @@ checkBound store m B = inOrder (checkModel store m ∷ checkBox (m .n) (m .d) B 
 -- what a bound answers
 unfoldable pub boundAnswer : List ℕ → Model → Box → Outcome
 boundAnswer store m B = unlessRefused (checkBound store m B) (bound m (pointsOf store) B)
-
--- "labelling 1 to 4, 6, 7 and 10"; 10: "output too small"
-unfoldable pub checkLabels : List ℕ → Model → List ℤ → List ℕ → Check
-checkLabels store m v out = inOrder (checkCost store m v ∷ passIf (leb (length (pointsOf store)) (length out)) Short ∷ [])
-
--- The answer is the number of bytes written.
-unfoldable pub labelsAnswer : List ℕ → Model → List ℤ → List ℕ → Outcome
-labelsAnswer store m v out = unlessRefused (checkLabels store m v out) (length (pointsOf store))
-
--- "One byte per point is written, the buffer's rest is kept."
-unfoldable pub labelled : List ℕ → Model → List ℤ → List ℕ → List ℕ
-labelled store m v out = ifPassed (checkLabels store m v out) (over (map (label m v) (pointsOf store)) out) out
 
 -- What a search asks of a cost or a bound, again and again, under a model and a store that it has checked: its value, or `cap` if
 -- that is less. Where checks 1 to 4 refuse, 0.

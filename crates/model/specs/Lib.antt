@@ -1,4 +1,3 @@
-pub mod Cost
 pub mod Calls
 pub mod Laws
 pub mod Inside

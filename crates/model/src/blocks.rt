@@ -3,7 +3,7 @@ ghost use mathlib.Core.Path.{_≡_};
 ghost use Prim.Native.Nat.{_≤_, min};
 ghost use lib.ListN.{getD};
 ghost use Rattle.loss.specs.Loss.{lossOf};
-ghost use Rattle.model.specs.Inside.{sumOf};
+ghost use Rattle.residuals.specs.Inside.{sumOf};
 
 // How many points the next block has, of those left.
 pub fn block_of(left: usize) -> usize

@@ -1,4 +1,4 @@
-// The cost of a vector, the bound of a box and the labels of the points, over a store of point records.
+// The cost of a vector and the bound of a box, over a store of point records.
 mod blocks;
 mod range;
 mod record;
@@ -7,16 +7,16 @@ mod residual;
 use boxes::Box;
 use codes::Check;
 use codes::Outcome;
-use codes::Refusal;
 use codes::in_order;
 use jobs::Model;
 ghost use mathlib.Core.List.{[], _∷_};
 ghost use mathlib.Core.Path.{_≡_};
 ghost use Rattle.codes.specs.Codes.{inOrder};
 ghost use Rattle.points.specs.Points.{pointsOf, checkStray};
-ghost use Rattle.model.specs.Calls.{checkModel, checkCost, costAnswer, checkBound, boundAnswer, labelsAnswer, labelled, costUpTo, boundUpTo};
+ghost use Rattle.model.specs.Calls.{checkModel, checkCost, costAnswer, checkBound, boundAnswer, costUpTo, boundUpTo};
 
-const NO_CAP: u64 = 18446744073709551615;
+// A cap that no cost and no bound reaches.
+pub const NO_CAP: u64 = 18446744073709551615;
 
 // Checks 1 to 4.
 pub fn check_model(store: &[u8], m: Model) -> Check
@@ -81,24 +81,6 @@ pub fn bound(store: &[u8], m: Model, b: Box) -> Outcome
             let low = b.low;
             let high = b.high;
             Outcome::Value(range::bound_sum(store, m, &low, &high, NO_CAP))
-        }
-        Check::Refuse(r) => Outcome::Refused(r),
-    }
-}
-
-// One label a point into the front of a lent buffer.
-pub fn labels(store: &[u8], m: Model, v: [i16; 8], out: &mut [u8]) -> Outcome
-    ensures answer { λ r. ⌜ r ≡ labelsAnswer (now (store .entry)) m v (now (out .entry)) ⌝ }
-    ensures buffer { λ _. ⌜ now (out .exit) ≡ labelled (now (store .entry)) m v (now (out .entry)) ⌝ }
-{
-    match check_cost(store, m, v) {
-        Check::Pass => {
-            let count = store.len() / 12;
-            if out.len() < count {
-                return Outcome::Refused(Refusal::Short);
-            }
-            residual::write_labels(store, m, &v, out);
-            Outcome::Value(count as u64)
         }
         Check::Refuse(r) => Outcome::Refused(r),
     }

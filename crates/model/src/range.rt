@@ -12,8 +12,9 @@ ghost use lib.IntN.{natAbs, _+ℤ_, _*ℤ_};
 ghost use lib.ListN.{length};
 ghost use Rattle.integers.specs.Integers.{maxZ, minZ};
 ghost use Rattle.points.specs.Points.{pointAt, pointsOf, xs};
-ghost use Rattle.model.specs.Cost.{at, dotMax, dotMin, leastSize, bound};
-ghost use Rattle.model.specs.Inside.{Ready, boxOf, nearOf, leastFrom, Begins, lossesFrom, positive};
+ghost use Rattle.residuals.specs.Cost.{at, dotMax, dotMin, leastSize, bound};
+ghost use Rattle.residuals.specs.Inside.{Ready, boxOf, nearOf, leastFrom, positive};
+ghost use Rattle.model.specs.Inside.{Begins, lossesFrom};
 
 fn larger(a: i64, b: i64) -> i64
     ensures { λ r. ⌜ r ≡ maxZ a b ⌝ }

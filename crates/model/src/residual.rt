@@ -1,18 +1,17 @@
-// The hot loops of cost and labels: sizes of residuals.
+// The hot loop of the cost: sizes of residuals.
 use crate::blocks::block_of;
 use crate::blocks::loss_sum;
 use crate::record::read_record;
 use jobs::Model;
 use points::Point;
 ghost use mathlib.Core.Path.{_≡_};
-ghost use mathlib.Core.List.{map};
 ghost use Prim.Native.Nat.{_+_, _*_, _^_, _≤_, _<_, min};
 ghost use lib.IntN.{pos, natAbs, _+ℤ_, _*ℤ_};
 ghost use lib.ListN.{length};
-ghost use Rattle.integers.specs.Lists.{over};
 ghost use Rattle.points.specs.Points.{pointAt, pointsOf, xs};
-ghost use Rattle.model.specs.Cost.{at, dot, sizeAt, least, firstLeast, cost, label};
-ghost use Rattle.model.specs.Inside.{Ready, sizeOf, leastFrom, Begins, lossesFrom};
+ghost use Rattle.residuals.specs.Cost.{at, dot, sizeAt, cost};
+ghost use Rattle.residuals.specs.Inside.{Ready, sizeOf, leastFrom};
+ghost use Rattle.model.specs.Inside.{Begins, lossesFrom};
 
 pub fn times(a: i16, b: i16) -> i64
     ensures product { λ r. ⌜ r ≡ a *ℤ b ⌝ }
@@ -166,55 +165,4 @@ pub fn cost_sum(s: &[u8], m: Model, v: &[i16], cap: u64) -> u64
         i += k;
     }
     loss::least(sum, cap)
-}
-
-// The line nearest to a point, the first among equals, and its |e|.
-pub struct Nearest {
-    pub line: usize,
-    pub size: u64,
-}
-
-fn nearest_line(q: Point, v: &[i16], n: usize, d: usize, power: u16) -> Nearest
-    requires { ⌜ (n * d ≤ length (now v)) × (1 ≤ n) × (1 ≤ d) × (d ≤ 4) ⌝ }
-    ensures line { λ r. ⌜ r .line ≡ firstLeast (λ j. sizeOf q (now (v .entry)) (j * d) d power) n ⌝ }
-    ensures size { λ r. ⌜ r .size ≡ least (λ j. sizeOf q (now (v .entry)) (j * d) d power) n ⌝ }
-{
-    let mut line: usize = 0;
-    let mut size = size_point(q, v, 0, d, power);
-    let mut j: usize = 1;
-    while j < n {
-        let other = size_point(q, v, j * d, d, power);
-        if other < size {
-            size = other;
-            line = j;
-        }
-        j += 1;
-    }
-    Nearest { line, size }
-}
-
-// The label of record i.
-fn label_record(s: &[u8], i: usize, m: Model, v: &[i16], power: u16) -> u8
-    requires { ⌜ Ready (length (now s)) m × (8 ≤ length (now v)) × (i * 12 + 12 ≤ length (now s)) × (power ≡ 2 ^ m .scale) ⌝ }
-    ensures { λ r. ⌜ r ≡ label m (now (v .entry)) (pointAt (now (s .entry)) i) ⌝ }
-{
-    let near = nearest_line(read_record(s, i * 12), v, m.n as usize, m.d as usize, power);
-    if near.size <= m.eps as u64 {
-        (near.line + 1) as u8
-    } else {
-        0
-    }
-}
-
-pub fn write_labels(s: &[u8], m: Model, v: &[i16], out: &mut [u8])
-    requires { ⌜ Ready (length (now s)) m × (8 ≤ length (now v)) × (length (pointsOf (now s)) ≤ length (now out)) ⌝ }
-    ensures { λ _. ⌜ now (out .exit) ≡ over (map (label m (now (v .entry))) (pointsOf (now (s .entry)))) (now (out .entry)) ⌝ }
-{
-    let power = scale::power(m.scale);
-    let count = s.len() / 12;
-    let mut i: usize = 0;
-    while i < count {
-        out[i] = label_record(s, i, m, v, power);
-        i += 1;
-    }
 }

@@ -1,5 +1,5 @@
 -- The search that is lent the job's rows is the one of the definition: its checks, its answer and its table. Assumes nothing.
-use mathlib.Core.List.{List, _++_}
+use mathlib.Core.List.{List, [], _++_}
 use mathlib.Core.Logic.{⊎-elim}
 use mathlib.Core.Bool.{true, false}
 use mathlib.Core.Path.{_≡_, refl, sym, ap, _∙_, subst}
@@ -21,11 +21,11 @@ use Rattle.codes.specs.declared.Refusal.{Refusal}
 use Rattle.jobs.specs.declared.Job.{Job}
 use Rattle.model.specs.Calls.{checkModel}
 use Rattle.points.specs.Points.{checkStore}
-use Rattle.records.specs.Jobs.{jobOf, readJob}
-use Rattle.records.specs.declared.JobRead.{JobRead}
+use Rattle.job_records.specs.Jobs.{jobOf, readJob}
+use Rattle.job_records.specs.declared.JobRead.{JobRead}
 use Rattle.rows.specs.Rows.{rowCount}
-use Rattle.search.proofs.Accepted.{accepted}
-use Rattle.search.specs.Search.{checkSearch, searched, searchAnswer, TableAfter, Certified}
+use Rattle.search.proofs.Accepted.{rows-accepted}
+use Rattle.search.specs.Search.{checkJob, checkSearch, searched, searchAnswer, TableAfter, Certified}
 use Rattle.search.specs.declared.Answer.{Answer}
 use Rattle.text.specs.Line.{line, lineIn}
 use Rattle.report.specs.Inside.{Searched, numbersLent}
@@ -105,7 +105,7 @@ module _ (input : List ℕ) (table : List ℤ) (long : 32768 ≤ length table) w
   short-refused short = rw (lt-leb 72 (length input) short) refl
 
   empty-refused : (job : Job) (numbers : ℕ) → length input < 72 → checkSearch (storeOf input) job numbers ≡ Refuse Refusal.Length
-  unfolding checkSearch checkModel checkStore inOrder
+  unfolding checkSearch checkJob checkModel checkStore inOrder
   empty-refused job numbers short = rw (drop-of-length-le input {i = 72} (le-of-lt short)) refl
 
   module _ (job : Job) (a : Answer) (after : List ℤ) (s : Searched (storeOf input) job table a after) where
@@ -140,7 +140,8 @@ module _ (input : List ℕ) (table : List ℤ) (long : 32768 ≤ length table) w
             record {
               long = same-long;
               untouched = λ w h. same;
-              open-rows = λ h. refused-not-passed why (sym e ∙ h);
+              leftovers = [];
+              rows = λ h. refused-not-passed why (sym e ∙ h);
               unused = λ h. refused-not-passed why (sym e ∙ h);
               rest = λ h. refused-not-passed why (sym e ∙ h);
             },
@@ -153,14 +154,13 @@ module _ (input : List ℕ) (table : List ℤ) (long : 32768 ≤ length table) w
     lent-rows all = rw all (row-count table (job .rows) long (omega (arith, lent-few (job .rows), all)))
 
     -- and their search is the one of the definition
-    same-search : job ≡ jobOf input → lent ≡ 16 * job .rows → searched (storeOf input) job (take lent table) ≡ fitSearch input
-    unfolding searched
+    same-search : job ≡ jobOf input → lent ≡ 16 * job .rows → searched (storeOf input) job (rowCount (take lent table)) ≡ fitSearch input
     same-search read all = rw (lent-rows all, read) refl
 
     accepted-fit : job ≡ jobOf input → checkFit input ≡ Pass → checkSearch (storeOf input) job (length (take lent table)) ≡ Pass → Promised a after
     unfolding fitAnswer fitLine searchAnswer
     accepted-fit read e pass =
-        let some = accepted (storeOf input) job (length (take lent table)) pass .rows in
+        let some = rows-accepted (storeOf input) job (length (take lent table)) pass in
         let all : lent ≡ 16 * job .rows = lent-all (job .rows) (omega (arith, lent-long, some)) in
         let same = same-search read all in (
           s .told ∙ rw (pass, e, same) refl,
@@ -168,7 +168,8 @@ module _ (input : List ℕ) (table : List ℤ) (long : 32768 ≤ length table) w
             record {
               long = same-long;
               untouched = λ why h. refused-not-passed why (sym h ∙ e);
-              open-rows = λ h. rw (same, all, read) at (s .rows .open-rows pass);
+              leftovers = s .rows .leftovers;
+              rows = λ h. rw (same, all, read) at (s .rows .rows pass);
               unused = λ h. rw (same, all, read) at (s .rows .rest pass);
               rest = λ h. rw (all, read) at (s .rest);
             },

@@ -44,7 +44,7 @@ fn write_line(input: &[u8], table: &mut [i16], out: &mut [u8]) -> usize
     ensures table { λ _. ⌜ TableAfterFit (now (input .entry)) (now (table .entry)) (now (table .exit)) ⌝ }
     ensures certificate { λ r. ⌜ FitCertified (now (input .entry)) (take r (now (out .exit))) ⌝ }
 {
-    let read = records::read_job(input);
+    let read = job_records::read_job(input);
     let job = read.job;
     let m = job.model;
     let start = store_start(input.len());

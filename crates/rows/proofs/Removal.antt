@@ -5,7 +5,7 @@ use mathlib.Core.List.{List, [], _∷_, _++_, append-assoc, append-nil}
 use Prim.Native.Nat.{ℕ, zero, suc, _+_, _*_, _-_, _≤_, _<_}
 use native.Mathlib.Omega.{arith}
 use lib.IntN.{ℤ}
-use lib.ListN.{length, take, drop, length-append, length-drop, drop-of-length-le, take-append-drop}
+use lib.ListN.{length, take, drop, length-append, length-drop, drop-of-length-le}
 use lib.Seq.{paste, paste-zero, length-paste, take-paste, drop-paste, take-add, take-at, drop-at, drop-drop, length-take-le, take-append-le, drop-append-le}
 use Rattle.rows.specs.Rows.{rowCount, rowAt, rowsOf, withRow, withoutRow}
 use Rattle.rows.proofs.Parts.{part-before}
@@ -118,27 +118,6 @@ pub without-last : (t : List ℤ) (at : ℕ) → at < rowCount t → withoutRow 
 without-last t at there =
     let none : movedOf (at + 1) at ≡ 0 = omega arith in
     without-there t (at + 1) at (omega arith) (omega arith) ∙ rw none (sym (paste-zero t (16 * at) (numbersBehind t at)))
-
--- Two rows that are lent, the second of which is written as the first too: the table has that box in the first of them.
-pub pair-moved :
-    (u : List ℤ) (i : ℕ) → 1 ≤ i → i < rowCount u →
-    let a = 16 * i - 16 in
-    let pair = take (16 * i + 16 - a) (drop a u) in
-    take a u ++ ((drop 16 pair ++ drop 16 pair) ++ drop (16 * i + 16 - a) (drop a u)) ≡ withRow u (i - 1) (rowAt u i)
-pair-moved u i some there =
-    let a = 16 * i - 16 in
-    let all : 16 * i + 16 - a ≡ 16 + 16 = omega arith in
-    let first = take 16 (drop a u) in
-    let row = take 16 (drop (16 * i) u) in
-    let next : a + 16 ≡ 16 * i = omega arith in
-    let place : a ≡ 16 * (i - 1) = omega arith in
-    let second : drop 16 (take (16 + 16) (drop a u)) ≡ row =
-    rw (take-add 16 16 (drop a u), drop-drop 16 a u, next) (drop-at first row 16 (length-take-le 16 (drop a u) (omega (arith, length-drop a u)))) in
-    let rest : drop (16 + 16) (drop a u) ≡ drop 16 (drop (16 * i) u) = sym (drop-drop 16 16 (drop a u)) ∙ rw (drop-drop 16 a u, next) in
-    let behind : 16 * (i - 1) + 16 ≡ 16 * i = omega arith in
-    let box : rowAt u i .low ++ rowAt u i .high ≡ row = rw (row-there u i there, ← drop-drop 8 (16 * i) u) (sym (take-add 8 8 (drop (16 * i) u))) in
-    rw (all, second, rest, append-assoc row row (drop 16 (drop (16 * i) u)), take-append-drop 16 (drop (16 * i) u), place)
-    (sym (with-there u (i - 1) (rowAt u i) (omega arith) (row-whole u i) ∙ rw (box, behind) (append-assoc (take (16 * (i - 1)) u) row (drop (16 * i) u))))
 
 -- The first i rows without row `at`: with row i written one row down, they are the first i + 1 without it.
 module _ (t : List ℤ) (i at : ℕ) (one : at < i) (there : i < rowCount t) where

@@ -2,7 +2,7 @@
 use borrow.Author.Tests.{lt-ltb, le-ltb}
 use mathlib.Core.Path.{_≡_, refl, sym, ap, _∙_}
 use mathlib.Core.List.{List, [], _∷_, _++_, append-assoc}
-use mathlib.Core.Logic.{_⊎_, ⊎-elim}
+use mathlib.Core.Logic.{⊎-elim}
 use Prim.Native.Nat.{ℕ, zero, suc, _+_, _*_, _-_, _≤_, _<_}
 use native.Mathlib.Numerals.{add-one}
 use native.Mathlib.Omega.{arith}
@@ -124,10 +124,6 @@ module _ (t : List ℤ) (i : ℕ) (b : Box) where
     rest-with k g =
         rest-later t (withRow t i b) (16 * i + 16) k g
         (⊎-elim (λ (h : rowCount t ≤ i). ap (drop (16 * i + 16)) (with-missing h)) (λ (h : i < rowCount t). there-rest h w) (le-or-lt (rowCount t) i))
-
-    -- the rows behind it
-    pub row-after : (j : ℕ) → i < j → rowAt (withRow t i b) j ≡ rowAt t j
-    row-after j k = row-of-rest t (withRow t i b) j length-with (rest-with (16 * j) (omega arith))
 
 -- The first n rows.
 pub rows-more : (t : List ℤ) (n : ℕ) → rowsOf t (n + 1) ≡ rowsOf t n ++ (rowAt t n ∷ [])

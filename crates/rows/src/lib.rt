@@ -4,7 +4,6 @@ ghost use mathlib.Core.Path.{_≡_};
 ghost use mathlib.Core.List.{_++_};
 ghost use Prim.Native.Nat.{_+_, _≤_, _<_};
 ghost use lib.ListN.{length, take, drop};
-ghost use lib.Seq.{paste};
 ghost use Rattle.rows.specs.Rows.{rowCount, rowAt, withRow, withoutRow};
 
 // The eight numbers from place `at` on.
@@ -39,27 +38,19 @@ pub fn read_row(table: &[i16], i: usize) -> Box
     }
 }
 
-// Lays eight numbers into a row, from place `at` on.
-fn put_vector(row: &mut [i16], at: usize, v: [i16; 8])
-    requires { ⌜ at + 8 ≤ length (now row) ⌝ }
-    ensures { λ _. ⌜ now (row .exit) ≡ paste (now (row .entry)) at v 8 ⌝ }
-{
-    let mut k = 0;
-    while k < 8 {
-        row[at + k] = v[k];
-        k += 1;
-    }
-}
-
-// Fills a row that is lent.
+// Fills a row that is lent: eight numbers of the low vector, and eight of the high one behind them.
 fn put_box(row: &mut [i16], b: Box)
     requires { ⌜ length (now row) ≡ 16 ⌝ }
     ensures { λ _. ⌜ now (row .exit) ≡ b .low ++ b .high ⌝ }
 {
     let low = b.low;
     let high = b.high;
-    put_vector(row, 0, low);
-    put_vector(row, 8, high);
+    let mut k = 0;
+    while k < 8 {
+        row[k] = low[k];
+        row[k + 8] = high[k];
+        k += 1;
+    }
 }
 
 // Writes a box as row i; where the table has no such row, nothing changes.
@@ -71,18 +62,6 @@ pub fn write_row(table: &mut [i16], i: usize, b: Box)
     }
 }
 
-// Moves a box one row down: of two rows that are lent, the second is written as the first too.
-fn move_row(pair: &mut [i16])
-    requires { ⌜ length (now pair) ≡ 32 ⌝ }
-    ensures { λ _. ⌜ now (pair .exit) ≡ drop 16 (now (pair .entry)) ++ drop 16 (now (pair .entry)) ⌝ }
-{
-    let mut k = 0;
-    while k < 16 {
-        pair[k] = pair[k + 16];
-        k += 1;
-    }
-}
-
 // Moves each box in the rows behind row `at`, up to the n-th, one row down.
 fn move_down(table: &mut [i16], n: usize, at: usize)
     requires { ⌜ (at < n) × (n ≤ rowCount (now table)) ⌝ }
@@ -90,7 +69,8 @@ fn move_down(table: &mut [i16], n: usize, at: usize)
 {
     let mut i = at + 1;
     while i < n {
-        move_row(&mut table[16 * i - 16..16 * i + 16]);
+        let b = read_row(table, i);
+        write_row(table, i - 1, b);
         i += 1;
     }
 }

@@ -10,10 +10,10 @@ use Rattle.codes.specs.declared.Check.the-variants.{Pass}
 use Rattle.boxes.specs.declared.Box.{Box}
 use Rattle.jobs.specs.declared.Model.{Model}
 use Rattle.points.specs.Points.{pointsOf}
-use Rattle.model.specs.Cost as model
+use Rattle.residuals.specs.Cost as model
 use Rattle.model.specs.Calls.{checkModel, costUpTo}
 use Rattle.model.proofs.Passed.{ready}
-use Rattle.model.proofs.Sums.{total-uncapped}
+use Rattle.residuals.proofs.Sums.{total-uncapped}
 use Rattle.rows.specs.Rows.{rowCount, withRow}
 use Rattle.rows.proofs.Rows.{Whole}
 use Rattle.certificate.specs.Search.{begin}

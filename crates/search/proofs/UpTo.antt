@@ -9,8 +9,8 @@ use Rattle.codes.specs.declared.Check.the-variants.{Pass}
 use Rattle.boxes.specs.declared.Box.{Box}
 use Rattle.jobs.specs.declared.Model.{Model}
 use Rattle.points.specs.Points.{pointsOf}
-use Rattle.model.specs.Cost.{bound}
-use Rattle.model.specs.Cost as model
+use Rattle.residuals.specs.Cost.{bound}
+use Rattle.residuals.specs.Cost as model
 use Rattle.model.specs.Calls.{checkModel, costUpTo, boundUpTo}
 use Rattle.certificate.specs.Search.{cheaper}
 use Rattle.certificate.proofs.Reached.{cheaper-best}

@@ -1,6 +1,6 @@
 -- What a search answers: "The search" over the points of a store, with the checks 1 to 8 before it.
 use mathlib.Core.Path.{_≡_}
-use mathlib.Core.List.{List, [], _∷_}
+use mathlib.Core.List.{List, [], _∷_, _++_}
 use Prim.Native.Nat.{ℕ, _*_}
 use lib.Dec.{leb}
 use lib.IntN.{ℤ, pos}
@@ -9,10 +9,11 @@ use Rattle.codes.specs.declared.Check.{Check}
 use Rattle.codes.specs.declared.Check.the-variants.{Pass, Refuse}
 use Rattle.codes.specs.declared.Refusal.{Refusal}
 use Rattle.codes.specs.Codes.{passIf, inOrder}
+use Rattle.boxes.specs.declared.Box.{Box}
 use Rattle.boxes.specs.Boxes.{checkBox, checkStart}
 use Rattle.jobs.specs.declared.Job.{Job}
 use Rattle.points.specs.Points.{pointsOf, checkStray}
-use Rattle.model.specs.Cost.{cost, bound}
+use Rattle.residuals.specs.Cost.{cost, bound}
 use Rattle.model.specs.Calls.{checkModel}
 use Rattle.rows.specs.Rows.{rowCount, rowsOf}
 use Rattle.certificate.specs.Search as Search
@@ -22,10 +23,10 @@ use Rattle.search.specs.declared.Kind.{Kind}
 use Rattle.search.specs.declared.Kind.the-variants.{Solved, Spent, Full, Refused}
 use Rattle.search.specs.declared.Answer.{Answer}
 
--- The search that a job asks for: the costs and bounds are those of the store's points, and "r is its length divided by 16, rounded down".
-unfoldable pub searched : List ℕ → Job → List ℤ → Search.Answer
-searched store job table =
-    search (cost (job .model) (pointsOf store)) (bound (job .model) (pointsOf store)) (job .budget) (rowCount table) (job .t) (job .start) (job .domain)
+-- The search that a job asks for, in so many rows: the costs and bounds are those of the store's points.
+unfoldable pub searched : List ℕ → Job → ℕ → Search.Answer
+searched store job rows =
+    search (cost (job .model) (pointsOf store)) (bound (job .model) (pointsOf store)) (job .budget) rows (job .t) (job .start) (job .domain)
 
 -- what the steps of a search come to, as its answer says it
 abbrev pub kindOf : Search.Kind → Kind
@@ -57,41 +58,49 @@ told r =
 abbrev pub refused : Refusal → Answer
 refused why = record { kind = Refused why; vector = replicate 8 (pos 0); cost = 0; bound = 0; count = 0; «open» = 0; peak = 0 }
 
--- "A search and fit make 1 to 8"; 8: "fewer than 16 numbers"
-unfoldable pub checkSearch : List ℕ → Job → ℕ → Check
-checkSearch store job numbers =
+-- checks 1 to 7, of a job and its store
+unfoldable pub checkJob : List ℕ → Job → Check
+checkJob store job =
     let m = job .model in
     inOrder
     (checkModel store m
     ∷ checkBox (m .n) (m .d) (job .domain)
     ∷ checkStart (job .domain) (job .start)
     ∷ checkStray (m .d) (pointsOf store)
-    ∷ passIf (leb 16 numbers) Refusal.Table
     ∷ [])
+
+-- "A search and fit make 1 to 8"; 8: "fewer than 16 numbers"
+unfoldable pub checkSearch : List ℕ → Job → ℕ → Check
+checkSearch store job numbers = inOrder (checkJob store job ∷ passIf (leb 16 numbers) Refusal.Table ∷ [])
 
 -- "A search accepts a job when none of the checks that it makes, by the codes below, refuses the call."
 abbrev pub answerUnlessRefused : Check → Search.Answer → Answer
 answerUnlessRefused Pass r = told r
 answerUnlessRefused (Refuse why) r = refused why
 
--- What a search answers: it "accepts a job when none of the checks that it makes, by the codes below, refuses the call".
+-- What a search answers: it "accepts a job when none of the checks that it makes, by the codes below, refuses the call". "r is its
+-- length divided by 16, rounded down."
 unfoldable pub searchAnswer : List ℕ → Job → List ℤ → Answer
-searchAnswer store job table = answerUnlessRefused (checkSearch store job (length table)) (searched store job table)
+searchAnswer store job table = answerUnlessRefused (checkSearch store job (length table)) (searched store job (rowCount table))
 
 -- The table afterwards, where it was `table`. "At the end the first rows hold the open boxes in list order. Rows from there up to peak
 -- may hold leftovers; from peak on, and in a partial row, nothing changed." At a refusal nothing changed at all.
 pub record TableAfter (store : List ℕ) (job : Job) (table after : List ℤ) : Type 0 where
   pub long : length after ≡ length table
   pub untouched : (why : Refusal) → checkSearch store job (length table) ≡ Refuse why → after ≡ table
-  pub open-rows : checkSearch store job (length table) ≡ Pass → rowsOf after (length ((searched store job table) .list)) ≡ (searched store job table) .list
+  -- The leftovers are free: boxes of any signed 16-bit numbers, as many as peak is more than the open count.
+  pub leftovers : List Box
+  pub rows :
+      checkSearch store job (length table) ≡ Pass →
+      rowsOf after ((searched store job (rowCount table)) .peak) ≡ (searched store job (rowCount table)) .list ++ leftovers
   pub rest :
       checkSearch store job (length table) ≡ Pass →
-      drop (16 * (searched store job table) .peak) after ≡ drop (16 * (searched store job table) .peak) table
+      drop (16 * (searched store job (rowCount table)) .peak) after ≡ drop (16 * (searched store job (rowCount table)) .peak) table
 
 -- An answer r to an accepted job is certified: it tells what the search comes to, and of that demand 3 holds.
 abbrev pub Certified : List ℕ → Job → List ℤ → Answer → Type 0
 Certified store job table r =
     checkSearch store job (length table) ≡ Pass →
-    (r ≡ told (searched store job table))
+    (r ≡ told (searched store job (rowCount table)))
     × Certificate (cost (job .model) (pointsOf store)) (bound (job .model) (pointsOf store)) (job .budget) (rowCount table) (job .t) (job .start) (job .domain)
-    (searched store job table)
+    (searched store job (rowCount table))

@@ -16,7 +16,7 @@ ghost use lib.ListN.{length};
 ghost use Rattle.codes.specs.declared.Check.the-variants.{Pass};
 ghost use Rattle.boxes.specs.Boxes.{volume};
 ghost use Rattle.points.specs.Points.{pointsOf};
-ghost use Rattle.model.specs.Cost.{bound, cost};
+ghost use Rattle.residuals.specs.Cost.{bound, cost};
 ghost use Rattle.model.specs.Calls.{checkModel};
 ghost use Rattle.rows.specs.Rows.{rowCount, rowsOf};
 ghost use Rattle.certificate.specs.Search.{keepBelow, without, cheaper};

@@ -13,7 +13,7 @@ ghost use mathlib.Core.Path.{_≡_};
 ghost use lib.Dec.{leb};
 ghost use Rattle.codes.specs.Codes.{passIf};
 ghost use Rattle.codes.specs.declared.Refusal.{Refusal};
-ghost use Rattle.search.specs.Search.{checkSearch, searchAnswer, refused, TableAfter, Certified};
+ghost use Rattle.search.specs.Search.{checkJob, checkSearch, searchAnswer, refused, TableAfter, Certified};
 
 // What a search comes to.
 pub enum Kind {
@@ -45,9 +45,9 @@ fn check_table(numbers: usize) -> Check
     }
 }
 
-// Checks 1 to 8, with a table of so many numbers. Only where checks 1 to 6 pass is the store looked through for stray fields.
-pub fn check_search(store: &[u8], job: Job, numbers: usize) -> Check
-    ensures { λ r. ⌜ r ≡ checkSearch (now (store .entry)) job numbers ⌝ }
+// Checks 1 to 7. Only where checks 1 to 6 pass is the store looked through for stray fields.
+pub fn check_job(store: &[u8], job: Job) -> Check
+    ensures { λ r. ⌜ r ≡ checkJob (now (store .entry)) job ⌝ }
 {
     let m = job.model;
     let domain = job.domain;
@@ -57,9 +57,16 @@ pub fn check_search(store: &[u8], job: Job, numbers: usize) -> Check
         boxes::check_start(domain, start),
     );
     match in_order(model::check_model(store, m), region) {
-        Check::Pass => in_order(points::check_stray(store, m.d), check_table(numbers)),
+        Check::Pass => points::check_stray(store, m.d),
         Check::Refuse(r) => Check::Refuse(r),
     }
+}
+
+// Checks 1 to 8, with a table of so many numbers.
+pub fn check_search(store: &[u8], job: Job, numbers: usize) -> Check
+    ensures { λ r. ⌜ r ≡ checkSearch (now (store .entry)) job numbers ⌝ }
+{
+    in_order(check_job(store, job), check_table(numbers))
 }
 
 // The answer to a job that is refused.

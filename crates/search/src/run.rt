@@ -15,7 +15,7 @@ ghost use Prim.Native.Nat.{_≤_};
 ghost use Rattle.codes.specs.declared.Check.the-variants.{Pass};
 ghost use Rattle.boxes.specs.Boxes.{InBox};
 ghost use Rattle.points.specs.Points.{pointsOf};
-ghost use Rattle.model.specs.Cost.{cost, bound};
+ghost use Rattle.residuals.specs.Cost.{cost, bound};
 ghost use Rattle.model.specs.Calls.{checkModel};
 ghost use Rattle.rows.specs.Rows.{rowCount};
 ghost use Rattle.search.specs.Inside.{Begun, answerWith, Ran};
@@ -68,7 +68,7 @@ fn answer(kind: Kind, s: State) -> Answer
 pub fn run(store: &[u8], job: Job, table: &mut [i16], first: State) -> Answer
     requires { ⌜ (checkModel (now store) (job .model) ≡ Pass) × (1 ≤ rowCount (now table)) × InBox (job .start) (job .domain) ⌝ }
     requires { ⌜ Begun (cost (job .model) (pointsOf (now store))) (bound (job .model) (pointsOf (now store))) (job .start) (job .domain) (now table) first (now table) ⌝ }
-    ensures { λ r. ⌜ Ran (searched (now (store .entry)) job (now (table .entry))) (now (table .entry)) first r (now (table .exit)) ⌝ }
+    ensures { λ r. ⌜ Ran (searched (now (store .entry)) job (rowCount (now (table .entry)))) (now (table .entry)) first r (now (table .exit)) ⌝ }
 {
     let m = job.model;
     let mut s = first;

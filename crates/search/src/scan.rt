@@ -9,7 +9,7 @@ ghost use lib.ListN.{length, drop};
 ghost use Rattle.integers.specs.Lists.{All};
 ghost use Rattle.codes.specs.declared.Check.the-variants.{Pass};
 ghost use Rattle.points.specs.Points.{pointsOf};
-ghost use Rattle.model.specs.Cost.{bound};
+ghost use Rattle.residuals.specs.Cost.{bound};
 ghost use Rattle.model.specs.Calls.{checkModel};
 ghost use Rattle.rows.specs.Rows.{rowCount, rowsOf, withRow};
 ghost use Rattle.certificate.specs.Search.{keepBelow, without};

@@ -1,4 +1,1 @@
-pub mod Text
 pub mod Line
-pub mod Laws
-pub mod Inside

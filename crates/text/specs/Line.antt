@@ -6,11 +6,11 @@ use Prim.Native.String.{String}
 use lib.Dec.{leb}
 use lib.ListN.{length, take}
 use Rattle.codes.specs.Codes.{numberOf}
+use Rattle.decimal.specs.Text.{ascii, byte, decimal, joined}
 use Rattle.jobs.specs.declared.Model.{Model}
 use Rattle.search.specs.declared.Answer.{Answer}
 use Rattle.search.specs.declared.Kind.{Kind}
 use Rattle.search.specs.declared.Kind.the-variants.{Solved, Spent, Full, Refused}
-use Rattle.text.specs.Text.{ascii, byte, decimal, joined}
 
 -- a number behind its name
 abbrev pub field : String → ℕ → List ℕ

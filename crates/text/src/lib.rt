@@ -1,31 +1,20 @@
 // The line of an answer, as text from the front of a buffer.
-mod put;
-
-use crate::put::put_byte;
-use crate::put::put_bytes;
-use crate::put::put_field;
-use crate::put::put_joined;
 use codes::Refusal;
+use decimal::put_bytes;
+use decimal::put_field;
+use decimal::put_joined;
 use jobs::Model;
 use search::Answer;
 use search::Kind;
 ghost use mathlib.Core.List.{_++_};
 ghost use mathlib.Core.Path.{_≡_};
-ghost use Prim.Native.Nat.{_+_, _*_, _≤_, min};
+ghost use Prim.Native.Nat.{_+_, _≤_};
 ghost use lib.ListN.{length};
 ghost use Rattle.codes.specs.Codes.{numberOf};
+ghost use Rattle.decimal.specs.Put.{Put};
+ghost use Rattle.decimal.specs.Text.{byte};
 ghost use Rattle.integers.specs.Lists.{over};
-ghost use Rattle.text.specs.Inside.{Put};
 ghost use Rattle.text.specs.Line.{field, fields, numbers, worded, lineIn};
-ghost use Rattle.text.specs.Text.{byte};
-
-// The n × d used coordinates, of which a vector has 8 at most.
-fn used(m: Model) -> usize
-    ensures { λ r. ⌜ r ≡ min (m .n * m .d) 8 ⌝ }
-{
-    let nd = (m.n as usize) * (m.d as usize);
-    if nd < 8 { nd } else { 8 }
-}
 
 // C, L, the count, the open boxes and the peak, each behind its name.
 fn put_numbers(
@@ -65,7 +54,7 @@ fn put_fields(out: &mut [u8], at: usize, m: Model, a: Answer) -> usize
     );
     let name = put_bytes(out, numbers, b" w=");
     let vector = a.vector;
-    put_joined(out, name, vector, used(m))
+    put_joined(out, name, vector, (m.n as usize) * (m.d as usize))
 }
 
 // The line of an answer that begins with a word.
@@ -75,7 +64,7 @@ fn put_answer(out: &mut [u8], word: &[u8], m: Model, a: Answer) -> usize
 {
     let first = put_bytes(out, 0, word);
     let rest = put_fields(out, first, m, a);
-    put_byte(out, rest, b'\n')
+    put_bytes(out, rest, b"\n")
 }
 
 fn put_refusal(out: &mut [u8], why: Refusal) -> usize
@@ -83,7 +72,7 @@ fn put_refusal(out: &mut [u8], why: Refusal) -> usize
     ensures { λ r. ⌜ Put (now (out .entry)) 0 (field "refused " (numberOf why) ++ byte 10) r (now (out .exit)) ⌝ }
 {
     let next = put_field(out, 0, b"refused ", codes::number(why) as u64);
-    put_byte(out, next, b'\n')
+    put_bytes(out, next, b"\n")
 }
 
 fn put_line(out: &mut [u8], m: Model, a: Answer) -> usize

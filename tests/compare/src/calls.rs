@@ -1,15 +1,21 @@
-//! The calls that are compared, as a C program makes them: each answers 0, the number of a refusal or
-//! `WRONG_LENGTH`, and puts its results into lent memory, which a refusal leaves alone. Refusal 7 puts the
-//! record's number where the value goes.
+//! The calls that are compared, as a C program makes them: each answers 0, the code of a refusal or
+//! `WRONG_LENGTH`, and puts its results into lent memory, which a refusal leaves alone.
 
 use crate::lent::Lent;
-use oracle::{AnswerRecord, Job, Model};
+use oracle::{AnswerRecord, Job, Model, Refusal};
 
 /// The answer to a buffer of a length that the call cannot take.
 pub const WRONG_LENGTH: u32 = 255;
 
-/// What a search is lent for its results: the vector, then C, L, count, open boxes and peak, then the kind, or
-/// at refusal 7 the stray record's number.
+/// The code of a refusal: its number, and for a stray field 256 times the record's number more.
+pub fn refusal_code(refusal: Refusal) -> u32 {
+    match refusal {
+        Refusal::Stray(record) => 7 + 256 * record as u32,
+        _ => refusal.number() as u32,
+    }
+}
+
+/// What a search is lent for its results: the vector, then C, L, count, open boxes and peak, then the kind.
 pub struct Found {
     pub vector: Lent<i16>,
     pub numbers: Lent<u64>,

@@ -1,24 +1,16 @@
--- The loss of e, handed over.
+-- The residual handed on is e.
 use borrow.Author.Needs.{needs}
-use mathlib.Core.Path.{_≡_, _∙_}
 use mir.Facts.{toZ-ofZ}
-use Rattle.loss.specs.Loss.{lossAnswer}
 use Rattle.capi.proofs.vengutari_loss.Statement.{statement}
 use Rattle.capi.proofs.vengutari_loss.Tie as tie
 
 loss-requires : tie.Need-loss-requires
 loss-requires c κs = search needs
 
-settle-requires : tie.Need-settle-requires
-settle-requires c κs = search needs
-
 returns : tie.Need-returns
 returns c =
-    let l = c .before .before in
-    let s = l .before in
-    let f = s .fits .e in
-    let e : l .loss .result ≡ lossAnswer (s .args .p) (s .args .eps) (s .args .e) = l .loss .ensures ∙ simp toZ-ofZ in
-    rw (← e) (c .settle .ensures)
+    let f = c .before .before .fits .e in
+    simp toZ-ofZ at (c .loss .ensures)
 
 pub vengutari-loss-spec : {M : Type 1} → statement M
-vengutari-loss-spec = tie.close (tie.spec loss-requires settle-requires returns)
+vengutari-loss-spec = tie.close (tie.spec loss-requires returns)

@@ -3,7 +3,7 @@ use mathlib.Core.Path.{sym}
 use Prim.Native.Nat.{_≤_}
 use lib.ListN.{length}
 use lib.Seq.{length-take-le}
-use Rattle.text.proofs.Putting.{over-long}
+use Rattle.integers.proofs.Lists.{over-long}
 use borrow.Author.Needs.{needs}
 use Rattle.fit.proofs.main.Statement.{statement}
 use Rattle.fit.proofs.main.Tie as tie

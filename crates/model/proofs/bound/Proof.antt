@@ -5,11 +5,11 @@ use native.Mathlib.Omega.{arith}
 use lib.ListN.{length}
 use Rattle.codes.specs.declared.Check.the-variants.{Pass, Refuse}
 use Rattle.codes.specs.declared.Outcome.the-variants.{Value}
-use Rattle.model.specs.Cost.{leastSize, bound}
+use Rattle.residuals.specs.Cost.{leastSize, bound}
 use Rattle.model.specs.Calls.{checkBound, boundAnswer}
-use Rattle.model.specs.Inside.{Ready}
+use Rattle.residuals.specs.Inside.{Ready}
 use Rattle.model.proofs.Passed.{ready, bound-model}
-use Rattle.model.proofs.Sums.{total-uncapped}
+use Rattle.residuals.proofs.Sums.{total-uncapped}
 use Rattle.model.proofs.bound.Statement.{statement}
 use Rattle.model.proofs.bound.Tie as tie
 

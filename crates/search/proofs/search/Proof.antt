@@ -1,10 +1,11 @@
 -- Where the checks pass, the beginning and the run; else the refusal, and nothing is written.
 use mathlib.Core.Path.{_≡_, refl, sym, _∙_}
 use native.Mathlib.Omega.{arith}
+use Prim.Native.Nat.{_≤_}
 use lib.ListN.{length}
 use Rattle.codes.specs.declared.Check.the-variants.{Pass}
 use Rattle.search.specs.Search.{checkSearch}
-use Rattle.search.proofs.Accepted.{Accepted, accepted, promised-pass, promised-refused}
+use Rattle.search.proofs.Accepted.{Runs, runs-accepted, rows-accepted, promised-pass, promised-refused}
 use borrow.Author.Needs.{needs}
 use Rattle.search.proofs.search.Statement.{statement}
 use Rattle.search.proofs.search.Tie as tie
@@ -22,20 +23,23 @@ module _ (c : tie.After-enum-told) where
   pass : checkSearch (begun .args .store .now) (begun .args .job) (length (begun .args .table .now)) ≡ Pass
   pass = sym (c .before .before .check-search .ensures) ∙ c .enum-told .given .1
 
-  has : Accepted (begun .args .store .now) (begun .args .job) (length (begun .args .table .now))
-  has = accepted (begun .args .store .now) (begun .args .job) (length (begun .args .table .now)) pass
+  runs : Runs (begun .args .store .now) (begun .args .job)
+  runs = runs-accepted (begun .args .store .now) (begun .args .job) (length (begun .args .table .now)) pass
+
+  rows : 16 ≤ length (begun .args .table .now)
+  rows = rows-accepted (begun .args .store .now) (begun .args .job) (length (begun .args .table .now)) pass
 
 begin-requires : tie.Need-begin-requires
 begin-requires c κs =
-    let p = has (c .before .before .before .before) in
-    (p .checked, omega (arith, p .rows))
+    let e = c .before .before .before .before in
+    ((runs e) .checked, omega (arith, rows e))
 
 run-requires : tie.Need-run-requires
 run-requires c κs =
     let q = c .before .before in
-    let p = has (q .before .before .before .before .before) in
+    let e = q .before .before .before .before .before in
     let b = q .begin .ensures in
-    ((p .checked, omega (arith, p .rows, b .long), p .inside), record { exact = b .exact; state = b .state; long = refl; rest = refl })
+    (((runs e) .checked, omega (arith, rows e, b .long), (runs e) .inside), record { exact = b .exact; state = b .state; long = refl; rest = refl })
 
 enum-known-why : tie.Need-enum-known-why
 enum-known-why c = search needs

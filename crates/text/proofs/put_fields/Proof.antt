@@ -1,12 +1,11 @@
--- The numbers, and the coordinates behind them.
+-- The numbers, and the coordinates behind them. A product of two bytes fits.
 use mathlib.Core.Path.{_≡_}
-use Prim.Native.Nat.{_*_}
+use Prim.Native.Nat.{_+_}
+use native.Mathlib.Nat.{mul-le-mul, le-of-lt}
 use native.Mathlib.Omega.{arith}
-use lib.ListN.{length}
-use Rattle.text.specs.Line.{fields}
-use Rattle.text.proofs.Joining.{take-used}
-use Rattle.text.proofs.Putting.{put-more}
 use borrow.Author.Needs.{needs}
+use Rattle.decimal.proofs.Putting.{put-more, put-in, put-behind}
+use Rattle.text.specs.Line.{fields}
 use Rattle.text.proofs.put_fields.Statement.{statement}
 use Rattle.text.proofs.put_fields.Tie as tie
 
@@ -22,8 +21,14 @@ slice-aggregate-put-bytes c = search needs
 put-bytes-requires : tie.Need-put-bytes-requires
 put-bytes-requires c κs = search needs
 
-used-requires : tie.Need-used-requires
-used-requires c κs = search needs
+cast-put-joined : tie.Need-cast-put-joined
+cast-put-joined c = search needs
+
+cast-put-joined-2 : tie.Need-cast-put-joined-2
+cast-put-joined-2 c = search needs
+
+mul-put-joined : tie.Need-mul-put-joined
+mul-put-joined c = omega (arith, mul-le-mul (le-of-lt (c .before .struct-known2 .given .0 .fits)) (le-of-lt (c .struct-known3 .given .1 .0 .fits)))
 
 put-joined-requires : tie.Need-put-joined-requires
 put-joined-requires c κs = search needs
@@ -31,21 +36,16 @@ put-joined-requires c κs = search needs
 same-length : tie.Need-same-length
 same-length c = search needs
 
-eight : (s : tie.Start) → length (s .args .a .vector) ≡ 8
-eight s = search needs
-
 returns : tie.Need-returns
 unfolding fields
 returns c =
     let w = c .before .before in
-    let name = w .before .before .before .before .before .before in
+    let name = w .before .before .before .before .before .before .before in
     let five = name .before .before .before .before .before in
-    let s = five .before .before .before .before in
-    let m = s .args .m in
-    let coordinates = rw (w .before .used .ensures, take-used (s .args .a .vector) (m .n * m .d) (eight s)) at (w .put-joined .ensures .0) in (
-      put-more (put-more (five .put-numbers .ensures .0) (name .put-bytes .ensures)) coordinates,
-      omega (arith, w .before .used .ensures, five .put-numbers .ensures .1, name .put-bytes .ensures .place, w .put-joined .ensures .1),
-    )
+    let numbers = five .put-numbers .ensures .0 in
+    let word = put-in (name .put-bytes .ensures) (omega (arith, numbers .long)) in
+    let next : name .put-bytes .result ≡ five .put-numbers .result + 3 = word .place in
+    (put-behind (put-more numbers word) (w .put-joined .ensures .0) (omega (arith, next)), omega (arith, next))
 
 pub put-fields-spec : {M : Type 1} → statement M
 put-fields-spec =
@@ -55,7 +55,9 @@ put-fields-spec =
     put-numbers-requires
     slice-aggregate-put-bytes
     put-bytes-requires
-    used-requires
+    cast-put-joined
+    cast-put-joined-2
+    mul-put-joined
     put-joined-requires
     same-length
     returns)

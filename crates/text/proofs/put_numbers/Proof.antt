@@ -1,6 +1,6 @@
--- Each name and number behind the one before.
+-- Each name and number behind the one before. A name has 6 to 8 bytes, and there is room for 20 digits behind each.
 use native.Mathlib.Omega.{arith}
-use Rattle.text.proofs.Putting.{put-more}
+use Rattle.decimal.proofs.Putting.{put-in, put-behind}
 use borrow.Author.Needs.{needs}
 use Rattle.text.proofs.put_numbers.Statement.{statement}
 use Rattle.text.proofs.put_numbers.Tie as tie
@@ -45,11 +45,11 @@ returns c =
     let splits = opened .before .before .before .before .before in
     let bound = splits .before .before .before .before .before in
     let cost = bound .before .before .before .before .before in
-    let costs = put-more (cost .put-field .ensures .0) (bound .put-field2 .ensures .0) in
-    let all = put-more (put-more (put-more costs (splits .put-field3 .ensures .0)) (opened .put-field4 .ensures .0)) (peak .put-field5 .ensures .0) in (
-      all,
-      omega (arith, cost .put-field .ensures .1, bound .put-field2 .ensures .1, splits .put-field3 .ensures .1, opened .put-field4 .ensures .1, peak .put-field5 .ensures .1),
-    )
+    let cost-put = put-in (cost .put-field .ensures .0) (omega arith) in
+    let bound-put = put-behind cost-put (bound .put-field2 .ensures .0) (omega arith) in
+    let splits-put = put-behind bound-put (splits .put-field3 .ensures .0) (omega arith) in
+    let opened-put = put-behind splits-put (opened .put-field4 .ensures .0) (omega arith) in
+    (put-behind opened-put (peak .put-field5 .ensures .0) (omega arith), omega arith)
 
 pub put-numbers-spec : {M : Type 1} → statement M
 put-numbers-spec =

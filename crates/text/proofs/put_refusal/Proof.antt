@@ -1,6 +1,7 @@
--- The word and the number, and byte 10 behind them.
-use Rattle.text.proofs.Putting.{put-more}
+-- The word of 8 bytes and the number, and byte 10 behind them.
+use native.Mathlib.Omega.{arith}
 use borrow.Author.Needs.{needs}
+use Rattle.decimal.proofs.Putting.{put-in, put-behind}
 use Rattle.text.proofs.put_refusal.Statement.{statement}
 use Rattle.text.proofs.put_refusal.Tie as tie
 
@@ -16,8 +17,11 @@ cast-put-field c = search needs
 put-field-requires : tie.Need-put-field-requires
 put-field-requires c κs = search needs
 
-put-byte-requires : tie.Need-put-byte-requires
-put-byte-requires c κs = search needs
+slice-aggregate-put-bytes : tie.Need-slice-aggregate-put-bytes
+slice-aggregate-put-bytes c = search needs
+
+put-bytes-requires : tie.Need-put-bytes-requires
+put-bytes-requires c κs = search needs
 
 same-length : tie.Need-same-length
 same-length c = search needs
@@ -25,8 +29,9 @@ same-length c = search needs
 returns : tie.Need-returns
 returns c =
     let q = c .before .before in
-    let p = q .before .before .before .before in
-    put-more (rw (p .before .number .ensures) at (p .put-field .ensures .0)) (q .put-byte .ensures)
+    let p = q .before .before .before .before .before in
+    let word = put-in (rw (p .before .number .ensures) at (p .put-field .ensures .0)) (omega arith) in
+    put-behind word (q .put-bytes .ensures) (omega arith)
 
 pub put-refusal-spec : {M : Type 1} → statement M
 put-refusal-spec =
@@ -36,6 +41,7 @@ put-refusal-spec =
     number-requires
     cast-put-field
     put-field-requires
-    put-byte-requires
+    slice-aggregate-put-bytes
+    put-bytes-requires
     same-length
     returns)

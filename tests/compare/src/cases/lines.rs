@@ -1,7 +1,7 @@
 //! Lines of single-precision coefficients, written and read.
 
 use super::{length_of, with_case, Outcome};
-use crate::calls::{Calls, WRONG_LENGTH};
+use crate::calls::{refusal_code, Calls, WRONG_LENGTH};
 use crate::inputs::Size;
 use crate::lent::{same, Lent};
 use crate::random::Random;
@@ -41,7 +41,7 @@ pub fn write_line(calls: &dyn Calls, random: &mut Random) -> Outcome {
         let mut patterns = Lent::new(lengths[1], |count| random.patterns(count));
         let code = calls.write_line(d, s, &given, patterns.part());
         let expected = match lengths {
-            [4, 4] => oracle::write_line(d, s, &coordinates).map_err(|refusal| refusal.number() as u32),
+            [4, 4] => oracle::write_line(d, s, &coordinates).map_err(refusal_code),
             _ => Err(WRONG_LENGTH),
         };
         let outcome = same_line(code, &patterns, &expected);
@@ -118,7 +118,7 @@ pub fn read_line(calls: &dyn Calls, random: &mut Random) -> Outcome {
     let mut read = Lent::new(lengths[1], |count| random.numbers(count));
     let code = calls.read_line(d, s, &given, read.part());
     let expected = match lengths {
-        [4, 4] => oracle::read_line(d, s, &patterns).map_err(|refusal| refusal.number() as u32),
+        [4, 4] => oracle::read_line(d, s, &patterns).map_err(refusal_code),
         _ => Err(WRONG_LENGTH),
     };
     let outcome = same_line(code, &read, &expected);

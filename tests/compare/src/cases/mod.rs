@@ -8,7 +8,7 @@ mod model;
 mod records;
 mod search;
 
-use crate::calls::Calls;
+use crate::calls::{refusal_code, Calls};
 use crate::inputs::Input;
 use crate::lent::same;
 use crate::random::Random;
@@ -72,23 +72,14 @@ pub const GROUPS: &[Group] = &[
 
 /// Compares a call's answer and value; `was` is the value that was lent.
 fn same_answer(code: u32, value: u64, was: u64, expected: Result<u64, Refusal>) -> Outcome {
-    same("answer", code, number(&expected))?;
-    same("value", value, expected_value(&expected, was))
+    same("answer", code, code_of(&expected))?;
+    same("value", value, expected.unwrap_or(was))
 }
 
-fn number<T>(expected: &Result<T, Refusal>) -> u32 {
+fn code_of<T>(expected: &Result<T, Refusal>) -> u32 {
     match expected {
         Ok(_) => 0,
-        Err(refusal) => refusal.number() as u32,
-    }
-}
-
-/// The value of a call, the stray record's number at refusal 7, else what was there.
-fn expected_value(expected: &Result<u64, Refusal>, was: u64) -> u64 {
-    match expected {
-        Ok(value) => *value,
-        Err(Refusal::Stray(record)) => *record as u64,
-        Err(_) => was,
+        Err(refusal) => refusal_code(*refusal),
     }
 }
 

@@ -1,6 +1,6 @@
 //! Loss, cost, bound, split and labels.
 
-use super::{number, row_of, same_answer, with_case, Outcome};
+use super::{code_of, row_of, same_answer, with_case, Outcome};
 use crate::calls::{Calls, WRONG_LENGTH};
 use crate::inputs::{any, Input};
 use crate::lent::{same, Lent};
@@ -92,7 +92,7 @@ pub fn split(calls: &dyn Calls, random: &mut Random) -> Outcome {
             after[..16].copy_from_slice(&row_of(left));
             after[16..32].copy_from_slice(&row_of(right));
         }
-        number(&expected)
+        code_of(&expected)
     };
     let outcome = same("answer", code, answer).and(halves.holds("halves", &after));
     with_case(outcome, || {

@@ -1,7 +1,7 @@
 //! Job and answer records.
 
-use super::{hex, length_of, number, row_of, with_case, Outcome};
-use crate::calls::{Calls, WRONG_LENGTH};
+use super::{code_of, hex, length_of, row_of, with_case, Outcome};
+use crate::calls::{refusal_code, Calls, WRONG_LENGTH};
 use crate::inputs::{self, Size};
 use crate::lent::{same, Lent};
 use crate::random::Random;
@@ -28,7 +28,7 @@ pub fn read_job(calls: &dyn Calls, random: &mut Random) -> Outcome {
     let after = match bytes.first_chunk::<JOB>() {
         _ if lengths != [8, 16, 8] => Err(WRONG_LENGTH),
         Some(record) => Ok(oracle::read_job(record)),
-        None => Err(Refusal::Length.number() as u32),
+        None => Err(refusal_code(Refusal::Length)),
     };
     let outcome = match &after {
         Ok(Job { model, t, budget, rows, domain, start: first }) => {
@@ -63,7 +63,7 @@ pub fn write_job(calls: &dyn Calls, random: &mut Random) -> Outcome {
     let answer = if [corners.len(), start.len()] != [16, 8] {
         WRONG_LENGTH
     } else if length < JOB {
-        Refusal::Short.number() as u32
+        refusal_code(Refusal::Short)
     } else {
         after[..JOB].copy_from_slice(&record);
         0
@@ -125,7 +125,7 @@ pub fn write_answer(calls: &dyn Calls, random: &mut Random) -> Outcome {
     let code = calls.write_answer(&answer, &vector, lent.part());
     let mut after = lent.was().to_vec();
     let expected = match vector.len() {
-        8 => number(&oracle::write_answer(&answer, &mut after)),
+        8 => code_of(&oracle::write_answer(&answer, &mut after)),
         _ => WRONG_LENGTH,
     };
     let outcome = same("answer", code, expected).and(lent.holds("record", &after));
@@ -148,7 +148,7 @@ pub fn read_answer(calls: &dyn Calls, random: &mut Random) -> Outcome {
     let mut numbers = Lent::new(lengths[1], |count| random.words(count));
     let code = calls.read_answer(&bytes, vector.part(), numbers.part());
     let expected = match lengths {
-        [8, 7] => oracle::read_answer(&bytes).map_err(|refusal| refusal.number() as u32),
+        [8, 7] => oracle::read_answer(&bytes).map_err(refusal_code),
         _ => Err(WRONG_LENGTH),
     };
     let outcome = match &expected {

@@ -1,12 +1,12 @@
 //! The search: small boxes against all of their vectors, all searches against the oracle step for step.
 
-use super::{length_of, number, row_of, with_case, Outcome};
+use super::{code_of, length_of, row_of, with_case, Outcome};
 use crate::calls::{Calls, Found, WRONG_LENGTH};
 use crate::inputs::{self, Input};
 use crate::lent::{same, Lent};
 use crate::random::Random;
 use oracle::points::points_of;
-use oracle::{Answer, Kind, Refusal};
+use oracle::{Answer, Kind};
 
 /// Small boxes: the promises are checked over all grid vectors, without the oracle's search.
 pub fn exhaustive(calls: &dyn Calls, random: &mut Random) -> Outcome {
@@ -137,20 +137,16 @@ impl Run {
             return self.holds(self.table.was(), self.found.vector.was(), self.found.numbers.was(), self.was);
         }
         let expected = oracle::search(&self.input.job, &self.input.store, self.table.was().len());
-        same("answer", self.code, number(&expected))?;
+        same("answer", self.code, code_of(&expected))?;
         let mut table = self.table.was().to_vec();
         let (mut vector, mut numbers) = (self.found.vector.was().to_vec(), self.found.numbers.was().to_vec());
         let mut value = self.was;
-        match expected {
-            Ok(answer) => {
-                vector = answer.vector.to_vec();
-                let open = answer.open.len() as u64;
-                numbers = vec![answer.c, answer.l, answer.count as u64, open, answer.peak as u64];
-                value = answer.kind as u64;
-                self.put_rows(&answer, &mut table);
-            }
-            Err(Refusal::Stray(record)) => value = record as u64,
-            Err(_) => {}
+        if let Ok(answer) = expected {
+            vector = answer.vector.to_vec();
+            let open = answer.open.len() as u64;
+            numbers = vec![answer.c, answer.l, answer.count as u64, open, answer.peak as u64];
+            value = answer.kind as u64;
+            self.put_rows(&answer, &mut table);
         }
         self.holds(&table, &vector, &numbers, value)
     }

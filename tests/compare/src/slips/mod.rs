@@ -27,6 +27,7 @@ enum Slip {
     LabelsClearTheRest,
     // Checks.
     StrayFieldByField,
+    StrayRecordAsValue,
     StrayWithoutRecord,
     BeaconBeforeShort,
     MarkUnchecked,
@@ -78,7 +79,7 @@ const SLIPS: &[(&str, &[Slip])] = &[
     ("split", &[HalvesTowardZero, CutsHighestCoordinate, OneVectorIsSplit]),
     ("bound", &[PairsLowWithLow, WrongLengthTaken]),
     ("loss", &[SquaresBeforeTheCut, EpsilonItselfIsOut, LeastI64]),
-    ("cost", &[CostAtRefusal, StrayFieldByField, StrayWithoutRecord, WrongLengthTaken]),
+    ("cost", &[CostAtRefusal, StrayFieldByField, StrayRecordAsValue, StrayWithoutRecord, WrongLengthTaken]),
     (
         "labels",
         &[EpsilonItselfIsOut, LabelsWithoutThreshold, LabelsHighestAmongEquals, LabelsClearTheRest, WrongLengthTaken],

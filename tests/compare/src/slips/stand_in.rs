@@ -1,7 +1,7 @@
 //! The calls of a stand-in: the oracle's, but for the slip.
 
 use super::Slip::{self, *};
-use crate::calls::{Calls, Found, WRONG_LENGTH};
+use crate::calls::{refusal_code, Calls, Found, WRONG_LENGTH};
 use oracle::boxes::check_box;
 use oracle::coefficients::{coordinate_of, pattern};
 use oracle::model::check_shape;
@@ -13,21 +13,13 @@ pub struct StandIn {
     pub slip: Slip,
 }
 
-/// The number of a refusal, with the stray record's number in `value`.
-fn refused(refusal: Refusal, value: &mut u64) -> u32 {
-    if let Refusal::Stray(record) = refusal {
-        *value = record as u64;
-    }
-    refusal.number() as u32
-}
-
 fn settle(result: Result<u64, Refusal>, value: &mut u64) -> u32 {
     match result {
         Ok(result) => {
             *value = result;
             0
         }
-        Err(refusal) => refused(refusal, value),
+        Err(refusal) => refusal_code(refusal),
     }
 }
 
@@ -91,15 +83,17 @@ impl Calls for StandIn {
         let Some(vector) = self.eight(vector) else {
             return WRONG_LENGTH;
         };
-        let was = *value;
         let code = settle(oracle::cost(model, store, &vector), value);
+        let stray = code % 256 == 7;
         match self.slip {
-            CostAtRefusal if code != 0 && code != 7 => *value = 0,
-            StrayWithoutRecord if code == 7 => *value = was,
-            StrayFieldByField if code == 7 => {
+            CostAtRefusal if code != 0 => *value = 0,
+            StrayRecordAsValue if stray => *value = (code / 256) as u64,
+            StrayWithoutRecord if stray => return 7,
+            StrayFieldByField if stray => {
                 let points = points_of(store);
                 let first = |k: usize| points.iter().position(|point| point.x[k] != 0);
-                *value = (model.d as usize..4).find_map(first).unwrap() as u64;
+                let record = (model.d as usize..4).find_map(first).unwrap();
+                return refusal_code(Refusal::Stray(record));
             }
             _ => {}
         }
@@ -128,7 +122,7 @@ impl Calls for StandIn {
                 halves[..32].copy_from_slice(&[left.low, left.high, right.low, right.high].concat());
                 0
             }
-            Err(refusal) => refusal.number() as u32,
+            Err(refusal) => refusal_code(refusal),
         }
     }
 
@@ -207,7 +201,7 @@ impl Calls for StandIn {
                 found.value = told.kind as u64;
                 0
             }
-            Err(refusal) => refused(refusal, &mut found.value),
+            Err(refusal) => refusal_code(refusal),
         }
     }
 
@@ -216,10 +210,10 @@ impl Calls for StandIn {
             return WRONG_LENGTH;
         }
         let Some(record) = bytes.first_chunk() else {
-            return Refusal::Length.number() as u32;
+            return refusal_code(Refusal::Length);
         };
         if self.slips(LongJobRefused) && bytes.len() > 72 {
-            return Refusal::Length.number() as u32;
+            return refusal_code(Refusal::Length);
         }
         let mut job = oracle::read_job(record);
         match self.slip {
@@ -240,7 +234,7 @@ impl Calls for StandIn {
             return WRONG_LENGTH;
         }
         if bytes.len() < 72 {
-            return Refusal::Short.number() as u32;
+            return refusal_code(Refusal::Short);
         }
         let mut taken = *job;
         if self.slips(JobFieldsSwapped) {
@@ -270,7 +264,7 @@ impl Calls for StandIn {
                 put(numbers, &[&[c, l, count as u64][..], &[kind, n, d, s].map(u64::from)].concat());
                 0
             }
-            Err(refusal) => refusal.number() as u32,
+            Err(refusal) => refusal_code(refusal),
         }
     }
 
@@ -296,7 +290,7 @@ impl Calls for StandIn {
                 }
                 0
             }
-            Err(refusal) => refusal.number() as u32,
+            Err(refusal) => refusal_code(refusal),
         }
     }
 
@@ -316,7 +310,7 @@ impl Calls for StandIn {
                 }
                 0
             }
-            Err(refusal) => refusal.number() as u32,
+            Err(refusal) => refusal_code(refusal),
         }
     }
 
@@ -340,7 +334,7 @@ impl Calls for StandIn {
                 put(coordinates, &read);
                 0
             }
-            Err(refusal) => refusal.number() as u32,
+            Err(refusal) => refusal_code(refusal),
         }
     }
 

@@ -7,8 +7,8 @@ use native.Mathlib.Omega.{arith}
 use lib.ListN.{getD}
 use Rattle.loss.specs.Loss.{lossOf}
 use Rattle.loss.proofs.Laws.{loss-le}
-use Rattle.model.specs.Inside.{sumOf}
-use Rattle.model.proofs.Losses.{sum-more}
+use Rattle.residuals.specs.Inside.{sumOf}
+use Rattle.residuals.proofs.Sums.{sum-more}
 use Rattle.model.proofs.blocks.loss_sum.Statement.{statement}
 use Rattle.model.proofs.blocks.loss_sum.Tie as tie
 

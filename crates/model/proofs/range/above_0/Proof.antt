@@ -5,7 +5,7 @@ use lib.IntN.{pos}
 use lib.Signed.{ltZ}
 use mir.Facts.{toZ-ofZ, fits-natAbs}
 use Rattle.integers.proofs.Parts.{not-negative}
-use Rattle.model.specs.Inside.{positive}
+use Rattle.residuals.specs.Inside.{positive}
 use Rattle.model.proofs.range.above_0.Statement.{statement}
 use Rattle.model.proofs.range.above_0.Tie as tie
 

@@ -3,10 +3,10 @@ use borrow.Author.Needs.{needs}
 use mathlib.Core.Path.{ap, _∙_}
 use Prim.Native.Nat.{ℕ, _+_}
 use Rattle.points.specs.Points.{pointAt}
-use Rattle.model.specs.Cost.{leastSize}
-use Rattle.model.specs.Inside.{boxOf, leastFrom}
+use Rattle.residuals.specs.Cost.{leastSize}
+use Rattle.residuals.specs.Inside.{boxOf, leastFrom}
 use Rattle.model.proofs.Losses.{block-losses}
-use Rattle.model.proofs.Sizes.{sizes-over}
+use Rattle.residuals.proofs.Sizes.{sizes-over}
 use Rattle.model.proofs.range.bound_block.Statement.{statement}
 use Rattle.model.proofs.range.bound_block.Tie as tie
 

@@ -4,10 +4,11 @@ use mathlib.Core.Path.{_≡_, sym, _∙_, subst}
 use Prim.Native.Nat.{ℕ, _+_, _-_, _/_, _^_}
 use native.Mathlib.Omega.{arith}
 use lib.ListN.{length}
-use Rattle.model.specs.Cost.{leastSize, bound}
-use Rattle.model.specs.Inside.{boxOf}
-use Rattle.model.proofs.Sizes.{power-of}
-use Rattle.model.proofs.Sums.{Summed, none-summed, block-summed, cap-reached, all-summed}
+use Rattle.residuals.specs.Cost.{leastSize, bound}
+use Rattle.residuals.specs.Inside.{boxOf}
+use Rattle.residuals.proofs.Sizes.{power-of}
+use Rattle.residuals.proofs.Sums.{Summed, none-summed, cap-reached, all-summed}
+use Rattle.model.proofs.Losses.{block-summed}
 use Rattle.model.proofs.range.bound_sum.Statement.{statement}
 use Rattle.model.proofs.range.bound_sum.Tie as tie
 

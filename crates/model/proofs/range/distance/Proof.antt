@@ -9,9 +9,9 @@ use mir.Facts.{toZ-ofZ}
 use Rattle.integers.specs.Integers.{maxZ}
 use Rattle.integers.proofs.Machine.{difference-fits, read-difference}
 use Rattle.points.specs.Points.{xs}
-use Rattle.model.specs.Cost.{dotMax, dotMin}
-use Rattle.model.specs.Inside.{boxOf, positive}
-use Rattle.model.proofs.Spans.{positive-max, min-le-max}
+use Rattle.residuals.specs.Cost.{dotMax, dotMin}
+use Rattle.residuals.specs.Inside.{boxOf, positive}
+use Rattle.residuals.proofs.Spans.{positive-max, min-le-max}
 use Rattle.model.proofs.range.distance.Statement.{statement}
 use Rattle.model.proofs.range.distance.Tie as tie
 

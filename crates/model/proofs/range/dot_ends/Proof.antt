@@ -5,8 +5,8 @@ use native.Mathlib.Nat.{add-zero}
 use native.Mathlib.Omega.{arith}
 use lib.IntN.{pos}
 use Rattle.points.specs.Points.{xs}
-use Rattle.model.specs.Inside.{boxOf}
-use Rattle.model.proofs.Spans.{Span, no-product, one-wider, spanned}
+use Rattle.residuals.specs.Inside.{boxOf}
+use Rattle.model.proofs.Ends.{Span, no-product, one-wider, spanned}
 use Rattle.model.proofs.range.dot_ends.Statement.{statement}
 use Rattle.model.proofs.range.dot_ends.Tie as tie
 

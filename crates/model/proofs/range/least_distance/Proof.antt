@@ -11,9 +11,9 @@ use mir.Val.{toZ, ofZ}
 use mir.Facts.{toZ-ofZ, toZ-pos}
 use Rattle.integers.proofs.Parts.{size-sfits}
 use Rattle.points.specs.declared.Point.{Point}
-use Rattle.model.specs.Inside.{boxOf, nearOf, leastFrom, positive}
-use Rattle.model.proofs.Least.{from-more, line-room}
-use Rattle.model.proofs.Spans.{positive-min, positive-pos}
+use Rattle.residuals.specs.Inside.{boxOf, nearOf, leastFrom, positive}
+use Rattle.residuals.proofs.Least.{from-more, line-room}
+use Rattle.residuals.proofs.Spans.{positive-min, positive-pos}
 use Rattle.model.proofs.range.least_distance.Statement.{statement}
 use Rattle.model.proofs.range.least_distance.Tie as tie
 

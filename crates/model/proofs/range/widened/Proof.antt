@@ -10,7 +10,7 @@ use mir.Facts.{toZ-ofZ}
 use Rattle.integers.specs.Integers.{maxZ, minZ}
 use Rattle.integers.proofs.Order.{max-either, min-either}
 use Rattle.integers.proofs.Parts.{size-sfits, abs-add, read-product}
-use Rattle.model.specs.Cost.{at}
+use Rattle.residuals.specs.Cost.{at}
 use Rattle.model.proofs.Dots.{sum-fits, sum-read}
 use Rattle.model.proofs.range.widened.Statement.{statement}
 use Rattle.model.proofs.range.widened.Tie as tie

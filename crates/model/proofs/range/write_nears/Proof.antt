@@ -7,8 +7,8 @@ use native.Mathlib.Omega.{arith}
 use lib.IntN.{ℤ}
 use mir.Facts.{toZ-ofZ}
 use Rattle.points.specs.declared.Point.{Point}
-use Rattle.model.specs.Inside.{boxOf, nearOf, leastFrom, positive}
-use Rattle.model.proofs.Least.{from-le}
+use Rattle.residuals.specs.Inside.{boxOf, nearOf, leastFrom, positive}
+use Rattle.residuals.proofs.Least.{from-le}
 use Rattle.model.proofs.Losses.{Written, none-written, one-written, all-written}
 use Rattle.model.proofs.range.write_nears.Statement.{statement}
 use Rattle.model.proofs.range.write_nears.Tie as tie

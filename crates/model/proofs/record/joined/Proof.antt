@@ -1,6 +1,7 @@
 -- Divided by 256, the second byte is the quotient and the first the remainder.
 use borrow.Author.Needs.{needs}
 use native.Mathlib.Omega.{arith}
+use Rattle.fields.specs.Fields.{fromBigEndian}
 use Rattle.model.proofs.record.joined.Statement.{statement}
 use Rattle.model.proofs.record.joined.Tie as tie
 
@@ -8,6 +9,7 @@ unsigned16-requires : tie.Need-unsigned16-requires
 unsigned16-requires c κs = search needs
 
 returns : tie.Need-returns
+unfolding fromBigEndian
 returns c = (omega (arith, c .unsigned16 .ensures), omega (arith, c .unsigned16 .ensures))
 
 pub joined-spec : {M : Type 1} → statement M

@@ -1,13 +1,16 @@
 -- Field by field, by what `field` says.
 use borrow.Author.Needs.{needs}
+use mathlib.Core.List.{[], _∷_}
 use mathlib.Core.Path.{_≡_, ap, _∙_}
-use Prim.Native.Nat.{ℕ, _+_, _*_}
+use Prim.Native.Nat.{ℕ, _+_}
 use native.Mathlib.Omega.{arith}
 use lib.ListN.{getD}
 use lib.IntN.{ℤ}
 use mir.Syntax.{w16}
 use mir.Val.{SFits, toZ, ofZ}
 use mir.Facts.{toZ-ofZ}
+use Rattle.fields.proofs.BigEndian.{pair-at}
+use Rattle.fields.specs.Fields.{fromBigEndian}
 use Rattle.points.specs.Points.{unsignedAt}
 use Rattle.model.proofs.record.read_record.Statement.{statement}
 use Rattle.model.proofs.record.read_record.Tie as tie
@@ -67,7 +70,9 @@ returns c =
     let x2 = x3 .before in
     let x1 = x2 .before in
     let a = x1 .before .before .args in
-    let frame-is : c .unsigned16 .result ≡ unsignedAt (a .s .now) (a .o + 10) = c .unsigned16 .ensures ∙ ap (λ (n : ℕ). getD (a .s .now) (a .o + 10) 0 * 256 + getD (a .s .now) n 0) (omega arith) in
+    let high = getD (a .s .now) (a .o + 10) 0 in
+    let next = ap (λ (n : ℕ). fromBigEndian (high ∷ getD (a .s .now) n 0 ∷ [])) {x = a .o + 11} {y = a .o + 10 + 1} (omega arith) in
+    let frame-is = c .unsigned16 .ensures ∙ next ∙ pair-at (a .s .now) (a .o + 10) (omega arith) in
     λ i. record {
       x1 = read-back (record { sfits = x1 .field .ok }) (x1 .field .ensures) i;
       x2 = read-back (record { sfits = x2 .field2 .ok }) (x2 .field2 .ensures) i;

@@ -6,7 +6,7 @@ use native.Mathlib.Omega.{arith}
 use lib.IntN.{ℤ, natAbs, _+ℤ_}
 use mir.Syntax.{w16}
 use Rattle.integers.proofs.Parts.{abs-add, read-product}
-use Rattle.model.specs.Cost.{at}
+use Rattle.residuals.specs.Cost.{at}
 use Rattle.model.proofs.Dots.{sum-fits, sum-read}
 use Rattle.model.proofs.residual.added.Statement.{statement}
 use Rattle.model.proofs.residual.added.Tie as tie

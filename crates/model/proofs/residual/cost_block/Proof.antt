@@ -3,10 +3,10 @@ use borrow.Author.Needs.{needs}
 use mathlib.Core.Path.{ap, _∙_}
 use Prim.Native.Nat.{ℕ, _+_}
 use Rattle.points.specs.Points.{pointAt}
-use Rattle.model.specs.Cost.{sizeAt}
-use Rattle.model.specs.Inside.{leastFrom}
+use Rattle.residuals.specs.Cost.{sizeAt}
+use Rattle.residuals.specs.Inside.{leastFrom}
 use Rattle.model.proofs.Losses.{block-losses}
-use Rattle.model.proofs.Sizes.{sizes-at}
+use Rattle.residuals.proofs.Sizes.{sizes-at}
 use Rattle.model.proofs.residual.cost_block.Statement.{statement}
 use Rattle.model.proofs.residual.cost_block.Tie as tie
 

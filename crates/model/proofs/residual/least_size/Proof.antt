@@ -7,8 +7,8 @@ use native.Mathlib.Omega.{arith}
 use lib.IntN.{ℤ}
 use lib.ListN.{length}
 use Rattle.points.specs.declared.Point.{Point}
-use Rattle.model.specs.Inside.{sizeOf, leastFrom}
-use Rattle.model.proofs.Least.{from-more, line-room}
+use Rattle.residuals.specs.Inside.{sizeOf, leastFrom}
+use Rattle.residuals.proofs.Least.{from-more, line-room}
 use Rattle.model.proofs.residual.least_size.Statement.{statement}
 use Rattle.model.proofs.residual.least_size.Tie as tie
 

@@ -5,8 +5,8 @@ use Prim.Native.Nat.{ℕ, _+_, _*_, _-_, _≤_}
 use native.Mathlib.Omega.{arith}
 use lib.IntN.{ℤ}
 use Rattle.points.specs.declared.Point.{Point}
-use Rattle.model.specs.Inside.{sizeOf, leastFrom}
-use Rattle.model.proofs.Least.{from-le}
+use Rattle.residuals.specs.Inside.{sizeOf, leastFrom}
+use Rattle.residuals.proofs.Least.{from-le}
 use Rattle.model.proofs.Losses.{Written, none-written, one-written, all-written}
 use Rattle.model.proofs.residual.write_sizes.Statement.{statement}
 use Rattle.model.proofs.residual.write_sizes.Tie as tie

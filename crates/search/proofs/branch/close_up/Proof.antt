@@ -1,7 +1,7 @@
 -- By whether the cost has fallen.
 use mathlib.Core.Path.{ap}
 use Rattle.points.specs.Points.{pointsOf}
-use Rattle.model.specs.Cost.{bound}
+use Rattle.residuals.specs.Cost.{bound}
 use Rattle.search.specs.declared.scan.Open.{Open}
 use Rattle.search.proofs.Closing.{left-parts, closed-all, closed-some}
 use borrow.Author.Needs.{needs}

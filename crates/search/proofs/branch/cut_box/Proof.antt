@@ -3,7 +3,7 @@ use mathlib.Core.Path.{_≡_, sym, ap, _∙_}
 use Prim.Native.Nat.{_≤_}
 use native.Mathlib.Omega.{arith}
 use Rattle.points.specs.Points.{pointsOf}
-use Rattle.model.specs.Cost.{cost}
+use Rattle.residuals.specs.Cost.{cost}
 use Rattle.boxes.proofs.Splitting.{cut-passes}
 use Rattle.search.specs.declared.branch.Best.{Best}
 use Rattle.search.specs.Inside.{bestOf}

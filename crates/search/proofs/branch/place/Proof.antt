@@ -1,6 +1,6 @@
 -- The boxes that stay, then left, then right.
 use Rattle.points.specs.Points.{pointsOf}
-use Rattle.model.specs.Cost.{bound}
+use Rattle.residuals.specs.Cost.{bound}
 use Rattle.rows.proofs.Rows.{Whole}
 use Rattle.search.proofs.Placing.{left-room, both-placed}
 use borrow.Author.Needs.{needs}

@@ -9,7 +9,7 @@ use lib.Dec.{ltb}
 use lib.IntN.{ℤ}
 use Rattle.boxes.specs.declared.Box.{Box}
 use Rattle.points.specs.Points.{pointsOf}
-use Rattle.model.specs.Cost.{cost, bound}
+use Rattle.residuals.specs.Cost.{cost, bound}
 use Rattle.rows.specs.Rows.{rowAt}
 use Rattle.search.specs.Inside.{Cut}
 use Rattle.search.proofs.Listing.{one-at-most}

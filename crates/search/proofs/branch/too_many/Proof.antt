@@ -2,7 +2,7 @@
 use mathlib.Core.Path.{sym}
 use native.Mathlib.Omega.{arith}
 use Rattle.points.specs.Points.{pointsOf}
-use Rattle.model.specs.Cost.{bound}
+use Rattle.residuals.specs.Cost.{bound}
 use Rattle.search.proofs.Closing.{few-stay, room-for-all, none-leaves}
 use borrow.Author.Needs.{needs}
 use Rattle.search.proofs.branch.too_many.Statement.{statement}

@@ -1,7 +1,7 @@
 -- The start vector's cost, and the given box if its bound is below that.
 use mathlib.Core.Path.{_≡_, ap, _∙_}
 use Rattle.points.specs.Points.{pointsOf}
-use Rattle.model.specs.Cost.{cost, bound}
+use Rattle.residuals.specs.Cost.{cost, bound}
 use Rattle.rows.proofs.Rows.{Whole}
 use Rattle.search.specs.declared.scan.Open.{Open}
 use Rattle.search.proofs.Beginning.{whole-cost, begun}

@@ -12,8 +12,8 @@ use Rattle.boxes.specs.Boxes.{InBox}
 use Rattle.boxes.specs.Laws.{Bounds}
 use Rattle.jobs.specs.declared.Job.{Job}
 use Rattle.points.specs.Points.{pointsOf}
-use Rattle.model.specs.Cost.{cost, bound}
-use Rattle.model.proofs.Bounds.{bound-laws}
+use Rattle.residuals.specs.Cost.{cost, bound}
+use Rattle.residuals.proofs.Bounds.{bound-laws}
 use Rattle.rows.specs.Rows.{rowCount}
 use Rattle.search.specs.declared.branch.State.{State}
 use Rattle.search.specs.Search.{searched}

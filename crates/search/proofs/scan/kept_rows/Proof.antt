@@ -5,7 +5,7 @@ use mathlib.Core.Logic.{⊎-elim}
 use Prim.Native.Nat.{_-_, _≤_}
 use native.Mathlib.Omega.{arith}
 use Rattle.points.specs.Points.{pointsOf}
-use Rattle.model.specs.Cost.{bound}
+use Rattle.residuals.specs.Cost.{bound}
 use Rattle.search.proofs.Counting.{Counted, none-counted, counted-taken, counted-kept, counted-dropped}
 use Rattle.search.proofs.scan.kept_rows.Statement.{statement}
 use Rattle.search.proofs.scan.kept_rows.Tie as tie

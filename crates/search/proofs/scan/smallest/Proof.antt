@@ -9,7 +9,7 @@ use native.Mathlib.Omega.{arith}
 use lib.IntN.{ℤ}
 use Rattle.boxes.specs.declared.Box.{Box}
 use Rattle.points.specs.Points.{pointsOf}
-use Rattle.model.specs.Cost.{bound}
+use Rattle.residuals.specs.Cost.{bound}
 use Rattle.rows.specs.Rows.{rowAt}
 use Rattle.search.specs.declared.scan.Open.{Open}
 use Rattle.search.specs.Inside.{SameBelow}

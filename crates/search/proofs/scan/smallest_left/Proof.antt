@@ -3,7 +3,7 @@ use borrow.Author.Needs.{needs}
 use Prim.Native.Nat.{_-_}
 use native.Mathlib.Omega.{arith}
 use Rattle.points.specs.Points.{pointsOf}
-use Rattle.model.specs.Cost.{bound}
+use Rattle.residuals.specs.Cost.{bound}
 use Rattle.integers.proofs.Lists.{all-map}
 use Rattle.search.proofs.Parts.{left-back, left-later, left-earlier}
 use Rattle.search.proofs.scan.smallest_left.Statement.{statement}

@@ -1,0 +1,156 @@
+-- The record of an accepted search's answer passes check 9, clause by clause, by the certificate of the search and the law of costs;
+-- and its numbers fit their bytes. Assumes nothing.
+use mathlib.Core.Bool.{true}
+use mathlib.Core.List.{List}
+use mathlib.Core.Path.{_≡_, refl, _∙_}
+use Prim.Native.Nat.{ℕ, _≤_}
+use native.Mathlib.Omega.{arith}
+use borrow.Author.Tests.{le-leb}
+use lib.Dec.{T}
+use lib.IntN.{ℤ}
+use lib.ListN.{length}
+use mir.Syntax.{w16}
+use mir.Val.{SFits}
+use Rattle.integers.specs.Lists.{All, none, also}
+use Rattle.integers.proofs.Signed.{fits-between}
+use Rattle.integers.proofs.Tests.{is-true}
+use Rattle.codes.specs.declared.Check.the-variants.{Pass, Refuse}
+use Rattle.codes.specs.declared.Refusal.{Refusal}
+use Rattle.codes.specs.Codes.{within}
+use Rattle.codes.proofs.Checks.{first-passed, others-passed}
+use Rattle.boxes.specs.declared.Box.{Box}
+use Rattle.boxes.specs.Boxes.{Between, empty, side, InBox, checkBox}
+use Rattle.boxes.specs.Shape.{checkShape, unusedZero}
+use Rattle.boxes.proofs.Checks.{in-unused}
+use Rattle.boxes.proofs.Volume.{between-length}
+use Rattle.scale.specs.Scale.{checkScale}
+use Rattle.fields.specs.Fields.{IsVector}
+use Rattle.jobs.specs.declared.Job.{Job}
+use Rattle.points.specs.Points.{pointsOf}
+use Rattle.residuals.specs.Cost.{cost, bound}
+use Rattle.model.specs.Calls.{checkModel}
+use Rattle.residuals.proofs.Bounds.{bound-laws}
+use Rattle.model.proofs.Passed.{cost-limit}
+use Rattle.rows.specs.Rows.{rowCount}
+use Rattle.certificate.specs.Search as Search
+use Rattle.certificate.specs.Search.{solved, spent, full}
+use Rattle.certificate.specs.Certificate.{Certificate}
+use Rattle.certificate.proofs.Certified.{certified, finished}
+use Rattle.search.specs.declared.Answer.{Answer}
+use Rattle.search.specs.Search.{kindOf, kindNumber, told, checkJob, checkSearch, searched, searchAnswer}
+use Rattle.search.proofs.Accepted as Accepted
+use Rattle.job_records.specs.Laws.{IsJob}
+use Rattle.answer_records.specs.Answers.{checkAnswer}
+use Rattle.answer_records.specs.Laws.{IsAnswer}
+use Rattle.answer_records.specs.declared.AnswerRecord.{AnswerRecord}
+use Rattle.answer_records.proofs.Answers.{answer-round-trip}
+use Rattle.answers.specs.Records.{recordOf}
+use Rattle.answers.specs.Laws.{searchRecord, RecordFits}
+
+-- solved, spent and full have numbers from 1 to 3
+kind-in-range : (k : Search.Kind) → within 1 (kindNumber (kindOf k)) 3 ≡ true
+kind-in-range solved = refl
+kind-in-range spent = refl
+kind-in-range full = refl
+
+-- a vector of a box of vectors
+signed-between : {v ls hs : List ℤ} → Between v ls hs → All (λ w. SFits w16 w) ls → All (λ w. SFits w16 w) hs → All (λ w. SFits w16 w) v
+signed-between empty none none = none
+signed-between (side {x} {l} {h} p q b) (also f fs) (also g gs) = also (fits-between w16 l x h p q f g) (signed-between b fs gs)
+
+vector-between : {v : List ℤ} {b : Box} → InBox v b → IsVector (b .low) → IsVector (b .high) → IsVector v
+vector-between i low high = record {
+  eight = between-length (i .between) .0 ∙ low .eight;
+  signed = signed-between (i .between) (low .signed) (high .signed);
+}
+
+module _ (store : List ℕ) (job : Job) (table : List ℤ) where
+  -- a refused answer's kind has the number 0
+  refused-by-9 :
+      (why : Refusal) →
+      checkSearch store job (length table) ≡ Refuse why →
+      checkAnswer (searchRecord store job table) ≡ Refuse Refusal.Answer
+  unfolding searchAnswer recordOf checkAnswer
+  refused-by-9 why e = rw e
+
+  module _ (ok : checkSearch store job (length table) ≡ Pass) where
+    abbrev found : Search.Answer
+    found = searched store job (rowCount table)
+
+    tells : searchRecord store job table ≡ recordOf (job .model) (told found)
+    unfolding searchAnswer
+    tells = rw ok
+
+    model-checked : checkModel store (job .model) ≡ Pass
+    model-checked = Accepted.runs-accepted store job (length table) ok .checked
+
+    shape-checked : checkShape (job .model .n) (job .model .d) ≡ Pass
+    unfolding checkModel
+    shape-checked = first-passed _ _ (others-passed _ _ model-checked)
+
+    scale-checked : checkScale (job .model .scale) ≡ Pass
+    unfolding checkModel
+    scale-checked = first-passed _ _ (others-passed _ _ (others-passed _ _ model-checked))
+
+    box-checked : checkBox (job .model .n) (job .model .d) (job .domain) ≡ Pass
+    unfolding checkSearch checkJob
+    box-checked = first-passed _ _ (others-passed _ _ (first-passed _ _ ok))
+
+    abbrev costs : List ℤ → ℕ
+    costs = cost (job .model) (pointsOf store)
+
+    abbrev bounds : Box → ℕ
+    bounds = bound (job .model) (pointsOf store)
+
+    certificate : Certificate costs bounds (job .budget) (rowCount table) (job .t) (job .start) (job .domain) found
+    unfolding searched
+    certificate = certified _ _ _ _ _ _ _ (bound-laws (job .model) (pointsOf store)) (Accepted.runs-accepted store job (length table) ok .inside)
+
+    within-budget : found .count ≤ job .budget
+    unfolding searched
+    within-budget = finished _ _ _ _ _ _ _ .within
+
+    -- the record, and what check 9 asks of it
+    abbrev written : AnswerRecord
+    written = recordOf (job .model) (told found)
+
+    ordered : written .bound ≤ written .cost
+    unfolding recordOf
+    ordered = certificate .ordered
+
+    cost-in-range : written .cost ≤ 1152921367167897600
+    unfolding recordOf
+    cost-in-range = omega (arith, certificate .exact, cost-limit store (job .model) .most model-checked (found .vector))
+
+    unused-zero : T (unusedZero (written .n) (written .d) (written .vector))
+    unfolding recordOf
+    unused-zero = in-unused (job .model .n) (job .model .d) (job .domain) (found .vector) box-checked (certificate .inside)
+
+    passes-9 : checkAnswer written ≡ Pass
+    unfolding recordOf checkAnswer
+    passes-9 =
+        rw (
+          kind-in-range (found .kind),
+          shape-checked,
+          scale-checked,
+          is-true (unusedZero (written .n) (written .d) (written .vector)) unused-zero,
+          le-leb (written .bound) (written .cost) ordered,
+          le-leb (written .cost) 1152921367167897600 cost-in-range,
+        )
+
+    fits : IsJob job → IsAnswer written
+    unfolding recordOf
+    fits is = record {
+      vector = vector-between (certificate .inside) (is .low) (is .high);
+      cost = record { fits = omega (arith, cost-in-range) };
+      bound = record { fits = omega (arith, cost-in-range, ordered) };
+      count = record { fits = omega (arith, within-budget, is .budget .fits) };
+    }
+
+  pub record-fits : RecordFits store job table
+  record-fits = record {
+    accepted = λ ok. rw (tells ok) (passes-9 ok);
+    refused = refused-by-9;
+    numbers = λ ok is. rw (tells ok) (fits ok is);
+    reads = λ ok is. rw (tells ok) (answer-round-trip .written-reads (written ok) (fits ok is) (passes-9 ok));
+  }

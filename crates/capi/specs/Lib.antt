@@ -1,4 +1,0 @@
-pub mod Calls
-pub mod Searches
-pub mod Records
-pub mod Lines

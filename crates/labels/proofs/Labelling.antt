@@ -1,0 +1,86 @@
+-- The first of the lines with the least size, and the label that names it. Assumes nothing.
+use mathlib.Core.Path.{_≡_, refl, sym, subst, _∙_}
+use mathlib.Core.Bool.{cond}
+use mathlib.Core.Logic.{⊎-elim}
+use Prim.Native.Nat.{ℕ, zero, suc, _+_, _≤_, _<_}
+use native.Mathlib.Nat.{min-eq-left, min-eq-right}
+use native.Mathlib.Numerals.{add-one}
+use native.Mathlib.Omega.{arith}
+use borrow.Author.Tests.{ltb-true, ltb-false, leb-true, leb-false}
+use lib.Dec.{leb, ltb}
+use Rattle.integers.proofs.Tests.{by-test, le-or-lt}
+use Rattle.residuals.specs.Cost.{least, sizeAt}
+use Rattle.labels.specs.Labels.{firstLeast, label}
+use Rattle.labels.specs.Laws.{Nearest, AllLabelled}
+
+-- one line more
+pub first-least-more : (f : ℕ → ℕ) (j : ℕ) → 1 ≤ j → firstLeast f (j + 1) ≡ cond (ltb (f j) (least f j)) j (firstLeast f j)
+unfolding firstLeast
+first-least-more f zero h = absurd (omega arith)
+first-least-more f (suc j) h = rw add-one
+
+-- the first of the least values: it is one of the n, the least, no other is smaller, and those before it are larger
+pub record First (f : ℕ → ℕ) (n k : ℕ) : Type 0 where
+  pub one-of : k < n
+  pub is-least : f k ≡ least f n
+  pub none-smaller : (j : ℕ) → j < n → f k ≤ f j
+  pub lowest : (j : ℕ) → j < k → f k < f j
+
+-- a place below n + 2 is the last or one before it
+last-or : (n j : ℕ) → j < suc (suc n) → (P : ℕ → Type 0) → P (suc n) → (j < suc n → P j) → P j
+last-or n j h P last before =
+    ⊎-elim (λ (p : suc n ≤ j). let e : suc n ≡ j = omega arith in subst P e last) before (le-or-lt (suc n) j)
+
+pub first-least : (f : ℕ → ℕ) (n : ℕ) → 1 ≤ n → First f n (firstLeast f n)
+unfolding firstLeast least
+first-least f zero h = absurd (omega arith)
+first-least f (suc zero) h =
+    record {
+      one-of = omega arith;
+      is-least = refl;
+      none-smaller = λ j k. let e : j ≡ 0 = omega arith in rw e (omega arith);
+      lowest = λ j k. absurd (omega arith);
+    }
+first-least f (suc (suc n)) h =
+    let g = first-least f (suc n) (omega arith) in
+    let k = firstLeast f (suc n) in
+    by-test (ltb (f (suc n)) (least f (suc n))) (suc n) k (First f (suc (suc n)))
+    (λ t. let less = ltb-true (f (suc n)) (least f (suc n)) t in
+    record {
+      one-of = omega arith;
+      is-least = sym (min-eq-right (omega arith));
+      none-smaller = λ j h. last-or n j h (λ (j : ℕ). f (suc n) ≤ f j) (omega arith) (λ p. omega (arith, g .none-smaller j p, g .is-least));
+      lowest = λ j h. omega (arith, g .none-smaller j h, g .is-least);
+    })
+    (λ t. let more = ltb-false (f (suc n)) (least f (suc n)) t in
+    record {
+      one-of = omega (arith, g .one-of);
+      is-least = g .is-least ∙ sym (min-eq-left (omega arith));
+      none-smaller = λ j h. last-or n j h (λ (j : ℕ). f k ≤ f j) (omega (arith, g .is-least)) (g .none-smaller j);
+      lowest = g .lowest;
+    })
+
+pub labelled : AllLabelled
+unfolding label
+labelled m v q h =
+    let f = sizeAt m v q in
+    let k = firstLeast f (m .n) in
+    let g = first-least f (m .n) h in
+    let test = leb (least f (m .n)) (m .eps) in
+    record {
+      named = λ line. by-test test (suc k) 0 (λ (x : ℕ). x ≡ suc line → Nearest m v q line)
+          (λ t e. let same : k ≡ line = omega arith in
+          subst (Nearest m v q) same (record {
+            one-of = g .one-of;
+            none-smaller = g .none-smaller;
+            lowest = g .lowest;
+            fits = omega (arith, leb-true (least f (m .n)) (m .eps) t, g .is-least);
+          }))
+          (λ t e. absurd (omega arith));
+      none-fits = by-test test (suc k) 0 (λ (x : ℕ). x ≡ 0 → (j : ℕ) → j < m .n → m .eps < f j)
+          (λ t e. absurd (omega arith))
+          (λ t e j r. omega (arith, leb-false (least f (m .n)) (m .eps) t, g .none-smaller j r, g .is-least));
+      no-label = λ past. by-test test (suc k) 0 (λ (x : ℕ). x ≡ 0)
+          (λ t. absurd (omega (arith, leb-true (least f (m .n)) (m .eps) t, past k (g .one-of), g .is-least)))
+          (λ t. refl);
+    }

@@ -1,0 +1,3 @@
+pub mod Labelling
+pub mod Filling
+pub mod Passed

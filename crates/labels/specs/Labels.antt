@@ -1,0 +1,39 @@
+-- The labels of a store's points, and the call that writes them. Lines count from 0 here, and from 1 in a label.
+use mathlib.Core.Bool.{cond}
+use mathlib.Core.List.{List, [], _∷_, map}
+use Prim.Native.Nat.{ℕ, zero, suc}
+use lib.Dec.{leb, ltb}
+use lib.IntN.{ℤ}
+use lib.ListN.{length}
+use Rattle.integers.specs.Lists.{over}
+use Rattle.codes.specs.declared.Check.{Check}
+use Rattle.codes.specs.declared.Outcome.{Outcome}
+use Rattle.codes.specs.declared.Refusal.the-variants.{Short}
+use Rattle.codes.specs.Codes.{passIf, inOrder, unlessRefused, ifPassed}
+use Rattle.jobs.specs.declared.Model.{Model}
+use Rattle.points.specs.declared.Point.{Point}
+use Rattle.points.specs.Points.{pointsOf}
+use Rattle.residuals.specs.Cost.{least, sizeAt}
+use Rattle.model.specs.Calls.{checkCost}
+
+-- the first of the places 0, …, n − 1 at which f is least
+unfoldable pub firstLeast : (ℕ → ℕ) → ℕ → ℕ
+firstLeast f zero = 0
+firstLeast f (suc zero) = 0
+firstLeast f (suc (suc n)) = cond (ltb (f (suc n)) (least f (suc n))) (suc n) (firstLeast f (suc n))
+
+-- "A point's label is one byte: the line (1 to n) with the least |e|, lowest among equals, if that |e| ≤ ε; otherwise 0."
+unfoldable pub label : Model → List ℤ → Point → ℕ
+label m v q = cond (leb (least (sizeAt m v q) (m .n)) (m .eps)) (suc (firstLeast (sizeAt m v q) (m .n))) 0
+
+-- "labelling 1 to 4, 6, 7 and 10"; 10: "output too small"
+unfoldable pub checkLabels : List ℕ → Model → List ℤ → List ℕ → Check
+checkLabels store m v out = inOrder (checkCost store m v ∷ passIf (leb (length (pointsOf store)) (length out)) Short ∷ [])
+
+-- The answer is the number of bytes written.
+unfoldable pub labelsAnswer : List ℕ → Model → List ℤ → List ℕ → Outcome
+labelsAnswer store m v out = unlessRefused (checkLabels store m v out) (length (pointsOf store))
+
+-- "One byte per point is written, the buffer's rest is kept."
+unfoldable pub labelled : List ℕ → Model → List ℤ → List ℕ → List ℕ
+labelled store m v out = ifPassed (checkLabels store m v out) (over (map (label m v) (pointsOf store)) out) out

@@ -1,5 +1,0 @@
-pub mod BigEndian
-pub mod Parts
-pub mod Vectors
-pub mod Jobs
-pub mod Answers

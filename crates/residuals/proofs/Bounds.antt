@@ -1,0 +1,142 @@
+-- The bound of a box is at most the cost of each of its vectors, and equal for a box of one vector; residuals have a limit.
+-- Assumes nothing.
+use mathlib.Core.Path.{_≡_, refl, ap, _∙_}
+use mathlib.Core.List.{List, [], _∷_}
+use Prim.Native.Nat.{ℕ, zero, suc, _+_, _*_, _^_, _≤_}
+use native.Mathlib.Nat.{mul-le-mul}
+use native.Mathlib.Omega.{arith}
+use borrow.Author.Tests.{lt-ltb}
+use lib.IntN.{ℤ, pos, negsuc, natAbs, _+ℤ_, _-ℤ_, _*ℤ_}
+use lib.Pow.{pow-mono}
+use lib.Signed.{ltZ, _≤ℤ_, ≤ℤ-refl}
+use Rattle.integers.proofs.Tests.{by-test}
+use Rattle.integers.proofs.Parts.{apart, abs-parts, abs-add, abs-sub, abs-mul, le-parts, ltZ-true, pos-up, pos-dn}
+use Rattle.integers.proofs.Order.{max-same, min-same, product-le-max, min-le-product, add-mono, sub-mono}
+use Rattle.boxes.specs.declared.Box.{Box}
+use Rattle.boxes.specs.Boxes.{InBox}
+use Rattle.boxes.proofs.Volume.{between-at, high-low}
+use Rattle.jobs.specs.declared.Model.{Model}
+use Rattle.loss.specs.Loss.{lossOf}
+use Rattle.loss.proofs.Laws.{loss-mono}
+use Rattle.points.specs.declared.Point.{Point}
+use Rattle.points.specs.Points.{xs}
+use Rattle.residuals.specs.Cost.{at, dot, dotMax, dotMin, residual, sizeAt, eMin, eMax, nearestTo0, leastSize, totalLoss, cost, bound}
+use Rattle.residuals.specs.Laws.{AllBounds, LeastLoss, Small, SmallResidual}
+use Rattle.residuals.specs.Inside.{boxOf}
+use Rattle.residuals.proofs.Least.{least-mono, loss-of-least}
+
+-- the least size between two ends is at most the size of each number between them
+nearest-le : (a b e : ℤ) → a ≤ℤ e → e ≤ℤ b → nearestTo0 a b ≤ natAbs e
+unfolding nearestTo0
+nearest-le a b e h k =
+    let ha = le-parts h in
+    let hb = le-parts k in
+    by-test (ltZ (pos 0) a) _ _ (λ (m : ℕ). m ≤ natAbs e)
+    (λ s. omega (arith, ltZ-true (pos 0) a s, pos-up 0, pos-dn 0, apart a, abs-parts a, abs-parts e))
+    (λ s. by-test (ltZ b (pos 0)) _ _ (λ (m : ℕ). m ≤ natAbs e)
+    (λ t. omega (arith, ltZ-true b (pos 0) t, pos-up 0, pos-dn 0, apart b, abs-parts b, abs-parts e))
+    (λ t. omega arith))
+
+nearest-same : (e : ℤ) → nearestTo0 e e ≡ natAbs e
+unfolding nearestTo0
+nearest-same (pos zero) = refl
+nearest-same (pos (suc n)) = rw (lt-ltb 0 (suc n) (omega arith)) refl
+nearest-same (negsuc n) = refl
+
+-- Σ w × x lies between its ends over a box
+module _ (B : Box) (v : List ℤ) (inside : InBox v B) (b : ℕ) (x : List ℤ) where
+  dot-le-max : (k : ℕ) → dot v b x k ≤ℤ dotMax B b x k
+  unfolding dot dotMax
+  dot-le-max zero = ≤ℤ-refl (pos 0)
+  dot-le-max (suc k) =
+      let w = between-at (inside .between) (b + k) in
+      add-mono (dot-le-max k) (product-le-max (at (B .low) (b + k)) (at (B .high) (b + k)) (at v (b + k)) (at x k) (w .0) (w .1))
+
+  min-le-dot : (k : ℕ) → dotMin B b x k ≤ℤ dot v b x k
+  unfolding dot dotMin
+  min-le-dot zero = ≤ℤ-refl (pos 0)
+  min-le-dot (suc k) =
+      let w = between-at (inside .between) (b + k) in
+      add-mono (min-le-dot k) (min-le-product (at (B .low) (b + k)) (at (B .high) (b + k)) (at v (b + k)) (at x k) (w .0) (w .1))
+
+-- and is both of them over a box of one vector
+module _ (v : List ℤ) (b : ℕ) (x : List ℤ) where
+  dot-max-same : (k : ℕ) → dotMax (boxOf v v) b x k ≡ dot v b x k
+  unfolding dot dotMax
+  dot-max-same zero = refl
+  dot-max-same (suc k) = λ i. dot-max-same k i +ℤ max-same (at v (b + k) *ℤ at x k) i
+
+  dot-min-same : (k : ℕ) → dotMin (boxOf v v) b x k ≡ dot v b x k
+  unfolding dot dotMin
+  dot-min-same zero = refl
+  dot-min-same (suc k) = λ i. dot-min-same k i +ℤ min-same (at v (b + k) *ℤ at x k) i
+
+-- Lemma 2 of source document 000, of one point and line
+size-below : (m : Model) (B : Box) (v : List ℤ) → InBox v B → (q : Point) (j : ℕ) → leastSize m B q j ≤ sizeAt m v q j
+unfolding leastSize sizeAt eMin eMax residual
+size-below m B v inside q j =
+    let y = q .y *ℤ pos (2 ^ m .scale) in
+    nearest-le (eMin m B q j) (eMax m B q j) (residual m v q j)
+    (sub-mono (≤ℤ-refl y) (dot-le-max B v inside (j * m .d) (xs q) (m .d)))
+    (sub-mono (≤ℤ-refl y) (min-le-dot B v inside (j * m .d) (xs q) (m .d)))
+
+size-one : (m : Model) (v : List ℤ) (q : Point) (j : ℕ) → leastSize m (boxOf v v) q j ≡ sizeAt m v q j
+unfolding leastSize sizeAt eMin eMax residual
+size-one m v q j =
+    let y = q .y *ℤ pos (2 ^ m .scale) in
+    (λ i. nearestTo0 (y -ℤ dot-max-same v (j * m .d) (xs q) (m .d) i) (y -ℤ dot-min-same v (j * m .d) (xs q) (m .d) i))
+    ∙ nearest-same (residual m v q j)
+
+-- totals of sizes, point by point
+total-mono : (m : Model) (f g : Point → ℕ → ℕ) → ((q : Point) (j : ℕ) → f q j ≤ g q j) →
+    (qs : List Point) → totalLoss m f qs ≤ totalLoss m g qs
+unfolding totalLoss
+total-mono m f g h [] = omega arith
+total-mono m f g h (q ∷ qs) =
+    let loss = lossOf (m .p) (m .eps) in
+    omega (
+      arith,
+      total-mono m f g h qs,
+      least-mono (λ j. loss (f q j)) (λ j. loss (g q j)) (λ j. loss-mono (m .p) (m .eps) (h q j)) (m .n),
+    )
+
+total-same : (m : Model) (f g : Point → ℕ → ℕ) → ((q : Point) (j : ℕ) → f q j ≡ g q j) →
+    (qs : List Point) → totalLoss m f qs ≡ totalLoss m g qs
+total-same m f g h qs = ap (λ (u : Point → ℕ → ℕ). totalLoss m u qs) (λ i q j. h q j i)
+
+pub bound-laws : AllBounds
+unfolding bound cost
+bound-laws m qs =
+    record {
+      sound = λ B v inside. total-mono m (leastSize m B) (sizeAt m v) (size-below m B v inside) qs;
+      tight = λ B e.
+          let v = B .low in
+          ap (λ (h : List ℤ). totalLoss m (leastSize m (boxOf v h)) qs) (high-low B e)
+          ∙ total-same m (leastSize m (boxOf v v)) (sizeAt m v) (size-one m v) qs;
+    }
+
+pub least-loss : (p ε : ℕ) → LeastLoss p ε
+least-loss p ε = record { of-least = loss-of-least p ε }
+
+dot-small : (v : List ℤ) (b : ℕ) (x : List ℤ) → Small v → Small x → (k : ℕ) → natAbs (dot v b x k) ≤ k * 1073741824
+unfolding dot
+dot-small v b x hv hx zero = omega arith
+dot-small v b x hv hx (suc k) =
+    let w = at v (b + k) in
+    omega (arith, abs-add (dot v b x k) (w *ℤ at x k), abs-mul w (at x k), mul-le-mul (hv (b + k)) (hx k), dot-small v b x hv hx k)
+
+pub residual-small : (m : Model) (v : List ℤ) (q : Point) (j : ℕ) → SmallResidual m v q j
+unfolding residual
+residual-small m v q j =
+    record {
+      small = λ s d hv hq.
+          let y = q .y in
+          let power : natAbs (pos (2 ^ m .scale)) ≤ 32768 = pow-mono {i = m .scale} {j = 15} s in
+          omega (
+            arith,
+            abs-sub (y *ℤ pos (2 ^ m .scale)) (dot v (j * m .d) (xs q) (m .d)),
+            abs-mul y (pos (2 ^ m .scale)),
+            mul-le-mul (hq 0) power,
+            dot-small v (j * m .d) (xs q) hv (λ k. hq (suc k)) (m .d),
+          );
+    }

@@ -1,0 +1,82 @@
+-- The least of values over the lines, and the loss of the least size. Assumes nothing.
+use mathlib.Core.Path.{_≡_, refl, ap, _∙_}
+use Prim.Native.Nat.{ℕ, zero, suc, _+_, _*_, _≤_, _<_, min}
+use native.Mathlib.Nat.{mul-le-mul, mul-le-mul-right, add-mul, min-eq-left, min-eq-right}
+use native.Mathlib.Numerals.{add-one}
+use native.Mathlib.Omega.{arith, min-cases}
+use borrow.Author.Tests.{lt-ltb}
+use Rattle.loss.specs.Loss.{lossOf}
+use Rattle.loss.proofs.Laws.{loss-mono}
+use Rattle.residuals.specs.Cost.{least}
+use Rattle.residuals.specs.Inside.{leastFrom}
+
+-- one line more
+pub least-more : (f : ℕ → ℕ) (j : ℕ) → 1 ≤ j → least f (j + 1) ≡ min (least f j) (f j)
+unfolding least
+least-more f zero h = absurd (omega arith)
+least-more f (suc j) h = rw add-one
+
+-- the least rises with the values
+pub least-mono : (f g : ℕ → ℕ) → ((j : ℕ) → f j ≤ g j) → (n : ℕ) → least f n ≤ least g n
+unfolding least
+least-mono f g h zero = omega arith
+least-mono f g h (suc zero) = h 0
+least-mono f g h (suc (suc n)) = omega (arith, least-mono f g h (suc n), h (suc n))
+
+-- "the least loss among the lines is the loss of the least |e|": one loss for each point is enough
+pub loss-of-least : (p ε : ℕ) (f : ℕ → ℕ) (n : ℕ) → 1 ≤ n → least (λ j. lossOf p ε (f j)) n ≡ lossOf p ε (least f n)
+unfolding least
+loss-of-least p ε f zero h = absurd (omega arith)
+loss-of-least p ε f (suc zero) h = refl
+loss-of-least p ε f (suc (suc n)) h =
+    ap (λ (m : ℕ). min m (lossOf p ε (f (suc n)))) (loss-of-least p ε f (suc n) (omega arith))
+    ∙ min-cases (least f (suc n)) (f (suc n))
+    (min (lossOf p ε (least f (suc n))) (lossOf p ε (f (suc n))) ≡ lossOf p ε (min (least f (suc n)) (f (suc n))))
+    (λ k e. rw e (min-eq-left (loss-mono p ε k)))
+    (λ k e. rw e (min-eq-right (loss-mono p ε k)))
+
+-- the least with a first value to start from
+pub from-more : (most : ℕ) (f : ℕ → ℕ) (j : ℕ) → leastFrom most f (j + 1) ≡ min (leastFrom most f j) (f j)
+unfolding leastFrom
+from-more most f j = rw add-one
+
+pub from-le : (most : ℕ) (f : ℕ → ℕ) (n : ℕ) → leastFrom most f n ≤ most
+unfolding leastFrom
+from-le most f zero = omega arith
+from-le most f (suc n) = omega (arith, from-le most f n)
+
+from-least : (most : ℕ) (f : ℕ → ℕ) (n : ℕ) → 1 ≤ n → leastFrom most f n ≡ min most (least f n)
+unfolding leastFrom least
+from-least most f zero h = absurd (omega arith)
+from-least most f (suc zero) h = refl
+from-least most f (suc (suc n)) h = omega (arith, from-least most f (suc n) (omega arith))
+
+-- past ε the loss stays
+loss-past : (p ε a : ℕ) → ε + 1 ≤ a → lossOf p ε (ε + 1) ≡ lossOf p ε a
+unfolding lossOf
+loss-past zero ε a h =
+    let here : ε < ε + 1 = omega arith in
+    let there : ε < a = omega arith in
+    rw (lt-ltb _ _ here, lt-ltb _ _ there)
+loss-past (suc zero) ε a h = omega arith
+loss-past (suc (suc zero)) ε a h =
+    let here : ε ≤ ε + 1 = omega arith in
+    let there : ε ≤ a = omega arith in
+    omega (arith, mul-le-mul here here, mul-le-mul there there)
+loss-past (suc (suc (suc p))) ε a h = refl
+
+loss-cut : (p ε a : ℕ) → lossOf p ε (min (ε + 1) a) ≡ lossOf p ε a
+loss-cut p ε a =
+    min-cases (ε + 1) a (lossOf p ε (min (ε + 1) a) ≡ lossOf p ε a)
+    (λ k e. rw e (loss-past p ε a k))
+    (λ k e. rw e)
+
+-- so sizes past ε + 1 need not be told apart
+pub loss-from : (p ε : ℕ) (f : ℕ → ℕ) (n : ℕ) → 1 ≤ n → lossOf p ε (leastFrom (ε + 1) f n) ≡ lossOf p ε (least f n)
+loss-from p ε f n h = ap (lossOf p ε) (from-least (ε + 1) f n h) ∙ loss-cut p ε (least f n)
+
+-- a line's coordinates end within the vector
+pub line-room : (j n d room : ℕ) → j < n → n * d ≤ room → j * d + d ≤ room
+line-room j n d room h k =
+    let g : j + 1 ≤ n = omega arith in
+    omega (arith, mul-le-mul-right d g, add-mul j 1 d)

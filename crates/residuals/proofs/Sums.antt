@@ -1,0 +1,101 @@
+-- Sums, and of losses over the first points of a store: one more, their size, and where a cap is reached. Assumes nothing.
+use mathlib.Core.Path.{_≡_, refl, sym, ap, _∙_}
+use mathlib.Core.List.{List, [], _∷_, _++_}
+use Prim.Native.Nat.{ℕ, zero, suc, _+_, _*_, _-_, _/_, _≤_, _<_, min}
+use native.Mathlib.Nat.{add-zero, add-suc, min-eq-left, min-eq-right}
+use native.Mathlib.Numerals.{add-one}
+use native.Mathlib.Omega.{arith}
+use lib.ListN.{length}
+use Rattle.loss.specs.Loss.{lossOf}
+use Rattle.loss.proofs.Laws.{loss-le}
+use Rattle.jobs.specs.declared.Model.{Model}
+use Rattle.points.specs.declared.Point.{Point}
+use Rattle.points.specs.Points.{pointAt, firstPoints, pointsOf}
+use Rattle.points.proofs.Laws.{points-more, points-length}
+use Rattle.residuals.specs.Cost.{least, totalLoss}
+use Rattle.residuals.specs.Inside.{sumOf}
+use Rattle.residuals.proofs.Least.{loss-of-least}
+
+pub sum-more : (f : ℕ → ℕ) (n : ℕ) → sumOf f (n + 1) ≡ sumOf f n + f n
+unfolding sumOf
+sum-more f n = rw add-one
+
+pub sum-same : (f g : ℕ → ℕ) (n : ℕ) → ((k : ℕ) → k < n → f k ≡ g k) → sumOf f n ≡ sumOf g n
+unfolding sumOf
+sum-same f g zero h = refl
+sum-same f g (suc n) h = omega (arith, sum-same f g n (λ k p. h k (omega arith)), h n (omega arith))
+
+module _ (m : Model) (size : Point → ℕ → ℕ) where
+  total-snoc : (qs : List Point) (q : Point) →
+      totalLoss m size (qs ++ (q ∷ [])) ≡ totalLoss m size qs + least (λ j. lossOf (m .p) (m .eps) (size q j)) (m .n)
+  unfolding totalLoss
+  total-snoc [] q = omega arith
+  total-snoc (p ∷ qs) q = omega (arith, total-snoc qs q)
+
+  -- the largest total under a threshold that check 4 lets through
+  total-le : 1 ≤ m .n → m .eps ≤ 16777215 → (qs : List Point) → totalLoss m size qs ≤ length qs * 281474943156225
+  unfolding totalLoss
+  total-le lines cut [] = omega arith
+  total-le lines cut (q ∷ qs) =
+      let of-least = loss-of-least (m .p) (m .eps) (size q) (m .n) lines in
+      omega (arith, total-le lines cut qs, of-least, loss-le (m .p) (m .eps) (least (size q) (m .n)) cut)
+
+  module _ (s : List ℕ) where
+    -- the largest total of a store that check 1 lets through
+    pub total-most : 1 ≤ m .n → m .eps ≤ 16777215 → length s ≤ 49152 → totalLoss m size (pointsOf s) ≤ 1152921367167897600
+    unfolding pointsOf
+    total-most lines cut few = omega (arith, total-le lines cut (firstPoints s (length s / 12)), points-length s (length s / 12))
+
+    -- so that no cap of 64 bits is needed
+    pub total-uncapped : 1 ≤ m .n → m .eps ≤ 16777215 → length s ≤ 49152 →
+        min (totalLoss m size (pointsOf s)) 18446744073709551615 ≡ totalLoss m size (pointsOf s)
+    total-uncapped lines cut few = min-eq-left (omega (arith, total-most lines cut few))
+
+    total-more : (i : ℕ) →
+        totalLoss m size (firstPoints s (i + 1))
+        ≡ totalLoss m size (firstPoints s i) + least (λ j. lossOf (m .p) (m .eps) (size (pointAt s i) j)) (m .n)
+    total-more i = ap (totalLoss m size) (points-more s i) ∙ total-snoc (firstPoints s i) (pointAt s i)
+
+    -- more points cost at least as much
+    behind : (i k : ℕ) → totalLoss m size (firstPoints s i) ≤ totalLoss m size (firstPoints s (i + k))
+    unfolding firstPoints
+    behind i zero = rw add-zero (omega arith)
+    behind i (suc k) = rw add-suc (omega (arith, behind i k, total-snoc (firstPoints s (i + k)) (pointAt s (i + k))))
+
+    total-prefix : {i n : ℕ} → i ≤ n → totalLoss m size (firstPoints s i) ≤ totalLoss m size (firstPoints s n)
+    total-prefix {i} {n} h =
+        let e : n ≡ i + (n - i) = omega arith in
+        omega (arith, behind i (n - i), ap (λ (k : ℕ). totalLoss m size (firstPoints s k)) e)
+
+    -- the sum over the first i records of a store, as a loop has it
+    pub record Summed (i sum : ℕ) : Type 0 where
+      pub few : i ≤ length s / 12
+      pub total : sum ≡ totalLoss m size (firstPoints s i)
+      pub small : sum ≤ i * 281474943156225
+
+    pub none-summed : Summed 0 0
+    unfolding totalLoss firstPoints
+    none-summed = record { few = omega arith; total = refl; small = omega arith }
+
+    -- one record more: the loss of its least size
+    pub one-summed : {i sum : ℕ} (loss : ℕ) → 1 ≤ m .n → m .eps ≤ 16777215 → i < length s / 12 →
+        loss ≡ lossOf (m .p) (m .eps) (least (size (pointAt s i)) (m .n)) → Summed i sum → Summed (i + 1) (sum + loss)
+    one-summed {i} {sum} loss lines cut h e g =
+        let a = least (size (pointAt s i)) (m .n) in
+        record {
+          few = omega arith;
+          total = omega (arith, g .total, e, total-more i, loss-of-least (m .p) (m .eps) (size (pointAt s i)) (m .n) lines);
+          small = omega (arith, g .small, e, loss-le (m .p) (m .eps) a cut);
+        }
+
+    module _ {i sum : ℕ} (g : Summed i sum) (cap : ℕ) where
+      -- where the cap is reached the rest of the store does not matter
+      pub cap-reached : cap ≤ sum → cap ≡ min (totalLoss m size (pointsOf s)) cap
+      unfolding pointsOf
+      cap-reached h = sym (min-eq-right (omega (arith, total-prefix (g .few), g .total)))
+
+      pub all-summed : length s / 12 ≤ i → min sum cap ≡ min (totalLoss m size (pointsOf s)) cap
+      unfolding pointsOf
+      all-summed h =
+          let e : i ≡ length s / 12 = omega (arith, g .few) in
+          ap (λ (n : ℕ). min n cap) (g .total ∙ ap (λ (k : ℕ). totalLoss m size (firstPoints s k)) e)

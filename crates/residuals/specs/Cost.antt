@@ -1,0 +1,75 @@
+-- "Cost and bound". Lines count from 0 here, coordinates of a list too.
+use mathlib.Core.Bool.{cond}
+use mathlib.Core.List.{List, [], _∷_}
+use Prim.Native.Nat.{ℕ, zero, suc, _+_, _*_, _^_, min}
+use lib.IntN.{ℤ, pos, natAbs, _+ℤ_, _-ℤ_, _*ℤ_}
+use lib.ListN.{getD}
+use lib.Signed.{ltZ}
+use Rattle.integers.specs.Integers.{maxZ, minZ}
+use Rattle.boxes.specs.declared.Box.{Box}
+use Rattle.jobs.specs.declared.Model.{Model}
+use Rattle.points.specs.declared.Point.{Point}
+use Rattle.points.specs.Points.{xs}
+use Rattle.loss.specs.Loss.{lossOf}
+
+-- coordinate k of a list, counted from 0
+abbrev pub at : List ℤ → ℕ → ℤ
+at v k = getD v k (pos 0)
+
+-- Σ w_k × x_k, over the first k of a line's coordinates, which begin at place b of the vector
+unfoldable pub dot : List ℤ → ℕ → List ℤ → ℕ → ℤ
+dot v b x zero = pos 0
+dot v b x (suc k) = dot v b x k +ℤ at v (b + k) *ℤ at x k
+
+-- "For point i and line j, e = y × 2^S − Σ w_k × x_k". "A vector has 8 signed 16-bit coordinates, line after line, d each."
+unfoldable pub residual : Model → List ℤ → Point → ℕ → ℤ
+residual m v q j = q .y *ℤ pos (2 ^ m .scale) -ℤ dot v (j * m .d) (xs q) (m .d)
+
+-- the least of f 0, …, f (n − 1)
+unfoldable pub least : (ℕ → ℕ) → ℕ → ℕ
+least f zero = 0
+least f (suc zero) = f 0
+least f (suc (suc n)) = min (least f (suc n)) (f (suc n))
+
+-- The sum over the points of the least loss among the lines, where `size q j` stands for |e| of point q and line j.
+unfoldable pub totalLoss : Model → (Point → ℕ → ℕ) → List Point → ℕ
+totalLoss m size [] = 0
+totalLoss m size (q ∷ qs) = least (λ j. lossOf (m .p) (m .eps) (size q j)) (m .n) + totalLoss m size qs
+
+-- |e| of point q and line j
+unfoldable pub sizeAt : Model → List ℤ → Point → ℕ → ℕ
+sizeAt m v q j = natAbs (residual m v q j)
+
+-- "The cost of a vector is the sum over the points of the least loss among its lines."
+unfoldable pub cost : Model → List Point → List ℤ → ℕ
+cost m qs v = totalLoss m (sizeAt m v) qs
+
+-- "Σ max(low × x, high × x)", over the first k of a line's coordinates, which begin at place b
+unfoldable pub dotMax : Box → ℕ → List ℤ → ℕ → ℤ
+dotMax B b x zero = pos 0
+dotMax B b x (suc k) = dotMax B b x k +ℤ maxZ (at (B .low) (b + k) *ℤ at x k) (at (B .high) (b + k) *ℤ at x k)
+
+-- the same with min
+unfoldable pub dotMin : Box → ℕ → List ℤ → ℕ → ℤ
+dotMin B b x zero = pos 0
+dotMin B b x (suc k) = dotMin B b x k +ℤ minZ (at (B .low) (b + k) *ℤ at x k) (at (B .high) (b + k) *ℤ at x k)
+
+-- "emin = y × 2^S − Σ max(low × x, high × x)"
+unfoldable pub eMin : Model → Box → Point → ℕ → ℤ
+eMin m B q j = q .y *ℤ pos (2 ^ m .scale) -ℤ dotMax B (j * m .d) (xs q) (m .d)
+
+-- "emax the same with min"
+unfoldable pub eMax : Model → Box → Point → ℕ → ℤ
+eMax m B q j = q .y *ℤ pos (2 ^ m .scale) -ℤ dotMin B (j * m .d) (xs q) (m .d)
+
+-- "emin if emin > 0, −emax if emax < 0, else 0"
+unfoldable pub nearestTo0 : ℤ → ℤ → ℕ
+nearestTo0 emin emax = cond (ltZ (pos 0) emin) (natAbs emin) (cond (ltZ emax (pos 0)) (natAbs emax) 0)
+
+-- "its least size over the box", of point q and line j
+unfoldable pub leastSize : Model → Box → Point → ℕ → ℕ
+leastSize m B q j = nearestTo0 (eMin m B q j) (eMax m B q j)
+
+-- "The bound of a box is the same sum with |e| replaced by its least size over the box."
+unfoldable pub bound : Model → List Point → Box → ℕ
+bound m qs B = totalLoss m (leastSize m B) qs

@@ -1,0 +1,38 @@
+-- What is shown of costs and bounds. The proofs stand in proofs/Bounds.antt, and of frame numbers in proofs/Frames.antt.
+use mathlib.Core.List.{List, _∷_, map}
+use mathlib.Core.Path.{_≡_}
+use Prim.Native.Nat.{ℕ, _≤_}
+use lib.IntN.{ℤ, natAbs}
+use Rattle.boxes.specs.declared.Box.{Box}
+use Rattle.boxes.specs.Laws.{Bounds}
+use Rattle.jobs.specs.declared.Model.{Model}
+use Rattle.loss.specs.Loss.{lossOf}
+use Rattle.points.specs.declared.Point.{Point}
+use Rattle.points.specs.Points.{xs}
+use Rattle.residuals.specs.Cost.{at, least, residual, cost, bound}
+
+-- "This is Lemma 2 of source document 000 under the saturated losses. A box of one vector has that vector's cost as its bound.": the two
+-- laws of boxes/specs/Laws.antt, of any model and points
+abbrev pub AllBounds : Type 0
+AllBounds = (m : Model) (qs : List Point) → Bounds (cost m qs) (bound m qs)
+
+-- The least loss among the lines is the loss of the least |e|.
+pub record LeastLoss (p ε : ℕ) : Type 0 where
+  pub of-least : (size : ℕ → ℕ) (n : ℕ) → 1 ≤ n → least (λ j. lossOf p ε (size j)) n ≡ lossOf p ε (least size n)
+
+-- a point with the frame number that f gives it
+abbrev pub framed : (Point → ℕ) → Point → Point
+framed f q = record { x1 = q .x1; x2 = q .x2; x3 = q .x3; x4 = q .x4; y = q .y; frame = f q }
+
+-- "a frame number, unsigned 16-bit, which no cost uses": other frame numbers, the same cost and bound
+pub record NoFrame (m : Model) (qs : List Point) (f : Point → ℕ) : Type 0 where
+  pub same-cost : (v : List ℤ) → cost m (map (framed f) qs) v ≡ cost m qs v
+  pub same-bound : (B : Box) → bound m (map (framed f) qs) B ≡ bound m qs B
+
+-- every coordinate has the size of a signed 16-bit number
+abbrev pub Small : List ℤ → Type 0
+Small zs = (k : ℕ) → natAbs (at zs k) ≤ 32768
+
+-- "a whole number, at most 5,368,709,120 in size"
+pub record SmallResidual (m : Model) (v : List ℤ) (q : Point) (j : ℕ) : Type 0 where
+  pub small : m .scale ≤ 15 → m .d ≤ 4 → Small v → Small (q .y ∷ xs q) → natAbs (residual m v q j) ≤ 5368709120
