@@ -3,7 +3,7 @@
 
 Each example hides two modes, y = w . x / 2^S, in noise and outliers. What fit prints for NAME.job stands in
 NAME.out. The points come from a fixed seed, so that every run writes the same files. The bench fits G to J of the
-paper go into the folder fits.
+paper go into the folder fits. pass.csv is what a ground station has: the worked example of docs/USERS.md.
 
   make_jobs.py [FOLDER]    writes them beside this script, or into FOLDER
 """
@@ -43,6 +43,11 @@ FITS = {
     "I": {"y": [1, 6, 6], "high": 7, "p": 0, "epsilon": 0, "budget": 10, "rows": 1},
     "J": {"y": [1, 6, 6], "high": 7, "p": 0, "epsilon": 0, "budget": 10, "rows": 4},
 }
+
+
+# A pass as the ground station stores it: a current in tenths of a mA against raw counts, in two modes with offsets. The modes are
+# (slope in ten-thousandths of a mA, offset in tenths).
+PASS = {"seed": 3, "points": 120, "reach": (300, 4000), "modes": [(8062, -135), (3100, 220)], "outliers": 10, "gaps": (37, 91)}
 
 
 class Numbers:
@@ -99,12 +104,29 @@ def fit_of(fit):
     return job_of(job) + store_of([(1, y) for y in fit["y"]])
 
 
+def pass_csv():
+    """Rows of time, frame, counts, current and temperature; some currents are outliers, and two were not sent."""
+    numbers = Numbers(PASS["seed"])
+    rows = ["# pass 412, board 3: current of the payload bus", "time,frame,adc_raw,current_mA,temp_C"]
+    for k in range(PASS["points"]):
+        x = numbers.between(*PASS["reach"])
+        slope, offset = PASS["modes"][numbers.between(1, 10) > 6]
+        noise = sum(numbers.between(-8, 8) for _ in range(3)) // 2
+        tenths = (slope * x + 500) // 1000 + offset + noise
+        if numbers.between(1, 100) <= PASS["outliers"]:
+            tenths = numbers.between(0, 32000)
+        current = "" if k in PASS["gaps"] else f"{'-' if tenths < 0 else ''}{abs(tenths) // 10}.{abs(tenths) % 10}"
+        rows.append(f"10:{42 + k // 60}:{k % 60:02},{1200 + k},{x},{current},{21 + k // 20}.{k % 20 // 2}")
+    return "\n".join(rows) + "\n"
+
+
 def main():
     folder = pathlib.Path(sys.argv[1] if len(sys.argv) > 1 else pathlib.Path(__file__).parent)
     for name, example in EXAMPLES.items():
         points = points_of(example)
         (folder / f"{name}.job").write_bytes(job_of(example) + store_of(points))
         (folder / f"{name}.csv").write_bytes(csv_of(points).encode())
+    (folder / "pass.csv").write_bytes(pass_csv().encode())
     (folder / "fits").mkdir(exist_ok=True)
     for name, fit in FITS.items():
         (folder / "fits" / f"{name}.job").write_bytes(fit_of(fit))

@@ -101,6 +101,36 @@ uint32_t vengutari_write_line(uint8_t d, uint8_t scale, const int16_t *coordinat
 uint32_t vengutari_read_line(uint8_t d, uint8_t scale, const uint32_t *patterns, size_t patterns_len, int16_t *coordinates,
                              size_t coordinates_len);
 
+/* The version of this header and its library. */
+#define VENGUTARI_VERSION "0.1.0"
+
+static inline const char *vengutari_version(void)
+{
+    return VENGUTARI_VERSION;
+}
+
+/* What a code says, in words; the record's number that a code may carry in its upper bytes is left out. */
+static inline const char *vengutari_message(uint32_t code)
+{
+    switch (code & 255u) {
+    case 0: return "accepted";
+    case 1: return "length: a store or beacon is empty, too long or not whole records, or a job record is not whole";
+    case 2: return "shape: lines, dimensions or their product out of range";
+    case 3: return "scale: over 15";
+    case 4: return "loss: loss or threshold out of range";
+    case 5: return "box: low over high, an unused coordinate not 0, or one vector where a box is to be split";
+    case 6: return "start: outside the box, or an unused coordinate not 0";
+    case 7: return "stray: an x after the last dimension is not 0";
+    case 8: return "table: no row, or more rows than allowed";
+    case 9: return "answer: a field of the record is out of range";
+    case 10: return "short: the output is too small";
+    case 11: return "beacon: over 236 bytes";
+    case 12: return "off grid: a single-precision number that no coefficient has";
+    case 255: return "a buffer has the wrong length";
+    default: return "no code of this library";
+    }
+}
+
 #ifdef __cplusplus
 }
 #endif

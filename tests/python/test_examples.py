@@ -9,7 +9,7 @@ import unittest
 
 ROOT = pathlib.Path(__file__).resolve().parents[2]
 EXAMPLES = ROOT / "examples"
-TOOL = ROOT / "tools" / "vengutari.py"
+TOOL = ROOT / "tools" / "vengutari"
 FIT = ROOT / "target" / "bin" / "fit"
 FITS = ["G", "H", "I", "J"]
 
@@ -27,6 +27,7 @@ class Examples(unittest.TestCase):
             subprocess.run([sys.executable, str(EXAMPLES / "make_jobs.py"), folder], check=True)
             made = [str(path.relative_to(folder)) for path in pathlib.Path(folder).rglob("*") if path.is_file()]
             expected = [f"{name}.{end}" for name in OPTIONS for end in ("csv", "job")] + [f"fits/{name}.job" for name in FITS]
+            expected.append("pass.csv")
             self.assertEqual(sorted(made), sorted(expected))
             for name in made:
                 self.assertEqual((pathlib.Path(folder) / name).read_bytes(), (EXAMPLES / name).read_bytes(), name)
@@ -43,6 +44,14 @@ class Examples(unittest.TestCase):
             with open(EXAMPLES / f"{name}.job", "rb") as job:
                 line = subprocess.run([str(FIT)], stdin=job, check=True, capture_output=True).stdout
             self.assertEqual(line, (EXAMPLES / f"{name}.out").read_bytes(), name)
+
+    def test_fit_says_what_it_cannot_do(self):
+        """An argument gets a usage line, and a line that is not written is said on standard error."""
+        done = subprocess.run([str(FIT), "points.csv"], input=b"", capture_output=True, check=False)
+        self.assertEqual((done.stdout, done.stderr), (b"", b"usage: fit < INPUT, a job record and a store; fit takes no argument\n"))
+        with open(EXAMPLES / "fits" / "G.job", "rb") as job, open("/dev/full", "wb") as full:
+            done = subprocess.run([str(FIT)], stdin=job, stdout=full, stderr=subprocess.PIPE, check=False)
+        self.assertEqual(done.stderr, b"fit: the line could not be written\n")
 
     def test_the_program_runs_on_fit_g(self):
         """What the gate runs the program on is fit G."""

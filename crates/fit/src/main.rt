@@ -22,11 +22,33 @@ fn line_space() -> [u8; 200]
     [0; 200]
 }
 
+// Says that the program takes no argument, where it was given one.
+fn usage() -> bool {
+    let given = os::arg_count() > 1;
+    if given {
+        io::write_all(
+            libc::STDERR_FILENO,
+            b"usage: fit < INPUT, a job record and a store; fit takes no argument\n",
+        );
+    }
+    given
+}
+
+// Writes the line, or says on standard error that it could not be written.
+fn put(line: &[u8]) {
+    if !io::write_all(libc::STDOUT_FILENO, line) {
+        io::write_all(libc::STDERR_FILENO, b"fit: the line could not be written\n");
+    }
+}
+
 fn main() {
+    if usage() {
+        return;
+    }
     let mut input = input_space();
     let mut table = table_space();
     let mut line = line_space();
     let n = io::read_full(0, &mut input);
     let k = report::report(&input[..n], &mut table, &mut line);
-    io::write_all(1, &line[..k]);
+    put(&line[..k]);
 }

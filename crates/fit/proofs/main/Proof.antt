@@ -8,6 +8,12 @@ use borrow.Author.Needs.{needs}
 use Rattle.fit.proofs.main.Statement.{statement}
 use Rattle.fit.proofs.main.Tie as tie
 
+usage-requires : tie.Need-usage-requires
+usage-requires c κs = search needs
+
+returns : tie.Need-returns
+returns c = search needs
+
 input-space-requires : tie.Need-input-space-requires
 input-space-requires c κs = search needs
 
@@ -44,21 +50,23 @@ short c = rw (c .report .ensures .0, c .report .ensures .1 .0) (over-long _ _)
 array-share-prefix-line : tie.Need-array-share-prefix-line
 array-share-prefix-line c = short (c .before .before)
 
-slice-aggregate-write-all : tie.Need-slice-aggregate-write-all
-slice-aggregate-write-all c =
+slice-aggregate-put : tie.Need-slice-aggregate-put
+slice-aggregate-put c =
     let r = c .before .before .before in
     sym (length-take-le (r .report .result) (r .report .last .1 .1 .0) (short r))
 
-write-all-requires : tie.Need-write-all-requires
-write-all-requires c κs = search needs
+put-requires : tie.Need-put-requires
+put-requires c κs = search needs
 
-returns : tie.Need-returns
-returns c = search needs
+returns-2 : tie.Need-returns-2
+returns-2 c = search needs
 
 pub main-spec : {M : Type 1} → statement M
 main-spec =
     tie.close
     (tie.spec
+    usage-requires
+    returns
     input-space-requires
     table-space-requires
     line-space-requires
@@ -70,6 +78,6 @@ main-spec =
     slice-aggregate-report-3
     report-requires
     array-share-prefix-line
-    slice-aggregate-write-all
-    write-all-requires
-    returns)
+    slice-aggregate-put
+    put-requires
+    returns-2)

@@ -1,4 +1,4 @@
-"""Tests of tools/vengutari.py, of its functions and of the command itself."""
+"""Tests of the sub-commands over the program fit, of their functions and of the command itself."""
 
 import pathlib
 import struct
@@ -9,11 +9,12 @@ import unittest
 from fractions import Fraction
 
 ROOT = pathlib.Path(__file__).resolve().parents[2]
-sys.path.insert(0, str(ROOT / "tools"))
+sys.path.insert(0, str(ROOT / "python"))
 
-import vengutari  # noqa: E402
+from vengutari import jobs as vengutari  # noqa: E402
+from vengutari.options import parser  # noqa: E402
 
-TOOL = str(ROOT / "tools" / "vengutari.py")
+TOOL = str(ROOT / "tools" / "vengutari")
 
 # The paper's fit G: y = 2, 2, 9, x = 1, box 0..3, start 0, p = 1, epsilon 2, t = 0, budget 10, r = 4.
 FIT_G = ["--lines", "1", "--dimensions", "1", "--loss", "1", "--epsilon", "2", "--box", "0:3", "--start", "0"]
@@ -27,7 +28,7 @@ def command(*words, stdin=b""):
 
 
 def options(*words):
-    return vengutari.parser().parse_args(["job", "points.csv", *words])
+    return parser().parse_args(["job", "points.csv", *words])
 
 
 def job(*words):
@@ -226,7 +227,7 @@ class Command(unittest.TestCase):
     def test_answer_in_units(self):
         fit = self.fit_that_writes("full cost=6 bound=2 splits=0 open=1 peak=1 w=-3\n")
         done = command("job", str(self.points), *FIT_G, "--scale", "1", "--box=-2:3", "--start=1", "--fit", fit)
-        self.assertEqual(done.returncode, 0, done.stderr)
+        self.assertEqual(done.returncode, 3, done.stderr)
         text = done.stdout.decode()
         self.assertTrue(text.startswith("full: "))
         self.assertIn("cost   3  (C = 6)", text)

@@ -1,9 +1,8 @@
-#!/usr/bin/env python3
-"""From a CSV file of points to the line fitter and back, in the user's units.
+"""The sub-commands over the program fit, without the library: a CSV file of points to its input and back, in the user's units.
 
-  vengutari.py job POINTS.csv OPTIONS   makes the input of the program fit: a job record and a store.
-                                        With --fit PATH it also runs fit and prints the answer.
-  vengutari.py answer RECORD            prints an answer record of 40 bytes.
+  vengutari job POINTS.csv OPTIONS   makes the input of the program fit: a job record and a store.
+                                     With --fit PATH it also runs fit and prints the answer.
+  vengutari answer RECORD            prints an answer record of 40 bytes.
 
 A coefficient w of the records stands for w / 2^S, where S is the scale. Boxes, start vectors, thresholds and
 costs are given and printed in those units, the units of the points; --integers takes them as they stand in
@@ -13,13 +12,16 @@ The points are a CSV file, one point a line: x1 to xd, y and, if wanted, a frame
 column names (x1 .. x4, y, frame) may put them in another order. Fields are whole numbers of 16 bits.
 """
 
-import argparse
 import csv
 import re
 import struct
 import subprocess
-import sys
 from fractions import Fraction
+
+from .outputs import Outputs, say
+from .points import read_bytes
+from .problems import BadUse
+from .scaling import shown
 
 JOB_BYTES = 72
 ANSWER_BYTES = 40
@@ -27,6 +29,7 @@ RECORD_BYTES = 12
 MOST_RECORDS = 4096
 MOST_ROWS = 2048
 LARGEST_EPSILON = 16_777_215
+LONGEST_NUMBER = 60
 LARGEST_COST = 1_152_921_367_167_897_600
 
 COLUMNS = ("x1", "x2", "x3", "x4", "y", "frame")
@@ -49,7 +52,7 @@ REFUSALS = {
 }
 
 
-class BadInput(Exception):
+class BadInput(BadUse):
     """Something that the user can put right, said in a sentence."""
 
 
@@ -59,30 +62,21 @@ class BadInput(Exception):
 def number(text, what):
     """A decimal number or a fraction, exactly."""
     try:
+        if len(text) > LONGEST_NUMBER or re.search("[eE][+-]?[0-9]{3}", text):
+            raise ValueError
         return Fraction(text.strip())
     except (ValueError, ZeroDivisionError):
-        raise BadInput(f"{what}: '{text}' is not a number") from None
+        raise BadInput(f"{what}: '{text[:LONGEST_NUMBER]}' is not a number") from None
 
 
 def whole(text, what, low, high):
     """A whole number within limits."""
-    if not re.fullmatch(r"[+-]?[0-9]+", text.strip()):
-        raise BadInput(f"{what}: '{text}' is not a whole number")
+    if not re.fullmatch(r"[+-]?[0-9]+", text.strip()) or len(text) > LONGEST_NUMBER:
+        raise BadInput(f"{what}: '{text[:LONGEST_NUMBER]}' is not a whole number")
     value = int(text)
     if not low <= value <= high:
         raise BadInput(f"{what}: {value} is not from {low} to {high}")
     return value
-
-
-def shown(value):
-    """A fraction with a power of two below the line, as an exact decimal number."""
-    digits = 0
-    while (value * 10**digits).denominator != 1:
-        digits += 1
-    text = str(abs(int(value * 10**digits))).rjust(digits + 1, "0")
-    if digits:
-        text = text[:-digits] + "." + text[-digits:]
-    return ("-" if value < 0 else "") + text
 
 
 def on_grid(value, unit, what):
@@ -91,14 +85,10 @@ def on_grid(value, unit, what):
     if count.denominator != 1:
         below = (count.numerator // count.denominator) * unit
         raise BadInput(
-            f"{what}: {shown_or_plain(value)} is no multiple of {shown(unit)}; "
+            f"{what}: {shown(value)} is no multiple of {shown(unit)}; "
             f"the nearest are {shown(below)} and {shown(below + unit)}"
         )
     return int(count)
-
-
-def shown_or_plain(value):
-    return shown(value) if value.denominator & (value.denominator - 1) == 0 else str(float(value))
 
 
 def cost_unit(scale, loss):
@@ -331,62 +321,41 @@ def report(answer, d, scale, loss):
 # The commands
 
 
-def read_file(path):
-    try:
-        if path == "-":
-            return sys.stdin.buffer.read()
-        with open(path, "rb") as file:
-            return file.read()
-    except OSError as error:
-        raise BadInput(f"{path}: {error.strerror}") from None
-
-
-def write_file(path, data):
-    try:
-        if path == "-":
-            sys.stdout.buffer.write(data)
-            return
-        with open(path, "wb") as file:
-            file.write(data)
-    except OSError as error:
-        raise BadInput(f"{path}: {error.strerror}") from None
-
-
 def command_job(options):
     if options.output is None and options.fit is None:
         raise BadInput("nothing to do: give --output FILE, --fit PATH or both")
+    outputs = Outputs([options.points], options.force)
+    if options.output is not None:
+        outputs.check("--output", options.output)
     job = job_of(options)
     try:
-        text = read_file(options.points).decode("utf-8-sig")
+        text = read_bytes(options.points).decode("utf-8-sig")
     except UnicodeDecodeError:
         raise BadInput(f"{options.points}: not a text file") from None
     data = job_bytes(job) + store_bytes(read_points(text.splitlines(), job["d"], options.points))
-    if options.output is not None:
-        write_file(options.output, data)
+    outputs.stage("--output", data)
+    outputs.place()
     if options.fit is None:
         return 0
     answer = parse_line(run_fit(options.fit, data))
     if "refused" in answer:
         reason = REFUSALS.get(answer["refused"], "no number of a job's refusal")
-        print(f"refused {answer['refused']}, {reason}")
+        say(f"refused {answer['refused']}, {reason}\n")
         return 1
     if len(answer["w"]) != job["n"] * job["d"]:
         raise BadInput(f"--fit: {options.fit} gave {len(answer['w'])} coordinates where {job['n'] * job['d']} are due")
-    print(report(answer, job["d"], job["S"], job["p"]))
-    return 0
+    say(report(answer, job["d"], job["S"], job["p"]) + "\n")
+    return 0 if answer["kind"] == "solved" else 3
 
 
 def command_answer(options):
-    answer = decode_answer(read_file(options.record))
+    answer = decode_answer(read_bytes(options.record))
     loss = None if options.loss is None else LOSSES[options.loss]
-    print(report(answer, answer["d"], answer["S"], loss))
+    say(report(answer, answer["d"], answer["S"], loss) + "\n")
     return 0
 
 
-def parser():
-    top = argparse.ArgumentParser(description=__doc__, formatter_class=argparse.RawDescriptionHelpFormatter)
-    commands = top.add_subparsers(dest="command", required=True, metavar="COMMAND")
-
+def add_commands(commands):
     job = commands.add_parser("job", help="make the input of fit from points, and run fit if asked")
     job.set_defaults(run=command_job)
     job.add_argument("points", metavar="POINTS.csv", help="the points; - for standard input")
@@ -403,28 +372,15 @@ def parser():
         help="range of the coefficients: one for all, or one each, line after line; write --box=-1:1 where it begins with -",
     )
     job.add_argument("--start", metavar="W[,..]", help="start vector: one value for all, or one each (default: the box's middle)")
-    job.add_argument("--tolerance", default="0", metavar="T", help="solved when cost - bound is at most T, in units of the cost (default 0)")
+    job.add_argument("--tolerance", default="0", metavar="T", help="solved when cost - bound is at most T, in the cost's units (default 0)")
     job.add_argument("--budget", default="1000000", metavar="B", help="number of splits allowed (default 1000000)")
     job.add_argument("--rows", default=str(MOST_ROWS), metavar="R", help=f"rows of the table, 1 to {MOST_ROWS} (default {MOST_ROWS})")
     job.add_argument("--integers", action="store_true", help="epsilon, box, start and tolerance are the whole numbers of the records")
     job.add_argument("--output", metavar="FILE", help="where the input of fit goes; - for standard output")
-    job.add_argument("--fit", metavar="PATH", help="the program fit, to be run on it")
+    job.add_argument("--force", action="store_true", help="write over a file that is there")
+    job.add_argument("--fit", metavar="PATH", help="the program fit, to be run on it; status 0 solved, 3 spent or full, 1 refused")
 
     answer = commands.add_parser("answer", help="print an answer record")
     answer.set_defaults(run=command_answer)
     answer.add_argument("record", metavar="RECORD", help="the 40 bytes; - for standard input")
     answer.add_argument("--loss", choices=sorted(LOSSES), help="the job's loss, to print costs in the units of y")
-    return top
-
-
-def main(words=None):
-    options = parser().parse_args(words)
-    try:
-        return options.run(options)
-    except BadInput as problem:
-        print(f"vengutari: {problem}", file=sys.stderr)
-        return 2
-
-
-if __name__ == "__main__":
-    sys.exit(main())

@@ -1,0 +1,24 @@
+"""The line fitter from Python: an operator's file to certified lines, over the library for C.
+
+    import vengutari
+    found = vengutari.fit("pass.csv", x=["adc_raw"], y="current_mA", lines=2, epsilon=3)
+    print(vengutari.summary(found))
+"""
+
+__version__ = "0.1.0"
+
+
+def fit(path, x, y, epsilon, frame=None, **settings):
+    """A certified fit of the points of a file; settings are those of fitting.Settings, in the user's units."""
+    from fractions import Fraction
+    from . import fitting, library, points
+
+    asked = fitting.Settings(x=list(x), y=y, frame=frame, epsilon=Fraction(str(epsilon)), **settings)
+    return fitting.fit_table(library.find(), points.read_table(str(path)), asked)
+
+
+def summary(found):
+    """What the command prints of a fit."""
+    from . import result
+
+    return result.summary(found)

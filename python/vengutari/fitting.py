@@ -1,0 +1,260 @@
+"""From points to a certified fit: scaling, guess, box, search and labels, one after another."""
+
+import dataclasses
+from dataclasses import dataclass, field
+from fractions import Fraction
+
+from . import library as calls
+from . import proposal, run, scaling
+from .points import name_of, read_points
+from .problems import BadInput, BadUse
+
+LOSSES = {"count": 0, "absolute": 1, "square": 2}
+MARGIN = Fraction(4)
+# A wide box holds the lines that stay within the range of y, widened by this much of its span on either side.
+WIDENED = 1
+
+
+@dataclass
+class Settings:
+    """What the user asks for, in the user's units. Steps, scale, box and start may be None: they are then found."""
+
+    x: list
+    y: str
+    frame: str = None
+    lines: int = 1
+    epsilon: Fraction = Fraction(1)
+    loss: str = "square"
+    offset: bool = None
+    x_steps: list = None
+    y_step: Fraction = None
+    scale: int = None
+    box: tuple = None
+    start: list = None
+    margin: Fraction = MARGIN
+    wide: bool = False
+    limits: run.Limits = field(default_factory=run.Limits)
+
+    def __post_init__(self):
+        if self.offset is None:
+            self.offset = len(self.x) == 1
+        if self.x_steps is None:
+            self.x_steps = [None] * len(self.x)
+
+    @property
+    def d(self):
+        return len(self.x) + self.offset
+
+
+@dataclass
+class Fit:
+    """A certified fit: what was searched, the answer, and what each row is by it."""
+
+    settings: Settings
+    scaling: scaling.Scaling
+    model: calls.Model
+    low: list
+    high: list
+    outcome: run.Outcome
+    notes: list
+    points: object
+    labels: list
+    wide: object = None
+    source: str = ""
+
+    @property
+    def answer(self):
+        return self.outcome.answer
+
+    @property
+    def vector(self):
+        return self.outcome.answer.vector
+
+    def line(self, j):
+        """The coefficients of a line, in the user's units."""
+        return self.scaling.line(self.vector, j)
+
+
+@dataclass
+class Wide:
+    """A search of a wide box that counts points; fitted is how many the fit's own lines hold, of all the samples."""
+
+    scaling: scaling.Scaling
+    low: list
+    high: list
+    outcome: run.Outcome
+    fitted: int
+    samples: int
+
+    @property
+    def most(self):
+        """No lines of the wide box and grid fit more points than this."""
+        return self.samples - self.outcome.answer.bound
+
+
+def check_shape(settings):
+    if not 1 <= settings.lines <= 4:
+        raise BadUse(f"--lines: {settings.lines} is not from 1 to 4")
+    if settings.d > 4:
+        raise BadUse(f"--x: {len(settings.x)} columns{' and an offset' if settings.offset else ''} are over 4 coefficients of a line")
+    if settings.lines * settings.d > 8:
+        count = settings.lines * settings.d
+        raise BadUse(f"--lines, --x: {settings.lines} lines of {settings.d} coefficients are {count}, at most 8 are taken")
+    if settings.epsilon < 0 or (settings.epsilon == 0 and settings.loss != "count"):
+        raise BadUse("--epsilon: a threshold is more than 0; about 3 to 4 times the noise is a good choice")
+
+
+def whole_units(values, scales):
+    """Coefficients in the user's units as whole numbers of the records, before the scale."""
+    return [value * scales.x[k % scales.d].unit / scales.y.unit for k, value in enumerate(values)]
+
+
+def box_of(settings, scales, samples, guess, epsilon):
+    """The box in whole numbers before the scale: the user's, or one around the guess."""
+    if settings.box is not None:
+        return [whole_units(side, scales) for side in settings.box]
+    sides = proposal.margins(samples, scales, float(epsilon), float(settings.margin))
+    return [[Fraction(value) for value in side] for side in proposal.box_around(guess, sides)]
+
+
+def whole_epsilon(settings, scales, notes):
+    exact = settings.epsilon / scales.y.unit * 2**scales.scale
+    epsilon = scaling.rounded(exact, Fraction(1))
+    if epsilon == 0 and settings.loss != "count":
+        raise BadInput(f"--epsilon: {scaling.shown(settings.epsilon)} is less than y's grid can tell; give a smaller --y-step")
+    if epsilon != exact:
+        used = scaling.digits_of(epsilon * scales.y.unit / 2**scales.scale, 6)
+        notes.append(f"epsilon is rounded to the grid: {used} is used")
+    return epsilon
+
+
+def start_of(library, settings, scales, job, guess, notes):
+    """The start vector: the user's, moved into the box, or the cheapest arrangement of the guess, polished."""
+    if settings.start is not None:
+        wanted = whole_units(settings.start, scales)
+        vector = [scaling.rounded(value * 2**scales.scale, Fraction(1)) for value in wanted]
+        start = proposal.inside(vector, job.low, job.high)
+        if start != vector:
+            notes.append("the start was outside the box and is moved to its edge")
+        return start
+    guesses = list(proposal.arranged(guess, scales.scale))
+    guesses.append([(a + b) // 2 for a, b in zip(job.low, job.high)])
+    return proposal.start_in(library, job.store, job.model, job.low, job.high, guesses)
+
+
+def offset_notes(settings):
+    return [] if settings.offset else ["the lines pass through 0; --offset lets them have an offset"]
+
+
+def row_notes(rows, name):
+    """Rows that are not in the search."""
+    notes = []
+    gaps, far = sum(row is not None and row[1] is None for row in rows), rows.count(None)
+    if gaps:
+        notes.append(f"{gaps} rows have no {name}: " + ("gaps" if calls.GAPS else "they are left out of the search and labelled as gaps"))
+    if far:
+        notes.append(f"{far} rows lie far beyond the others, outside 16 bits: set aside as outliers; the certificate is of the rest")
+    return notes
+
+
+def row_labels(library, model, scales, vector, points, rows):
+    """A label for each row: the library's; a gap, or an outlier that 16 bits do not hold, where a row is not in the store."""
+    store, kept = scaling.store_of(rows, points.frame)
+    labels = [calls.GAP] * len(rows)
+    for k, row in enumerate(rows):
+        if row is None and points.y[k] is not None:
+            check_far(model, scales, vector, k, points)
+            labels[k] = calls.OUTLIER
+    if store:
+        for k, label in zip(kept, library.labels(store, model, vector)):
+            labels[k] = label
+    return labels
+
+
+def check_far(model, scales, vector, k, points):
+    """A row that 16 bits do not hold is an outlier unless a line runs through it."""
+    x = [*points.x[k], Fraction(1)][: scales.d]
+    reach = model.epsilon * scales.y.unit / 2**scales.scale
+    for j in range(model.n):
+        if abs(points.y[k] - sum(a * v for a, v in zip(scales.line(vector, j), x))) <= reach:
+            raise BadInput(f"row {k + 1} lies on line {j + 1} but does not fit in 16 bits: give a larger --x-step or --y-step")
+
+
+def fit_table(library, table, settings, progress=None):
+    """A certified fit of a file's points; its columns go by their own names from here on."""
+    check_shape(settings)
+    settings.x = [name_of(table, name) for name in settings.x]
+    settings.y, settings.frame = name_of(table, settings.y), name_of(table, settings.frame)
+    found = fit(library, read_points(table, settings.x, settings.y, settings.frame), settings, progress)
+    found.source = table.name
+    return found
+
+
+def fit(library, points, settings, progress=None):
+    """A certified fit. progress(unit) gives what is called each second."""
+    check_shape(settings)
+    scales, notes = scaling.columns_for(points, settings.x, settings.y, settings.offset, settings.x_steps, settings.y_step)
+    rows = scaling.whole_points(points, scales)
+    samples = [row for row in rows if row is not None and row[1] is not None]
+    if len(rows if calls.GAPS else samples) > calls.MOST_RECORDS:
+        raise BadInput(f"{len(rows):,} points, but a search takes at most {calls.MOST_RECORDS:,}: give a part, or every second row")
+    epsilon = settings.epsilon / scales.y.unit
+    guess = proposal.propose(library, samples, settings.lines, float(epsilon)) if None in (settings.box, settings.start) else None
+    low, high = box_of(settings, scales, samples, guess, epsilon)
+    scales.scale = scaling.choose_scale(samples, epsilon, [abs(value) for value in [*low, *high]], settings.scale)
+    notes += points.notes + offset_notes(settings) + row_notes(rows, settings.y) + coarse_notes(samples, epsilon, scales)
+    model = calls.Model(settings.lines, scales.d, scales.scale, LOSSES[settings.loss], whole_epsilon(settings, scales, notes))
+    store, _ = scaling.store_of(rows, points.frame)
+    job = run.Job(store, model, *scaling.outward(low, high, scales.scale), [])
+    job.start = start_of(library, settings, scales, job, guess, notes)
+    outcome = run.search(library, job, settings.limits, progress and progress(scales.cost_unit(model.p)))
+    labels = row_labels(library, model, scales, outcome.answer.vector, points, rows)
+    made = Fit(settings, scales, model, job.low, job.high, outcome, notes, points, labels)
+    if settings.wide and outcome.stopped != "interrupt":
+        made.wide = wide_search(library, made, samples, store, progress)
+    return made
+
+
+def coarse_notes(samples, epsilon, scales):
+    """A grid that 16 bits keep coarser than it should be."""
+    reach = max(abs(value) for x, _ in samples for value in x)
+    if epsilon and reach * scaling.GRID_PART > 2 * epsilon * 2**scales.scale:
+        moved = reach * scales.y.unit / 2**scales.scale
+        return [f"the grid is coarse: one step moves a line by up to {scaling.digits_of(moved, 3)}, where epsilon is "
+                f"{scaling.shown(epsilon * scales.y.unit)}; a narrower box or a larger --scale makes it finer"]
+    return []
+
+
+# The wide search
+
+
+def wide_box(samples, scales, n):
+    """Lines that stay within the range of y, widened by its span on either side, in whole numbers before the scale."""
+    y = [value for _, value in samples]
+    span = max(1, max(y) - min(y))
+    top = max(abs(max(y) + WIDENED * span), abs(min(y) - WIDENED * span))
+    columns = list(zip(*(x for x, _ in samples)))
+    if not scales.offset:
+        sides = [Fraction(2 * top, max(map(abs, values))) for values in columns]
+    else:
+        sides = [Fraction((1 + 2 * WIDENED) * span, max(1, max(values) - min(values))) for values in columns[:-1]]
+        around = top + sum(side * abs(max(v) + min(v)) / 2 for side, v in zip(sides, columns))
+        sides.append(Fraction(around) / columns[-1][0])
+    return [-side for side in sides] * n, sides * n
+
+
+def wide_search(library, made, samples, store, progress):
+    """Counts points over a wide box, from the lines found: no others fit more than the samples less its bound."""
+    settings, n = made.settings, made.settings.lines
+    low, high = wide_box(samples, made.scaling, n)
+    epsilon = settings.epsilon / made.scaling.y.unit
+    scale = min(made.scaling.scale, scaling.choose_scale(samples, epsilon, [abs(value) for value in high], None))
+    scales = dataclasses.replace(made.scaling, scale=scale)
+    model = calls.Model(n, scales.d, scale, 0, scaling.rounded(epsilon * 2**scale, Fraction(1)))
+    job = run.Job(store, model, *scaling.outward(low, high, scale), [])
+    found = [scaling.rounded(Fraction(w, 2 ** (made.scaling.scale - scale)), Fraction(1)) for w in made.answer.vector]
+    job.start = proposal.start_in(library, store, model, job.low, job.high, [found])
+    limits = dataclasses.replace(settings.limits, gap=Fraction(0))
+    outcome = run.search(library, job, limits, progress and progress(Fraction(1)))
+    fitted = sum(label not in (calls.OUTLIER, calls.GAP) for label in made.labels)
+    return Wide(scales, job.low, job.high, outcome, fitted, len(samples))

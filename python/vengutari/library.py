@@ -1,0 +1,265 @@
+"""The library, by ctypes. The signature of every call of include/vengutari.h stands here and nowhere else.
+
+The three switches below are what this module knows of requests that are still to land; each is one line to change.
+"""
+
+import ctypes
+import ctypes.util
+import mmap
+import os
+import pathlib
+import subprocess
+import sys
+import tempfile
+from collections import namedtuple
+
+from .problems import BadInput
+
+# vengutari_search takes a list of bounds behind its table (request 3 of document 02).
+STORED_BOUNDS = False
+# y = -32,768 is a gap, with label 6 (request 2). Until then the points given to a call hold no gap.
+GAPS = False
+# The losses that the library takes; 3 comes with request 5.
+LOSSES = (0, 1, 2)
+
+RECORD_BYTES = 12
+MOST_RECORDS = 4096
+JOB_BYTES = 72
+ANSWER_BYTES = 40
+ROW_NUMBERS = 16
+ROW_BYTES = 2 * ROW_NUMBERS + 8
+LARGEST_EPSILON = 16_777_215
+MOST_SPLITS = 2**32 - 1
+LARGEST_TOLERANCE = 2**64 - 1
+GAP_Y = -32768
+
+OUTLIER, UNDECIDED, GAP = 0, 5, 6
+KINDS = {1: "solved", 2: "spent", 3: "full"}
+
+MESSAGES = {
+    1: "length: a store or beacon is empty, too long or not whole records, or a job record is not whole",
+    2: "shape: lines, dimensions or their product out of range",
+    3: "scale: over 15",
+    4: "loss: loss or threshold out of range",
+    5: "box: low over high, an unused coordinate not 0, or one vector where a box is to be split",
+    6: "start: outside the box, or an unused coordinate not 0",
+    7: "stray: an x after the last dimension is not 0",
+    8: "table: no row, or more rows than allowed",
+    9: "answer: a field of the record is out of range",
+    10: "short: the output is too small",
+    11: "beacon: over 236 bytes",
+    12: "off grid: a single-precision number that no coefficient has",
+    13: "rounds: a limit outside 1 to 4",
+    14: "bounds: fewer entries than rows",
+    15: "order: frame numbers that do not rise",
+    16: "clash: unequal records of one frame",
+    17: "window: a window or hop of 0, or a window over the store",
+    18: "jobs: a count outside 1 to 8, or fewer records or lengths than the count",
+    255: "a buffer has the wrong length",
+}
+
+Model = namedtuple("Model", "n d scale p epsilon")
+Answer = namedtuple("Answer", "kind vector cost bound splits open peak")
+
+
+class Refused(BadInput):
+    """A call that the library refuses, by the number of the paper's table."""
+
+    def __init__(self, number, record=None):
+        place = "" if record is None else f", record {record}"
+        super().__init__(f"refused {number}, {MESSAGES.get(number, 'no number of the table')}{place}")
+        self.number = number
+        self.record = record
+
+
+_U8, _U32, _U64, _I64, _SIZE = ctypes.c_uint8, ctypes.c_uint32, ctypes.c_uint64, ctypes.c_int64, ctypes.c_size_t
+_BYTES = [ctypes.POINTER(ctypes.c_uint8), _SIZE]
+_NUMBERS = [ctypes.POINTER(ctypes.c_int16), _SIZE]
+_PATTERNS = [ctypes.POINTER(ctypes.c_uint32), _SIZE]
+_WIDE = [ctypes.POINTER(ctypes.c_uint64), _SIZE]
+_VALUE = [ctypes.POINTER(ctypes.c_uint64)]
+_MODEL = [_U8, _U8, _U8, _U8, _U32]
+
+SIGNATURES = {
+    "vengutari_loss": [_U8, _U32, _I64, *_VALUE],
+    "vengutari_cost": [*_BYTES, *_MODEL, *_NUMBERS, *_VALUE],
+    "vengutari_bound": [*_BYTES, *_MODEL, *_NUMBERS, *_VALUE],
+    "vengutari_split": [_U8, _U8, *_NUMBERS, *_NUMBERS],
+    "vengutari_labels": [*_BYTES, *_MODEL, *_NUMBERS, *_BYTES, *_VALUE],
+    "vengutari_search": [*_BYTES, *_MODEL, _U64, _U32, *_NUMBERS, *_NUMBERS, *_NUMBERS, *(_WIDE if STORED_BOUNDS else [])]
+    + [*_NUMBERS, *_WIDE, *_VALUE],
+    "vengutari_take_in": [*_BYTES, _SIZE, *_BYTES, *_VALUE],
+    "vengutari_read_job": [*_BYTES, *_WIDE, *_NUMBERS, *_NUMBERS],
+    "vengutari_write_job": [*_MODEL, _U64, _U32, _U32, *_NUMBERS, *_NUMBERS, *_BYTES],
+    "vengutari_read_answer": [*_BYTES, *_NUMBERS, *_WIDE],
+    "vengutari_write_answer": [*_NUMBERS, _U64, _U64, _U32, _U8, _U8, _U8, _U8, *_BYTES],
+    "vengutari_write_line": [_U8, _U8, *_NUMBERS, *_PATTERNS],
+    "vengutari_read_line": [_U8, _U8, *_PATTERNS, *_NUMBERS],
+}
+
+
+def _array(kind, values):
+    return (kind * len(values))(*values)
+
+
+def _numbers(values, length=8):
+    """Signed 16-bit numbers, filled up with 0."""
+    return _array(ctypes.c_int16, [*values, *[0] * (length - len(values))])
+
+
+def _corners(low, high):
+    return _array(ctypes.c_int16, [*low, *[0] * (8 - len(low)), *high, *[0] * (8 - len(high))])
+
+
+def _bytes(data):
+    return (ctypes.c_uint8 * len(data)).from_buffer_copy(data)
+
+
+def _zeros(kind, length):
+    """Memory that costs nothing until it is written, for tables of which only the front may be used."""
+    return (kind * length).from_buffer(mmap.mmap(-1, max(1, length * ctypes.sizeof(kind))))
+
+
+class Library:
+    """The calls, with Python's numbers and bytes; a refusal is an exception."""
+
+    def __init__(self, path):
+        self.path = str(path)
+        try:
+            self._calls = ctypes.CDLL(self.path)
+            for name, arguments in SIGNATURES.items():
+                getattr(self._calls, name).argtypes = arguments
+                getattr(self._calls, name).restype = _U32
+        except (OSError, AttributeError) as error:
+            raise BadInput(f"the library {self.path} cannot be used: {error}") from None
+
+    def _call(self, name, *arguments):
+        """Each array is handed over with its length; *value comes back where the call has one."""
+        flat = [part for a in arguments for part in ((a, len(a)) if isinstance(a, ctypes.Array) else (a,))]
+        value = ctypes.c_uint64()
+        if SIGNATURES[name][-1] is _VALUE[0]:
+            flat.append(ctypes.byref(value))
+        code = getattr(self._calls, name)(*flat)
+        if code % 256 == 7:
+            # The record's number stands in *value or, with request 3, in the code's upper bytes.
+            raise Refused(7, value.value or code // 256)
+        if code != 0:
+            raise Refused(code)
+        return value.value
+
+    def loss(self, p, epsilon, e):
+        return self._call("vengutari_loss", p, epsilon, e)
+
+    def cost(self, store, model, vector):
+        return self._call("vengutari_cost", _bytes(store), *model, _numbers(vector))
+
+    def bound(self, store, model, low, high):
+        return self._call("vengutari_bound", _bytes(store), *model, _corners(low, high))
+
+    def split(self, n, d, low, high):
+        halves = _numbers([], 32)
+        self._call("vengutari_split", n, d, _corners(low, high), halves)
+        return [(list(halves[k : k + 8]), list(halves[k + 8 : k + 16])) for k in (0, 16)]
+
+    def labels(self, store, model, vector):
+        """One label for each record, for a store of any number of records."""
+        labels = b""
+        for first in range(0, len(store), RECORD_BYTES * MOST_RECORDS):
+            part = store[first : first + RECORD_BYTES * MOST_RECORDS]
+            made = _bytes(bytes(len(part) // RECORD_BYTES))
+            self._call("vengutari_labels", _bytes(part), *model, _numbers(vector), made)
+            labels += bytes(made)
+        return labels
+
+    def search(self, store, model, t, budget, low, high, start, rows):
+        vector, numbers = _numbers([]), _array(ctypes.c_uint64, [0] * 5)
+        table = [_zeros(ctypes.c_int16, rows * ROW_NUMBERS)]
+        if STORED_BOUNDS:
+            table.append(_zeros(ctypes.c_uint64, rows))
+        given = [_bytes(store), *model, t, budget, _corners(low, high), _numbers(start), *table]
+        kind = self._call("vengutari_search", *given, vector, numbers)
+        return Answer(KINDS[kind], list(vector[: model.n * model.d]), *numbers)
+
+    def take_in(self, store, mark, beacon):
+        lent = _bytes(store)
+        mark = self._call("vengutari_take_in", lent, mark, _bytes(beacon))
+        return bytes(lent), mark
+
+    def read_job(self, data):
+        """The eight numbers of a job record, its box and its start vector."""
+        numbers, corners, start = _array(ctypes.c_uint64, [0] * 8), _numbers([], 16), _numbers([])
+        self._call("vengutari_read_job", _bytes(data), numbers, corners, start)
+        return list(numbers), list(corners[:8]), list(corners[8:]), list(start)
+
+    def write_job(self, model, t, budget, rows, low, high, start):
+        made = _bytes(bytes(JOB_BYTES))
+        self._call("vengutari_write_job", *model, t, budget, rows, _corners(low, high), _numbers(start), made)
+        return bytes(made)
+
+    def read_answer(self, data):
+        """An answer record as an answer, without its open boxes, and n, d and S."""
+        vector, numbers = _numbers([]), _array(ctypes.c_uint64, [0] * 7)
+        self._call("vengutari_read_answer", _bytes(data), vector, numbers)
+        cost, bound, splits, kind, n, d, scale = numbers
+        return Answer(KINDS[kind], list(vector[: n * d]), cost, bound, splits, None, None), n, d, scale
+
+    def write_answer(self, answer, n, d, scale):
+        made = _bytes(bytes(ANSWER_BYTES))
+        kind = {word: number for number, word in KINDS.items()}[answer.kind]
+        numbers = [answer.cost, answer.bound, min(answer.splits, MOST_SPLITS), kind, n, d, scale]
+        self._call("vengutari_write_answer", _numbers(answer.vector), *numbers, made)
+        return bytes(made)
+
+    def write_line(self, d, scale, coordinates):
+        """The bits of the four single-precision numbers of a line."""
+        patterns = _array(ctypes.c_uint32, [0] * 4)
+        self._call("vengutari_write_line", d, scale, _numbers(coordinates, 4), patterns)
+        return list(patterns)
+
+    def read_line(self, d, scale, patterns):
+        coordinates = _numbers([], 4)
+        self._call("vengutari_read_line", d, scale, _array(ctypes.c_uint32, patterns), coordinates)
+        return list(coordinates[:d])
+
+
+def find():
+    """The shared library: by VENGUTARI_LIBRARY, as installed beside the package, or of the source tree."""
+    named = os.environ.get("VENGUTARI_LIBRARY")
+    if named:
+        return Library(named)
+    package = pathlib.Path(__file__).resolve().parent
+    installed = package.parents[2] / "libvengutari.so"
+    if package.parent.parent.name == "vengutari" and installed.exists():
+        return Library(installed)
+    archive = package.parents[1] / "target" / "staticlib" / "libcapi.a"
+    if archive.exists():
+        return Library(linked(archive, package.parents[1] / "target" / "libvengutari.so"))
+    known = ctypes.util.find_library("vengutari")
+    if known:
+        return Library(known)
+    raise BadInput("the library is not built: run tools/package once, or set VENGUTARI_LIBRARY to libvengutari.so")
+
+
+def linked(archive, shared):
+    """The shared library of a static one, linked again when that is newer. It appears whole.
+
+    The objects are position-independent: -z text refuses any that would have to be changed when they are loaded.
+    """
+    if shared.exists() and shared.stat().st_mtime >= archive.stat().st_mtime:
+        return shared
+    try:
+        with tempfile.TemporaryDirectory(dir=shared.parent) as folder:
+            made = pathlib.Path(folder) / shared.name
+            words = ["cc", "-shared", "-Wl,-z,text", "-Wl,-z,defs", "-Wl,-soname,libvengutari.so", "-o", str(made)]
+            words += ["-Wl,--whole-archive", str(archive), "-Wl,--no-whole-archive"]
+            done = subprocess.run(words, capture_output=True, text=True, check=False)
+            if done.returncode != 0:
+                raise BadInput(f"{archive} was not linked: {done.stderr.strip()[-200:]}")
+            os.replace(made, shared)
+    except OSError as error:
+        raise BadInput(f"{archive} was not linked: {error.strerror}") from None
+    return shared
+
+
+if __name__ == "__main__":
+    linked(pathlib.Path(sys.argv[1]), pathlib.Path(sys.argv[2]))

@@ -1,0 +1,198 @@
+"""The command line: its sub-commands and options, and settings out of them."""
+
+import argparse
+import re
+from fractions import Fraction
+
+from . import __version__, fitting, jobs, run
+from .library import MOST_SPLITS
+from .points import number
+from .problems import BadInput, BadUse
+
+GUIDE = """From an operator's file to certified lines.
+
+  vengutari fit pass.csv --x adc_raw --y current_mA --lines 2 --epsilon 3
+
+finds two lines, each with an offset, and a certificate: how much less any other lines in the box that was searched could cost.
+Add --report pass.html, --labels labels.csv and --coefficients upload.txt for files. docs/USERS.md is the guide.
+The status is 0 solved, 3 spent or full (not solved, with a bound that holds), 1 refused, 2 bad use."""
+
+
+class Parser(argparse.ArgumentParser):
+    """Bad use is one line."""
+
+    def error(self, message):
+        raise BadUse(f"{message} (see {self.prog} --help)")
+
+
+def decimal(text, what, least=None, positive=False):
+    """A decimal number of the command line."""
+    try:
+        value = number(text, what)
+    except BadInput as problem:
+        raise BadUse(str(problem)) from None
+    if (positive and value <= 0) or (least is not None and value < least):
+        raise BadUse(f"{what}: {text} is not {'more than 0' if positive else f'at least {least}'}")
+    return value
+
+
+def whole(text, what, least, most):
+    if not re.fullmatch(r"[+-]?[0-9]{1,20}", text):
+        raise BadUse(f"{what}: '{text[:40]}' is not a whole number")
+    if not least <= int(text) <= most:
+        raise BadUse(f"{what}: {text} is not from {least:,} to {most:,}")
+    return int(text)
+
+
+def add_fit(commands):
+    fit = commands.add_parser("fit", help="fit lines to the points of a file, with a certificate", description=GUIDE,
+                              formatter_class=argparse.RawDescriptionHelpFormatter, allow_abbrev=False)
+    fit.add_argument("data", metavar="DATA.csv", help="the points: comma, semicolon or tab between columns; - for standard input")
+    points = fit.add_argument_group("points")
+    points.add_argument("--x", required=True, metavar="COLUMN[,..]", help="the columns that y depends on, by name or number from 1")
+    points.add_argument("--y", required=True, metavar="COLUMN", help="the column to be explained; an empty field is a gap")
+    points.add_argument("--frame", metavar="COLUMN", help="frame numbers, kept modulo 65,536 (default: rows counted from 0)")
+    points.add_argument("--x-step", metavar="STEP[,..]", help="what x is a multiple of, one for each column (default: found from the data)")
+    points.add_argument("--y-step", metavar="STEP", help="what y is a multiple of (default: found from the data)")
+    lines = fit.add_argument_group("lines")
+    lines.add_argument("--lines", default="1", metavar="N", help="how many lines, 1 to 4 (default 1)")
+    lines.add_argument("--epsilon", required=True, metavar="E",
+                       help="how far from its line a point may lie, in y's units; 3 to 4 times the noise")
+    lines.add_argument("--loss", choices=list(fitting.LOSSES), default="square",
+                       help="what a point adds to the cost: 1 if outside epsilon, or its distance or square, cut there (default square)")
+    lines.add_argument("--offset", action=argparse.BooleanOptionalAction, default=None,
+                       help="lines need not pass through 0 (default: on where --x names one column)")
+    box = fit.add_argument_group("what is searched")
+    box.add_argument("--box", metavar="LOW:HIGH[,..]",
+                     help="ranges of the coefficients in your units, the offset last: for each line the same, or line after line; "
+                     "rounded outward (default: around a first guess)")
+    box.add_argument("--margin", default=None, metavar="M", help="the box reaches so many epsilon around the first guess (default 4)")
+    box.add_argument("--start", metavar="W[,..]", help="coefficients to start from, line after line (default: the first guess)")
+    box.add_argument("--scale", metavar="S", help="0 to 15: the grid has steps of 1 / 2^S (default: by epsilon and the box)")
+    box.add_argument("--wide", action="store_true", help="also search a wide box and say whether other lines there fit more points")
+    limits = fit.add_argument_group("limits")
+    limits.add_argument("--time-limit", default="60", metavar="SECONDS", help="for each search (default 60; 0 for none)")
+    limits.add_argument("--gap", default="0", metavar="PERCENT", help="solved when the cost is at most so much over the bound (default 0)")
+    limits.add_argument("--rows", metavar="R", help="open boxes kept at most (default: as many as needed, up to half of the free memory)")
+    limits.add_argument("--splits", metavar="B", help="splits at most (default: as many as needed)")
+    add_outputs(fit)
+    fit.add_argument("--quiet", action="store_true", help="no progress on standard error")
+
+
+def add_outputs(fit):
+    files = fit.add_argument_group("output", "- is standard output; a file that is there is kept unless --force is given")
+    files.add_argument("--json", nargs="?", const="-", metavar="FILE", help="everything as JSON; without FILE in place of the summary")
+    files.add_argument("--labels", metavar="FILE", help="the input's columns and label, fitted value and residual")
+    files.add_argument("--coefficients", metavar="FILE", help="single-precision coefficients for flight software, read back and compared")
+    files.add_argument("--record", metavar="FILE", help="the answer record of 40 bytes")
+    files.add_argument("--report", metavar="FILE", help="one HTML page with pictures and the certificate")
+    files.add_argument("--force", action="store_true", help="write over files that are there")
+
+
+def add_later(commands):
+    """The commands on files from before."""
+    label = commands.add_parser("label", help="label points by a fit from before", allow_abbrev=False)
+    label.add_argument("data", metavar="DATA.csv", help="the points, any number of them; - for standard input")
+    label.add_argument("--fit", required=True, metavar="FIT.json", help="what vengutari fit --json wrote")
+    label.add_argument("--x", metavar="COLUMN[,..]", help="the columns, where they have other names here")
+    label.add_argument("--y", metavar="COLUMN")
+    label.add_argument("--frame", metavar="COLUMN")
+    label.add_argument("--labels", default="-", metavar="FILE", help="where they go (default: standard output)")
+    label.add_argument("--force", action="store_true", help="write over a file that is there")
+    coefficients = commands.add_parser("coefficients", help="coefficients for flight software of a fit from before", allow_abbrev=False)
+    coefficients.add_argument("source", metavar="FIT", help="what vengutari fit --json wrote, or an answer record")
+    coefficients.add_argument("--coefficients", default="-", metavar="FILE", help="where they go (default: standard output)")
+    coefficients.add_argument("--force", action="store_true", help="write over a file that is there")
+    decode = commands.add_parser("decode", help="say what is in an answer record, a job, coefficients or a fit's JSON", allow_abbrev=False)
+    decode.add_argument("source", metavar="FILE", help="- for standard input")
+    decode.add_argument("--fit", metavar="FIT.json", help="the fit that a record is of, for your units")
+
+
+def parser():
+    top = Parser(prog="vengutari", description=GUIDE, formatter_class=argparse.RawDescriptionHelpFormatter)
+    top.add_argument("--version", action="version", version=f"vengutari {__version__}")
+    commands = top.add_subparsers(dest="command", required=True, metavar="COMMAND")
+    add_fit(commands)
+    add_later(commands)
+    jobs.add_commands(commands)
+    return top
+
+
+def joined(words):
+    """A value that begins with a minus belongs to the option before it."""
+    made = []
+    for word in words:
+        if made and re.fullmatch(r"--[a-z-]+", made[-1]) and re.match(r"-[0-9.]", word):
+            made[-1] += f"={word}"
+        else:
+            made.append(word)
+    return made
+
+
+def values_each(text, settings, what):
+    """One value for each coefficient of a line, the same for all lines, or one for each coefficient of each line."""
+    values = text.split(",")
+    if len(values) == settings.d:
+        values *= settings.lines
+    if len(values) != settings.d * settings.lines:
+        each = f"{settings.d} coefficients a line" + (", the offset last" if settings.offset else "")
+        several = f" or {settings.d * settings.lines}" if settings.lines > 1 else ""
+        raise BadUse(f"{what}: {len(values)} values where there are {each}: give {settings.d}{several}")
+    return values
+
+
+def box_of(text, settings):
+    low, high = [], []
+    for side in values_each(text, settings, "--box"):
+        ends = side.split(":")
+        if len(ends) != 2:
+            raise BadUse(f"--box: '{side[:40]}' is not LOW:HIGH")
+        low.append(decimal(ends[0], "--box"))
+        high.append(decimal(ends[1], "--box"))
+        if low[-1] > high[-1]:
+            raise BadUse(f"--box: low {ends[0]} is over high {ends[1]}")
+    return low, high
+
+
+def limits_of(options):
+    seconds = decimal(options.time_limit, "--time-limit", least=0)
+    gap = decimal(options.gap.rstrip("% "), "--gap", least=0) / 100
+    if gap >= 1:
+        raise BadUse(f"--gap: {options.gap} percent would accept anything; give less than 100")
+    return run.Limits(
+        gap=gap, seconds=float(seconds) or None,
+        rows=None if options.rows is None else whole(options.rows, "--rows", 1, run.MOST_ROWS),
+        splits=MOST_SPLITS if options.splits is None else whole(options.splits, "--splits", 0, MOST_SPLITS),
+    )
+
+
+def names_of(text, what="--x"):
+    names = [name.strip() for name in text.split(",")]
+    if not all(names):
+        raise BadUse(f"{what}: a column has no name in '{text[:40]}'")
+    return names
+
+
+def settings_of(options):
+    """The settings of a fit, in the user's units."""
+    x = names_of(options.x)
+    if options.margin is not None and options.box is not None:
+        raise BadUse("--margin, --box: a margin is for a box that is found; give one of the two")
+    made = fitting.Settings(
+        x=x, y=options.y, frame=options.frame, lines=whole(options.lines, "--lines", 1, 4), offset=options.offset,
+        epsilon=decimal(options.epsilon, "--epsilon", least=0), loss=options.loss, wide=options.wide, limits=limits_of(options),
+        y_step=None if options.y_step is None else decimal(options.y_step, "--y-step", positive=True),
+        scale=None if options.scale is None else whole(options.scale, "--scale", 0, 15),
+        margin=fitting.MARGIN if options.margin is None else decimal(options.margin, "--margin", positive=True),
+    )
+    if options.x_step is not None:
+        steps = options.x_step.split(",")
+        if len(steps) != len(x):
+            raise BadUse(f"--x-step: {len(steps)} steps where --x names {len(x)} columns")
+        made.x_steps = [decimal(step, "--x-step", positive=True) for step in steps]
+    fitting.check_shape(made)
+    if options.box is not None:
+        made.box = box_of(options.box, made)
+    if options.start is not None:
+        made.start = [Fraction(decimal(value, "--start")) for value in values_each(options.start, made, "--start")]
+    return made

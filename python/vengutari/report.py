@@ -1,0 +1,166 @@
+"""The report of a fit: one HTML file with nothing from outside, for any browser."""
+
+import html
+import os
+from fractions import Fraction
+
+from . import __version__
+from .library import GAP, OUTLIER, UNDECIDED
+from .picture import Picture, reach
+from .result import LABELS, SUMMED, advice, box_text, certificate, cost_text, counts_of, equation, gap_text, grid_text, headline, line_value
+from .result import root_mean_square, rows_of, settled, wide_sentence
+from .scaling import digits_of, on_step, shown
+
+# Colours that people with any colour sight tell apart, and a shape for each, for prints without colour.
+MARKS = {1: ("#0072b2", "circle"), 2: ("#d55e00", "square"), 3: ("#009e73", "triangle"), 4: ("#cc79a7", "diamond")}
+MARKS.update({OUTLIER: ("#555555", "cross"), UNDECIDED: ("#8a6d00", "ring"), GAP: ("#999999", "tick")})
+
+STYLE = """
+body { font: 16px/1.5 system-ui, sans-serif; color: #222; background: #fff; max-width: 60rem; margin: 2rem auto; padding: 0 1rem; }
+h1 { font-size: 1.5rem; margin-bottom: 0; } h2 { font-size: 1.15rem; margin: 2rem 0 .5rem; }
+.verdict { border-left: .4rem solid; padding: .6rem 1rem; margin: 1rem 0; background: #f6f8fa; }
+.solved { border-color: #1a7f37; } .open { border-color: #bf8700; }
+table { border-collapse: collapse; width: 100%; }
+th, td { text-align: left; padding: .3rem .6rem; border-bottom: 1px solid #ddd; vertical-align: top; }
+td.number, th.number { text-align: right; font-variant-numeric: tabular-nums; } .quiet { color: #666; font-size: .9rem; }
+svg { width: 100%; height: auto; border: 1px solid #ddd; background: #fff; } svg text { font: 13px system-ui, sans-serif; fill: #333; }
+ul { padding-left: 1.2rem; } @media print { body { margin: 0; max-width: none; } }
+"""
+
+
+def name_of(label):
+    return LABELS.get(label, f"line {label}")
+
+
+def escaped(value):
+    return html.escape(str(value))
+
+
+class Report:
+    """The parts of the page of one fit."""
+
+    def __init__(self, fit):
+        self.fit = fit
+        self.n = fit.model.n
+        self.lines = [fit.line(j) for j in range(self.n)]
+        self.rows = rows_of(self.lines, fit.points, fit.labels)
+        self.labels = sorted({row.label for row in self.rows}, key=lambda label: (label in LABELS, label))
+        self.epsilon = float(fit.settings.epsilon)
+
+    def tip(self, k):
+        """What a point says when it is pointed at."""
+        fit, row = self.fit, self.rows[k]
+        x = ", ".join(f"{name} {shown(value)}" for name, value in zip(fit.settings.x, fit.points.x[k]))
+        if row.residual is None:
+            return f"row {k + 1}, frame {fit.points.counted[k]}: {x}, gap"
+        y = f"{fit.settings.y} {shown(fit.points.y[k])}"
+        return f"row {k + 1}, frame {fit.points.counted[k]}: {x}, {y}, {name_of(row.label)}, residual {row.residual:+.4g}"
+
+    def put_points(self, picture, places):
+        """Points by label: the outliers first, so that they hide nothing."""
+        order = sorted(places, key=lambda place: (self.rows[place[0]].label not in (OUTLIER, GAP), place[0]))
+        for k, x, y in order:
+            picture.mark(x, y, *MARKS[self.rows[k].label], self.tip(k))
+
+    def fit_picture(self):
+        """The points over the lines and their bands, or, for several columns, against the fitted values."""
+        fit = self.fit
+        samples = [k for k, row in enumerate(self.rows) if row.residual is not None]
+        y = {k: float(fit.points.y[k]) for k in samples}
+        if len(fit.settings.x) == 1:
+            x = {k: float(fit.points.x[k][0]) for k in samples}
+            picture = Picture(reach(x.values()), reach(y.values()), fit.settings.x[0], fit.settings.y, "points and lines")
+            for j, line in enumerate(self.lines):
+                ends = [(v, line_value(line, [v])) for v in picture.x]
+                picture.band(ends, self.epsilon, MARKS[j + 1][0], f"line {j + 1}: {equation(fit.scaling, line)}")
+        else:
+            x = {k: self.rows[k].fitted for k in samples}
+            both = reach([*x.values(), *y.values()])
+            picture = Picture(both, both, f"{fit.settings.y} by the lines", fit.settings.y, "points against the lines")
+            picture.band([(v, v) for v in picture.x], self.epsilon, "#777777", "equal, within epsilon")
+        self.put_points(picture, [(k, x[k], y[k]) for k in samples])
+        return picture.svg(520)
+
+    def residual_picture(self):
+        """Residuals by frame, within four thresholds; farther points stand at the edge."""
+        fit = self.fit
+        samples = [(k, row.residual) for k, row in enumerate(self.rows) if row.residual is not None]
+        inside = [abs(residual) for _, residual in samples if abs(residual) <= 4 * self.epsilon]
+        most = 1.2 * max([self.epsilon, *inside]) or 1.0
+        picture = Picture(reach(fit.points.counted), (-most, most), "frame", f"residual of {fit.settings.y}", "residuals by frame")
+        picture.band([(v, 0.0) for v in picture.x], self.epsilon, "#777777", "within epsilon")
+        edge = 0.95 * most
+        places = [(k, fit.points.counted[k], max(-edge, min(edge, residual))) for k, residual in samples]
+        places += [(k, fit.points.counted[k], -most) for k, row in enumerate(self.rows) if row.residual is None]
+        self.put_points(picture, places)
+        return picture.svg(300)
+
+    def legend(self):
+        counts = [(name_of(label), *MARKS[label], sum(row.label == label for row in self.rows)) for label in self.labels]
+        items = []
+        for name, colour, shape, count in counts:
+            mark = Picture((0, 1), (0, 1), "", "", name).shape(8, 8, colour, shape)
+            drawn = f'<svg style="width:1rem;border:0;vertical-align:middle" viewBox="0 0 16 16" aria-hidden="true">{mark}</svg>'
+            items.append(f"{drawn} {escaped(name)}, {count}")
+        return '<p class="legend">' + " &emsp; ".join(items) + "</p>"
+
+    def lines_table(self):
+        fit, boxes = self.fit, box_text(self.fit.scaling, self.fit.low, self.fit.high)
+        rows = ["<tr><th>line</th><th>formula</th><th class=number>points</th><th class=number>RMS</th><th>searched</th></tr>"]
+        for j, line in enumerate(self.lines):
+            residuals = [row.residual for row in self.rows if row.label == j + 1]
+            rms = digits_of(Fraction(root_mean_square(residuals)), 3) if residuals else "–"
+            cells = f"<td>{j + 1}</td><td>{escaped(equation(fit.scaling, line))}</td><td class=number>{len(residuals)}</td>"
+            rows.append(f"<tr>{cells}<td class=number>{rms}</td><td>{escaped(boxes[j])}</td></tr>")
+        return f'<table id="lines">{"".join(rows)}</table>'
+
+    def settings_table(self):
+        fit, answer = self.fit, self.fit.answer
+        pairs = [
+            ("file", fit.source), ("rows", len(self.rows)), ("columns", fit.scaling.steps()),
+            ("offset", f"a column of {fit.scaling.x[-1].factor}" if fit.scaling.offset else "none: lines through 0"),
+            ("loss", f"{fit.settings.loss}: the sum of each point's {SUMMED[fit.model.p]}" + (", cut at epsilon" if fit.model.p else "")),
+            ("epsilon", f"{shown(fit.settings.epsilon)} {fit.settings.y}"),
+            ("cost C", cost_text(fit, answer.cost)), ("bound L", cost_text(fit, answer.bound)), ("gap", gap_text(answer)),
+            ("splits, open boxes, peak", f"{answer.splits:,}, {answer.open:,}, {answer.peak:,}"),
+            ("grid", grid_text(fit.scaling)), ("scale S", fit.scaling.scale), ("vector w", ", ".join(map(str, fit.vector))),
+            ("tool", f"vengutari {__version__}"),
+        ]
+        return '<table id="settings">' + "".join(f"<tr><th>{escaped(a)}</th><td>{escaped(b)}</td></tr>" for a, b in pairs) + "</table>"
+
+    def verdict(self):
+        fit = self.fit
+        parts = [f"<strong>{escaped(headline(fit))}</strong>", f'<span id="certificate">Certificate: {escaped(certificate(fit))}.</span>']
+        parts.append("The certificate speaks of the searched box and of the grid named below, not of lines outside them.")
+        if fit.wide is not None:
+            wide = box_text(fit.wide.scaling, fit.wide.low, fit.wide.high)[0]
+            parts.append(f'<span id="wide">Wide search: {escaped(wide_sentence(fit.wide))}. Its box for each line: {escaped(wide)}; '
+                         f"its grid: {escaped(grid_text(fit.wide.scaling))}.</span>")
+        if advice(fit):
+            parts.append(f"Next: {escaped(advice(fit))}.")
+        return f'<div class="verdict {"solved" if settled(fit) else "open"}">' + "<br>".join(parts) + "</div>"
+
+    def notes(self):
+        counts = counts_of(self.fit.labels, self.n)
+        said = f"{counts['outliers']} outliers, {counts['undecided']} undecided, {counts['gaps']} gaps of {len(self.rows)} rows"
+        return "<ul>" + "".join(f"<li>{escaped(note)}</li>" for note in [said, *self.fit.notes]) + "</ul>"
+
+    def page(self):
+        title = f"{self.fit.settings.y}: {self.n} line{'s' if self.n > 1 else ''} from {os.path.basename(self.fit.source)}"
+        band = f"epsilon, {shown(self.fit.settings.epsilon)} {escaped(self.fit.settings.y)}, to either side."
+        several = len(self.fit.settings.x) > 1
+        caption = f"A point on the diagonal lies on its line; the band reaches {band}" if several else f"Bands reach {band}"
+        return (
+            '<!DOCTYPE html>\n<html lang="en"><head><meta charset="utf-8">'
+            '<meta name="viewport" content="width=device-width, initial-scale=1">'
+            "<meta http-equiv=\"Content-Security-Policy\" content=\"default-src 'none'; style-src 'unsafe-inline'\">"
+            f"<title>{escaped(title)}</title><style>{STYLE}</style></head>\n<body>\n<h1>{escaped(title)}</h1>\n{self.verdict()}\n"
+            f"<h2>Lines</h2>\n{self.lines_table()}\n<h2>Points</h2>\n{self.legend()}\n{self.fit_picture()}\n"
+            f'<p class="quiet">{caption} Point at a mark for its row.</p>\n<h2>Residuals by frame</h2>\n{self.residual_picture()}\n'
+            '<p class="quiet">The distance to the nearest line; marks at the edge lie farther out.</p>\n'
+            f"<h2>Notes</h2>\n{self.notes()}\n<h2>Settings</h2>\n{self.settings_table()}\n</body></html>\n"
+        )
+
+
+def page(fit):
+    return Report(fit).page()

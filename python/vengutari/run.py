@@ -1,0 +1,199 @@
+"""The search, run again with twice the splits until it is solved, so that there is a certified answer at any time.
+
+A call of the library cannot be stopped, so it runs in a thread of its own; a time limit or Ctrl-C leaves it behind, and the answer is
+that of the last run that came to its end. Each run starts from the best vector so far. A split opens at most one box more, so a
+run of B splits needs at most B + 1 rows: only a limit on the rows can make a run full.
+"""
+
+import math
+import sys
+import threading
+import time
+from dataclasses import dataclass
+from fractions import Fraction
+
+from .library import LARGEST_TOLERANCE, MOST_SPLITS, ROW_BYTES, Model
+
+FIRST_SPLITS = 512
+MOST_ROWS = 2**26
+TICK = 1.0
+LEAST_GROWTH = 1.2
+
+
+@dataclass
+class Job:
+    """What a search is given, but for its budget and rows."""
+
+    store: bytes
+    model: Model
+    low: list
+    high: list
+    start: list
+
+
+@dataclass
+class Limits:
+    """gap is a part of the cost, not a percentage; seconds and rows may be None."""
+
+    gap: Fraction = Fraction(0)
+    seconds: float = None
+    rows: int = None
+    splits: int = MOST_SPLITS
+
+
+@dataclass
+class Outcome:
+    """answer is that of one run of the library; stopped says why no more were made: solved, time, splits, rows or interrupt."""
+
+    answer: object
+    stopped: str
+    seconds: float
+    t: int
+
+
+def gap_of(answer):
+    """How far the bound lies below the cost, as a part of the cost."""
+    return 0.0 if answer.cost == 0 else (answer.cost - answer.bound) / answer.cost
+
+
+def rows_in_memory():
+    """As many rows as half of the memory that is free holds."""
+    try:
+        with open("/proc/meminfo", encoding="ascii") as file:
+            free = next(int(line.split()[1]) * 1024 for line in file if line.startswith("MemAvailable:"))
+    except (OSError, ValueError, StopIteration):
+        free = 2**30
+    return max(4096, min(MOST_ROWS, free // 2 // ROW_BYTES))
+
+
+def in_background(call):
+    """Starts a call in a thread; its list takes the result, or the exception."""
+    results = []
+
+    def work():
+        try:
+            results.append((call(), None))
+        except BaseException as error:  # handed to the thread that waits
+            results.append((None, error))
+
+    thread = threading.Thread(target=work, daemon=True)
+    thread.start()
+    return thread, results
+
+
+class Runs:
+    """The runs of one job."""
+
+    def __init__(self, library, job, limits, progress=None):
+        self.library = library
+        self.job = job
+        self.limits = limits
+        self.progress = progress
+        self.began = time.monotonic()
+        self.ticked = self.began
+        self.rows = limits.rows or rows_in_memory()
+        self.start = list(job.start)
+        self.best = None
+        self.t = 0
+        self.lengths = []
+
+    def seconds(self):
+        return time.monotonic() - self.began
+
+    def left(self):
+        """The time left; the first run, which has no split, is not held to it."""
+        return math.inf if self.limits.seconds is None or self.best is None else self.limits.seconds - self.seconds()
+
+    def one(self, splits):
+        """One run to its end, or None where the time is over before."""
+        job, begun = self.job, time.monotonic()
+        given = (job.store, job.model, self.t, splits, job.low, job.high, list(self.start), max(1, min(splits + 1, self.rows)))
+        thread, results = in_background(lambda: self.library.search(*given))
+        while thread.is_alive():
+            thread.join(max(0.0, min(self.ticked + TICK - time.monotonic(), self.left())))
+            if thread.is_alive() and self.left() <= 0:
+                return None
+            self.tick(splits)
+        answer, error = results[0]
+        if error is not None:
+            raise error
+        self.lengths.append(time.monotonic() - begun)
+        return answer
+
+    def tick(self, splits):
+        """A line of progress each second."""
+        if time.monotonic() - self.ticked >= TICK and self.best is not None:
+            self.ticked = time.monotonic()
+            if self.progress is not None:
+                self.progress(self.seconds(), self.best, splits)
+
+    def take(self, answer):
+        """The answer with the least distance of cost and bound is kept; the next run starts at the vector of the last, never dearer."""
+        self.start = answer.vector
+        if self.best is None or answer.kind == "solved" or answer.cost - answer.bound <= self.best.cost - self.best.bound:
+            self.best = answer
+
+    def tolerance(self):
+        return min(LARGEST_TOLERANCE, int(self.limits.gap * self.best.cost)) if self.best else 0
+
+    def next_splits(self, splits):
+        """Twice the splits, or as many as the time left allows by the runs before, or None where that is hardly more than before."""
+        wanted = min(self.limits.splits, max(FIRST_SPLITS, 2 * splits))
+        if len(self.lengths) < 3 or self.left() == math.inf:
+            return wanted
+        before, last = self.lengths[-2:]
+        growth = max(2.0, last / before if before > 0 else 2.0)
+        share = 0.9 * self.left() / (last * growth) if last > 0 else 1.0
+        if share >= 1:
+            return wanted
+        fitting = int(wanted * share ** (1 / math.log2(growth))) if share > 0 else 0
+        return None if fitting < LEAST_GROWTH * splits else fitting
+
+    def stopped(self, answer, splits):
+        """Why the runs are over after this answer to so many splits, or None."""
+        if self.best.cost == self.best.bound or (answer.kind == "solved" and answer.cost - answer.bound <= self.tolerance()):
+            return "solved"
+        if answer.kind == "full":
+            return "rows"
+        if splits >= self.limits.splits:
+            return "splits"
+        return "time" if self.left() <= 0 else None
+
+    def run(self):
+        """Runs until solved, a limit or Ctrl-C. The first has no split and is over at once, so that there always is an answer."""
+        splits, why = 0, None
+        try:
+            while why is None:
+                answer = self.one(splits)
+                if answer is None:
+                    why = "time"
+                    break
+                self.take(answer)
+                why = self.stopped(answer, splits)
+                if why is None:
+                    self.t = self.tolerance()
+                    splits = self.next_splits(splits)
+                    why = "time" if splits is None else None
+        except KeyboardInterrupt:
+            if self.best is None:
+                raise
+            why = "interrupt"
+        return Outcome(self.best, why, self.seconds(), self.t)
+
+
+def search(library, job, limits, progress=None):
+    return Runs(library, job, limits, progress).run()
+
+
+def line_of_progress(unit):
+    """Progress on standard error, costs in the user's units."""
+
+    def progress(seconds, answer, splits):
+        cost, bound = float(answer.cost * unit), float(answer.bound * unit)
+        words = f"{seconds:7.1f} s  {answer.splits:>10,} splits  {answer.open:>9,} open  C {cost:.6g}  L {bound:.6g}"
+        try:
+            print(f"{words}  gap {100 * gap_of(answer):.3g} %  (now running {splits:,} splits)", file=sys.stderr, flush=True)
+        except OSError:
+            pass
+
+    return progress
