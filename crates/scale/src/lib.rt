@@ -5,30 +5,16 @@ ghost use mathlib.Core.Path.{_≡_};
 ghost use Prim.Native.Nat.{_^_, _%_};
 ghost use Rattle.scale.specs.Scale.{checkScale};
 
-const POWERS: [u16; 16] = [
-    1,
-    2,
-    4,
-    8,
-    16,
-    32,
-    64,
-    128,
-    256,
-    512,
-    1024,
-    2048,
-    4096,
-    8192,
-    16384,
-    32768,
-];
-
-// 2^s for s to 15. The table has sixteen entries, so s counts modulo 16.
+// 2^s for s to 15, by doubling. 2^16 is no u16, so s counts modulo 16.
 pub fn power(s: u8) -> u16
     ensures { λ r. ⌜ r ≡ 2 ^ (s % 16) ⌝ }
 {
-    POWERS[(s % 16) as usize]
+    let turns = s % 16;
+    let mut p: u16 = 1;
+    for k in 0..turns {
+        p = p * 2;
+    }
+    p
 }
 
 // Check 3.
