@@ -8,7 +8,7 @@ use lib.ListN.{length}
 use Rattle.answer_records.specs.declared.AnswerRecord.{AnswerRecord}
 use Rattle.fields.specs.Buffers.{written}
 use Rattle.answer_records.specs.Answers.{answerBytes, checkAnswerWrite, readAnswer}
-use Rattle.buffers.specs.Buffers.{vectorIn}
+use Rattle.buffers.specs.Buffers.{vectorFrom}
 use Rattle.boundary.specs.Boundary.{Call, checkCall, ifAccepted}
 
 -- the numbers of an answer in the record's order: "C (64 bits), L (64), count (32), kind (1 solved, 2 spent, 3 full), n, d, S"
@@ -18,7 +18,7 @@ answerNumbers a = a .cost ∷ a .bound ∷ a .count ∷ a .kind ∷ a .n ∷ a .
 -- an answer from a vector and its numbers
 abbrev pub answerFrom : List ℤ → ℕ → ℕ → ℕ → ℕ → ℕ → ℕ → ℕ → AnswerRecord
 answerFrom vector cost bound count kind n d scale =
-    record { vector = vectorIn vector; cost = cost; bound = bound; count = count; kind = kind; n = n; d = d; scale = scale }
+    record { vector = vectorFrom vector; cost = cost; bound = bound; count = count; kind = kind; n = n; d = d; scale = scale }
 
 -- room for a vector and seven numbers
 abbrev pub answerLengths : ℕ → ℕ → Bool

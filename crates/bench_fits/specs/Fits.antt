@@ -71,4 +71,11 @@ lines n S p ε = record { n = n; d = 1; scale = S; p = p; eps = ε }
 -- one line from 0 to `high`, start 0, t = 0, by p, ε, `high`, the budget and r
 abbrev pub job : ℕ → ℕ → ℕ → ℕ → ℕ → Job
 job p ε high budget r =
-    record { model = lines 1 0 p ε; t = 0; budget = budget; rows = r; domain = box (pos 0 ∷ []) (pos high ∷ []); start = vector (pos 0 ∷ []) }
+    record {
+      model = lines 1 0 p ε;
+      t = 0;
+      budget = budget;
+      rows = r;
+      domain = box (pos 0 ∷ []) (pos high ∷ []);
+      start = vector (pos 0 ∷ []);
+    }

@@ -2,7 +2,8 @@
 use mathlib.Core.List.{List, [], _∷_}
 use lib.IntN.{pos, negsuc}
 use Rattle.integers.specs.Lists.{All}
-use Rattle.bench_fits.specs.Fits.{Fit, residual-is, loss-is, label-is, least-size-is, splits-into, fit-writes, pattern-is, Holds, vector, box, point, lines, job}
+use Rattle.bench_fits.specs.Fits.{Fit, residual-is, loss-is, label-is, least-size-is, splits-into, fit-writes, pattern-is, Holds}
+use Rattle.bench_fits.specs.Fits.{vector, box, point, lines, job}
 
 -- `negsuc n` is −(n + 1).
 abbrev pub starred : List Fit

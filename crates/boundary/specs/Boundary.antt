@@ -13,7 +13,7 @@ use Rattle.codes.specs.Codes.{numberOf, unlessRefused}
 use Rattle.jobs.specs.declared.Job.{Job}
 use Rattle.jobs.specs.declared.Model.{Model}
 use Rattle.rows.specs.Rows.{rowAt}
-use Rattle.buffers.specs.Buffers.{vectorIn}
+use Rattle.buffers.specs.Buffers.{vectorFrom}
 
 -- n, d, S, p and ε, "a byte each" but for ε
 abbrev pub modelOf : ℕ → ℕ → ℕ → ℕ → ℕ → Model
@@ -22,7 +22,7 @@ modelOf n d scale p eps = record { n = n; d = d; scale = scale; p = p; eps = eps
 -- A job from its numbers, a box of 16 numbers, low then high, and the start vector.
 abbrev pub jobFrom : Model → ℕ → ℕ → ℕ → List ℤ → List ℤ → Job
 jobFrom m t budget rows corners start =
-    record { model = m; t = t; budget = budget; rows = rows; domain = rowAt corners 0; start = vectorIn start }
+    record { model = m; t = t; budget = budget; rows = rows; domain = rowAt corners 0; start = vectorFrom start }
 
 -- A call has buffers of the wrong length, or comes to an outcome of the product.
 pub data Call : Type 0 where
@@ -39,26 +39,26 @@ abbrev pub checkCall : Bool → Check → Call
 checkCall lengths check = ifLengths lengths (unlessRefused check 0)
 
 -- "every refusal but 7 returns the number alone"; 7 "returns that record's number too".
-abbrev pub recordOf : Refusal → ℕ
-recordOf Length = 0
-recordOf Shape = 0
-recordOf Scale = 0
-recordOf Loss = 0
-recordOf Box = 0
-recordOf Start = 0
-recordOf (Stray record-number) = record-number
-recordOf Table = 0
-recordOf Answer = 0
-recordOf Short = 0
-recordOf Beacon = 0
-recordOf OffGrid = 0
+abbrev pub strayRecord : Refusal → ℕ
+strayRecord Length = 0
+strayRecord Shape = 0
+strayRecord Scale = 0
+strayRecord Loss = 0
+strayRecord Box = 0
+strayRecord Start = 0
+strayRecord (Stray record-number) = record-number
+strayRecord Table = 0
+strayRecord Answer = 0
+strayRecord Short = 0
+strayRecord Beacon = 0
+strayRecord OffGrid = 0
 
 -- The code: 0 for a value; of a refusal its number in the lowest 8 of 32 bits and the record's number in the other 24, where every record's
 -- number of a store fits (`Told` in Laws); or 255, which the paper's table does not have.
 abbrev pub codeOf : Call → ℕ
 codeOf wrongLength = 255
 codeOf (answered (Value v)) = 0
-codeOf (answered (Refused r)) = numberOf r + 256 * (recordOf r % 16777216)
+codeOf (answered (Refused r)) = numberOf r + 256 * (strayRecord r % 16777216)
 
 -- What lent memory holds after a call: what the call gives, if it is accepted, and else what it held.
 abbrev pub ifAccepted : {A : Type 0} → Call → A → A → A

@@ -7,14 +7,14 @@ use jobs::Model;
 ghost use mathlib.Core.Path.{_≡_};
 ghost use mathlib.Core.Bool.{true};
 ghost use Rattle.codes.specs.declared.Outcome.the-variants.{Refused};
-ghost use Rattle.boundary.specs.Boundary.{modelOf, jobFrom, answered, checkCall, recordOf, codeOf, valueAfter};
+ghost use Rattle.boundary.specs.Boundary.{modelOf, jobFrom, answered, checkCall, strayRecord, codeOf, valueAfter};
 
 // A buffer of the wrong length: no number of the paper.
 pub const WRONG_LENGTH: u32 = 255;
 
 // The record's number that a refusal carries, or 0.
-fn record_of(r: Refusal) -> usize
-    ensures { λ k. ⌜ k ≡ recordOf r ⌝ }
+fn stray_record(r: Refusal) -> usize
+    ensures { λ k. ⌜ k ≡ strayRecord r ⌝ }
 {
     match r {
         Refusal::Length => 0,
@@ -36,7 +36,7 @@ fn record_of(r: Refusal) -> usize
 pub fn refusal_code(r: Refusal) -> u32
     ensures { λ k. ⌜ k ≡ codeOf (answered (Refused r)) ⌝ }
 {
-    codes::number(r) as u32 + 256 * ((record_of(r) % 16_777_216) as u32)
+    codes::number(r) as u32 + 256 * ((stray_record(r) % 16_777_216) as u32)
 }
 
 // The code of a call that answers no number.

@@ -1,11 +1,11 @@
 // Values out of the lent buffers of the calls for C, and elements into them.
 ghost use mathlib.Core.Path.{_≡_};
 ghost use lib.IntN.{pos};
-ghost use Rattle.buffers.specs.Buffers.{exactly, vectorIn, filled};
+ghost use Rattle.buffers.specs.Buffers.{exactly, vectorFrom, filled};
 
 // A vector out of a buffer.
 pub fn vector_of(v: &[i16]) -> [i16; 8]
-    ensures { λ r. ⌜ r ≡ vectorIn (now (v .entry)) ⌝ }
+    ensures { λ r. ⌜ r ≡ vectorFrom (now (v .entry)) ⌝ }
 {
     if v.len() != 8 {
         return [0i16; 8];

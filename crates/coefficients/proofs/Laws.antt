@@ -5,9 +5,9 @@ use mathlib.Core.Bool.{true, _&&_}
 use mathlib.Core.List.{List, [], _∷_, map}
 use Prim.Native.Nat.{ℕ, zero, suc, _≤_}
 use lib.Dec.{T, lit<}
-use lib.IntN.{ℤ, pos, negsuc}
+use lib.IntN.{ℤ, pos}
 use lib.ListN.{length, getD, drop, length-map}
-use lib.Ieee.{Float, binary32, ofBits, toBits, fits, size}
+use lib.Ieee.{Float, binary32, ofBits, toBits, fits}
 use lib.Ieee.Bits.{ofBits-toBits, ofBits-fits}
 use mir.Syntax.{w16}
 use mir.Val.{SFits}
@@ -20,7 +20,7 @@ use Rattle.codes.specs.Codes.{passIf}
 use Rattle.codes.proofs.Checks.{passed}
 use Rattle.scale.specs.Scale.{checkScale}
 use Rattle.boxes.specs.Shape.{checkVector}
-use Rattle.coefficients.specs.Coefficient.{exponentOf, fractionOf, fieldsOf, patternOf, coefficientOf}
+use Rattle.coefficients.specs.Coefficient.{patternOf, coefficientOf}
 use Rattle.coefficients.specs.Grid.{coordinateOf, onGrid}
 use Rattle.coefficients.specs.Lines.{checkUsed, writingChecks, lineOf, writtenIf, writtenOf, allOnGrid, allPlusZero, checkGrid, readingChecks, coordinatesIf, coordinatesOf, patternsOf}
 use Rattle.coefficients.specs.Laws.{ExactCoefficient, ExactReading, Four16, FourSingle, RoundTrip}

@@ -42,7 +42,9 @@ pub record FourSingle (l : Line) : Type 0 where
 
 -- What is written is read back, and what is read is written back.
 pub record RoundTrip (d S : ℕ) : Type 0 where
-  pub written-read : (w : List ℤ) → Four16 w → writtenOf d S w .check ≡ Pass → coordinatesOf d S (patternsOf (writtenOf d S w .line)) ≡ record { check = Pass; w = w }
+  pub written-read : (w : List ℤ) → Four16 w → writtenOf d S w .check ≡ Pass
+      → coordinatesOf d S (patternsOf (writtenOf d S w .line)) ≡ record { check = Pass; w = w }
   pub patterns-written : (ps : List ℕ) → length ps ≡ 4 → coordinatesOf d S ps .check ≡ Pass
       → (writtenOf d S (coordinatesOf d S ps .w) .check ≡ Pass) × (patternsOf (writtenOf d S (coordinatesOf d S ps .w) .line) ≡ ps)
-  pub line-written : (l : Line) → FourSingle l → coordinatesOf d S (patternsOf l) .check ≡ Pass → writtenOf d S (coordinatesOf d S (patternsOf l) .w) ≡ record { check = Pass; line = l }
+  pub line-written : (l : Line) → FourSingle l → coordinatesOf d S (patternsOf l) .check ≡ Pass
+      → writtenOf d S (coordinatesOf d S (patternsOf l) .w) ≡ record { check = Pass; line = l }

@@ -38,8 +38,11 @@ lineOf S w =
     }
 
 -- Refused: four +0.
+abbrev pub fourZeros : Line
+fourZeros = record { c1 = ofBits binary32 0; c2 = ofBits binary32 0; c3 = ofBits binary32 0; c4 = ofBits binary32 0 }
+
 abbrev pub notWritten : Refusal → Written
-notWritten r = record { check = Refuse r; line = record { c1 = ofBits binary32 0; c2 = ofBits binary32 0; c3 = ofBits binary32 0; c4 = ofBits binary32 0 } }
+notWritten r = record { check = Refuse r; line = fourZeros }
 
 -- The line if the checks pass.
 abbrev pub writtenIf : Check → Line → Written

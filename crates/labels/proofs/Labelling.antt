@@ -60,9 +60,9 @@ first-least f (suc (suc n)) h =
       lowest = g .lowest;
     })
 
-pub labelled : AllLabelled
+pub all-labelled : AllLabelled
 unfolding label
-labelled m v q h =
+all-labelled m v q h =
     let f = sizeAt m v q in
     let k = firstLeast f (m .n) in
     let g = first-least f (m .n) h in

@@ -3,7 +3,7 @@ use borrow.Author.Needs.{needs}
 use mathlib.Core.Path.{refl, _∙_}
 use borrow.Author.Tests.{eq-eqb, ne-eqb}
 use lib.ListN.{length}
-use Rattle.buffers.proofs.Buffers.{vector-in}
+use Rattle.buffers.proofs.Buffers.{vector-from}
 use Rattle.answer_calls.proofs.write_answer.Statement.{statement}
 use Rattle.answer_calls.proofs.write_answer.Tie as tie
 
@@ -27,7 +27,7 @@ returns-2 c =
     let w = c .before .before .before in
     let v = w .before .before in
     let vector = v .before .before .before .args .vector .now in
-    let is-vector = v .vector-of .ensures ∙ vector-in vector (v .before .if1 .left) in
+    let is-vector = v .vector-of .ensures ∙ vector-from vector (v .before .if1 .left) in
     rw (eq-eqb (length vector) 8 (v .before .if1 .left), ← is-vector, ← w .write-answer .ensures .0) (c .check-code .ensures, w .write-answer .ensures .1)
 
 pub write-answer-spec : {M : Type 1} → statement M

@@ -3,7 +3,7 @@ use borrow.Author.Needs.{needs}
 use borrow.Author.Tests.{le-leb, lt-leb, eq-eqb, ne-eqb}
 use mathlib.Core.Path.{_≡_, sym, _∙_}
 use mathlib.Core.List.{[], _∷_}
-use Prim.Native.Nat.{_+_, _≤_, _<_}
+use Prim.Native.Nat.{ℕ, _+_, _≤_, _<_}
 use native.Mathlib.Omega.{arith}
 use Rattle.codes.specs.declared.Check.the-variants.{Pass, Refuse}
 use Rattle.codes.specs.declared.Refusal.the-variants.{Short}
@@ -75,13 +75,16 @@ space c =
     let h : a .mark + a .size ≤ 49152 = omega arith in
     rw (good-length (m .before .before), good-mark m, le-leb _ _ k, le-leb _ _ h)
 
+abbrev size : tie.Else5 → ℕ
+size c = c .before .before .before .before .before .before .before .before .args .size
+
 returns-7 : tie.Need-returns-7
 unfolding inOrder checkBody
-returns-7 c = rw (space (c .before), lt-leb _ _ (c .if6 .taken))
+returns-7 c = rw (space (c .before), lt-leb (size (c .before)) 236 (omega (arith, c .if6 .taken)))
 
 returns-8 : tie.Need-returns-8
 unfolding inOrder checkBody
-returns-8 c = rw (space (c .before), le-leb _ _ (c .if6 .left))
+returns-8 c = rw (space (c .before), le-leb (size (c .before)) 236 (omega (arith, c .if6 .left)))
 
 pub check-take-in-spec : {M : Type 1} → statement M
 check-take-in-spec =

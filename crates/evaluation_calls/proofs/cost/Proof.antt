@@ -3,7 +3,7 @@ use borrow.Author.Needs.{needs}
 use mathlib.Core.Path.{refl, _∙_}
 use borrow.Author.Tests.{eq-eqb, ne-eqb}
 use lib.ListN.{length}
-use Rattle.buffers.proofs.Buffers.{vector-in}
+use Rattle.buffers.proofs.Buffers.{vector-from}
 use Rattle.evaluation_calls.proofs.cost.Statement.{statement}
 use Rattle.evaluation_calls.proofs.cost.Tie as tie
 
@@ -27,7 +27,7 @@ returns-2 c =
     let k = c .before .before in
     let test = k .before .before .before in
     let v = test .before .before .args .vector .now in
-    let is-vector = k .before .vector-of .ensures ∙ vector-in v (test .if1 .left) in
+    let is-vector = k .before .vector-of .ensures ∙ vector-from v (test .if1 .left) in
     let is-model = k .before .before .model-of .ensures in
     rw (eq-eqb (length v) 8 (test .if1 .left), ← is-vector, ← is-model, ← k .cost .ensures) (c .settle .ensures)
 

@@ -3,7 +3,7 @@ use borrow.Author.Needs.{needs}
 use mathlib.Core.Path.{refl, _∙_}
 use borrow.Author.Tests.{eq-eqb, ne-eqb}
 use lib.ListN.{length}
-use Rattle.buffers.proofs.Buffers.{vector-in}
+use Rattle.buffers.proofs.Buffers.{vector-from}
 use Rattle.label_calls.proofs.labels.Statement.{statement}
 use Rattle.label_calls.proofs.labels.Tie as tie
 
@@ -30,7 +30,7 @@ returns-2 c =
     let k = c .before .before .before .before in
     let test = k .before .before .before .before in
     let v = test .before .before .before .args .vector .now in
-    let is-vector = k .before .before .vector-of .ensures ∙ vector-in v (test .if1 .left) in
+    let is-vector = k .before .before .vector-of .ensures ∙ vector-from v (test .if1 .left) in
     let is-model = k .before .before .before .model-of .ensures in
     rw (eq-eqb (length v) 8 (test .if1 .left), ← is-vector, ← is-model, ← k .labels .ensures .0)
     (c .settle .ensures .0, (c .settle .ensures .1, k .labels .ensures .1))
