@@ -9,11 +9,15 @@ __version__ = "0.1.0"
 
 
 def fit(path, x, y, epsilon, frame=None, **settings):
-    """A certified fit of the points of a file; settings are those of fitting.Settings, in the user's units."""
+    """A certified fit of the points of a file, by one column x or a list of them.
+
+    Settings are those of fitting.Settings, in the user's units; limits=run.Limits(seconds=60) ends a search after that time.
+    """
     from fractions import Fraction
     from . import fitting, library, points
 
-    asked = fitting.Settings(x=list(x), y=y, frame=frame, epsilon=Fraction(str(epsilon)), **settings)
+    columns = [x] if isinstance(x, str) else list(x)
+    asked = fitting.Settings(x=columns, y=y, frame=frame, epsilon=Fraction(str(epsilon)), **settings)
     return fitting.fit_table(library.find(), points.read_table(str(path)), asked)
 
 

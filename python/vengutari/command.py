@@ -2,6 +2,7 @@
 
 import signal
 import sys
+import time
 from fractions import Fraction
 
 from . import coefficients, fitting, library, points, report, result, run, scaling
@@ -12,6 +13,8 @@ from .problems import BadInput, BadUse, Problem
 
 SOLVED, REFUSED, NOT_SOLVED, INTERRUPTED = 0, 1, 3, 130
 FILES = ("json", "labels", "coefficients", "record", "report")
+# Signals within so many seconds are one request: some senders, such as timeout, signal a command twice.
+TOGETHER = 0.5
 
 
 def outputs_of(options, inputs, names):
@@ -24,8 +27,8 @@ def outputs_of(options, inputs, names):
 
 
 def labels_text(table, rows):
-    """The labels file. A gap has neither a fitted value nor a residual."""
-    label = [str(row.label) for row in rows]
+    """The labels file. A row without y has neither a fitted value nor a residual."""
+    label = ["" if row.label is None else str(row.label) for row in rows]
     fitted, residual = [["" if value is None else f"{value:.6g}" for value in values]
                         for values in ([row.fitted for row in rows], [row.residual for row in rows])]
     return points.with_columns(table, ["label", "fitted", "residual"], [label, fitted, residual])
@@ -160,11 +163,26 @@ def complain(problem):
         pass
 
 
+class Interrupts:
+    """Ctrl-C, or a supervisor's request to end, is raised once, so that the answer it leads to is not cut off by its double."""
+
+    def __init__(self):
+        self.last = None
+        for number in (signal.SIGINT, signal.SIGTERM):
+            if signal.getsignal(number) != signal.SIG_IGN:
+                signal.signal(number, self.take)
+
+    def take(self, number, frame):
+        before, self.last = self.last, time.monotonic()
+        if before is None or self.last - before > TOGETHER:
+            raise KeyboardInterrupt
+
+
 def main(words=None):
     """Runs one command; words are those behind its name. Ctrl-C, or a supervisor's request to end, ends a search with its answer."""
     try:
         if words is None:
-            signal.signal(signal.SIGTERM, signal.default_int_handler)
+            Interrupts()
         options = parser().parse_args(joined(sys.argv[1:] if words is None else words))
         return COMMANDS[options.command](options) if options.command in COMMANDS else options.run(options)
     except Problem as problem:

@@ -9,7 +9,6 @@ from . import proposal, run, scaling
 from .points import name_of, read_points
 from .problems import BadInput, BadUse
 
-LOSSES = {"count": 0, "absolute": 1, "square": 2}
 MARGIN = Fraction(4)
 # A wide box holds the lines that stay within the range of y, widened by this much of its span on either side.
 WIDENED = 1
@@ -143,22 +142,23 @@ def start_of(library, settings, scales, job, guess, notes):
 
 
 def offset_notes(settings):
-    return [] if settings.offset else ["the lines pass through 0; --offset lets them have an offset"]
+    lines = "the line passes" if settings.lines == 1 else "the lines pass"
+    return [] if settings.offset else [f"{lines} through 0; --offset allows an offset"]
 
 
-def row_notes(rows, name):
+def row_notes(rows, points, name):
     """Rows that are not in the search."""
     notes = []
-    gaps, far = sum(row is not None and row[1] is None for row in rows), rows.count(None)
-    if gaps:
-        notes.append(f"{gaps} rows have no {name}: " + ("gaps" if calls.GAPS else "they are left out of the search and labelled as gaps"))
+    gaps, far = points.y.count(None), sum(row is None and y is not None for row, y in zip(rows, points.y))
+    if gaps and not calls.GAPS:
+        notes.append(f"{gaps} rows have no {name}: they are left out of the search and have no label")
     if far:
         notes.append(f"{far} rows lie far beyond the others, outside 16 bits: set aside as outliers; the certificate is of the rest")
     return notes
 
 
 def row_labels(library, model, scales, vector, points, rows):
-    """A label for each row: the library's; a gap, or an outlier that 16 bits do not hold, where a row is not in the store."""
+    """A label for each row: the library's; where a row is not in the store, an outlier's if 16 bits do not hold it, or that of a gap."""
     store, kept = scaling.store_of(rows, points.frame)
     labels = [calls.GAP] * len(rows)
     for k, row in enumerate(rows):
@@ -196,15 +196,15 @@ def fit(library, points, settings, progress=None):
     scales, notes = scaling.columns_for(points, settings.x, settings.y, settings.offset, settings.x_steps, settings.y_step)
     rows = scaling.whole_points(points, scales)
     samples = [row for row in rows if row is not None and row[1] is not None]
-    if len(rows if calls.GAPS else samples) > calls.MOST_RECORDS:
-        raise BadInput(f"{len(rows):,} points, but a search takes at most {calls.MOST_RECORDS:,}: give a part, or every second row")
+    store, kept = scaling.store_of(rows, points.frame)
+    if len(kept) > calls.MOST_RECORDS:
+        raise BadInput(f"{len(kept):,} points, but a search takes at most {calls.MOST_RECORDS:,}: give a part, or every second row")
     epsilon = settings.epsilon / scales.y.unit
     guess = proposal.propose(library, samples, settings.lines, float(epsilon)) if None in (settings.box, settings.start) else None
     low, high = box_of(settings, scales, samples, guess, epsilon)
     scales.scale = scaling.choose_scale(samples, epsilon, [abs(value) for value in [*low, *high]], settings.scale)
-    notes += points.notes + offset_notes(settings) + row_notes(rows, settings.y) + coarse_notes(samples, epsilon, scales)
-    model = calls.Model(settings.lines, scales.d, scales.scale, LOSSES[settings.loss], whole_epsilon(settings, scales, notes))
-    store, _ = scaling.store_of(rows, points.frame)
+    notes += points.notes + offset_notes(settings) + row_notes(rows, points, settings.y) + coarse_notes(samples, epsilon, scales)
+    model = calls.Model(settings.lines, scales.d, scales.scale, calls.LOSSES[settings.loss], whole_epsilon(settings, scales, notes))
     job = run.Job(store, model, *scaling.outward(low, high, scales.scale), [])
     job.start = start_of(library, settings, scales, job, guess, notes)
     outcome = run.search(library, job, settings.limits, progress and progress(scales.cost_unit(model.p)))

@@ -18,37 +18,23 @@ import struct
 import subprocess
 from fractions import Fraction
 
+from .library import ANSWER_BYTES, KINDS, LARGEST_EPSILON, LOSSES, MESSAGES, MOST_RECORDS
 from .outputs import Outputs, say
 from .points import read_bytes
 from .problems import BadUse
 from .scaling import shown
 
-JOB_BYTES = 72
-ANSWER_BYTES = 40
-RECORD_BYTES = 12
-MOST_RECORDS = 4096
 MOST_ROWS = 2048
-LARGEST_EPSILON = 16_777_215
 LONGEST_NUMBER = 60
 LARGEST_COST = 1_152_921_367_167_897_600
 
 COLUMNS = ("x1", "x2", "x3", "x4", "y", "frame")
-LOSSES = {"0": 0, "1": 1, "2": 2, "count": 0, "absolute": 1, "square": 2}
-KINDS = {1: "solved", 2: "spent", 3: "full"}
+# A loss by its name or its number.
+NAMED_LOSSES = {**LOSSES, **{str(p): p for p in LOSSES.values()}}
 MEANINGS = {
     "solved": "no vector of the box costs less than the bound, and the cost is within the tolerance of it",
     "spent": "the split budget is used up; the bound holds for the whole box",
     "full": "the table has no row left; the bound holds for the whole box",
-}
-REFUSALS = {
-    1: "length: the store is empty, too long or not whole records, or there is no whole job record",
-    2: "shape: lines, dimensions or their product out of range",
-    3: "scale: over 15",
-    4: "loss: loss or threshold out of range",
-    5: "box: low over high, or an unused coordinate not 0",
-    6: "start: outside the box",
-    7: "stray: an x after the last dimension is not 0",
-    8: "table: rows not 1 to 2,048",
 }
 
 
@@ -229,7 +215,7 @@ def job_of(options):
     if n * d > 8:
         raise BadInput(f"--lines, --dimensions: {n} lines of {d} are {n * d} coordinates, but at most 8 are taken")
     scale = whole(options.scale, "--scale", 0, 15)
-    loss = LOSSES[options.loss]
+    loss = NAMED_LOSSES[options.loss]
     unit = Fraction(1) if options.integers else Fraction(1, 2**scale)
     low, high = read_box(options.box, n * d, unit)
     return {
@@ -339,7 +325,7 @@ def command_job(options):
         return 0
     answer = parse_line(run_fit(options.fit, data))
     if "refused" in answer:
-        reason = REFUSALS.get(answer["refused"], "no number of a job's refusal")
+        reason = MESSAGES.get(answer["refused"], "no number of the table")
         say(f"refused {answer['refused']}, {reason}\n")
         return 1
     if len(answer["w"]) != job["n"] * job["d"]:
@@ -350,7 +336,7 @@ def command_job(options):
 
 def command_answer(options):
     answer = decode_answer(read_bytes(options.record))
-    loss = None if options.loss is None else LOSSES[options.loss]
+    loss = None if options.loss is None else NAMED_LOSSES[options.loss]
     say(report(answer, answer["d"], answer["S"], loss) + "\n")
     return 0
 
@@ -363,7 +349,7 @@ def add_commands(commands):
     job.add_argument("--dimensions", required=True, metavar="D", help="number of x used, 1 to 4; N x D is at most 8")
     job.add_argument("--scale", default="0", metavar="S", help="coefficients are multiples of 1 / 2^S, S from 0 to 15 (default 0)")
     job.add_argument(
-        "--loss", required=True, choices=sorted(LOSSES),
+        "--loss", required=True, choices=sorted(NAMED_LOSSES),
         help="0 or count: points farther than epsilon; 1 or absolute: distance, at most epsilon; 2 or square: its square",
     )
     job.add_argument("--epsilon", required=True, metavar="E", help="the threshold, in the units of y")
@@ -383,4 +369,4 @@ def add_commands(commands):
     answer = commands.add_parser("answer", help="print an answer record")
     answer.set_defaults(run=command_answer)
     answer.add_argument("record", metavar="RECORD", help="the 40 bytes; - for standard input")
-    answer.add_argument("--loss", choices=sorted(LOSSES), help="the job's loss, to print costs in the units of y")
+    answer.add_argument("--loss", choices=sorted(NAMED_LOSSES), help="the job's loss, to print costs in the units of y")

@@ -19,8 +19,8 @@ from .problems import BadInput
 STORED_BOUNDS = False
 # y = -32,768 is a gap, with label 6 (request 2). Until then the points given to a call hold no gap.
 GAPS = False
-# The losses that the library takes; 3 comes with request 5.
-LOSSES = (0, 1, 2)
+# A sample within epsilon of more than one line is undecided, with label 5 (request 8). Until then its label is the nearest line's.
+CROSSINGS = False
 
 RECORD_BYTES = 12
 MOST_RECORDS = 4096
@@ -33,8 +33,11 @@ MOST_SPLITS = 2**32 - 1
 LARGEST_TOLERANCE = 2**64 - 1
 GAP_Y = -32768
 
-OUTLIER, UNDECIDED, GAP = 0, 5, 6
+OUTLIER, UNDECIDED = 0, 5
+# The label of a row without y, which is in no store, and has none, until there are gaps.
+GAP = 6 if GAPS else None
 KINDS = {1: "solved", 2: "spent", 3: "full"}
+LOSSES = {"count": 0, "absolute": 1, "square": 2}
 
 MESSAGES = {
     1: "length: a store or beacon is empty, too long or not whole records, or a job record is not whole",
@@ -49,12 +52,6 @@ MESSAGES = {
     10: "short: the output is too small",
     11: "beacon: over 236 bytes",
     12: "off grid: a single-precision number that no coefficient has",
-    13: "rounds: a limit outside 1 to 4",
-    14: "bounds: fewer entries than rows",
-    15: "order: frame numbers that do not rise",
-    16: "clash: unequal records of one frame",
-    17: "window: a window or hop of 0, or a window over the store",
-    18: "jobs: a count outside 1 to 8, or fewer records or lengths than the count",
     255: "a buffer has the wrong length",
 }
 
@@ -141,8 +138,7 @@ class Library:
             flat.append(ctypes.byref(value))
         code = getattr(self._calls, name)(*flat)
         if code % 256 == 7:
-            # The record's number stands in *value or, with request 3, in the code's upper bytes.
-            raise Refused(7, value.value or code // 256)
+            raise Refused(7, code // 256)
         if code != 0:
             raise Refused(code)
         return value.value

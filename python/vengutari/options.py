@@ -5,7 +5,7 @@ import re
 from fractions import Fraction
 
 from . import __version__, fitting, jobs, run
-from .library import MOST_SPLITS
+from .library import LOSSES, MOST_SPLITS
 from .points import number
 from .problems import BadInput, BadUse
 
@@ -50,7 +50,7 @@ def add_fit(commands):
     fit.add_argument("data", metavar="DATA.csv", help="the points: comma, semicolon or tab between columns; - for standard input")
     points = fit.add_argument_group("points")
     points.add_argument("--x", required=True, metavar="COLUMN[,..]", help="the columns that y depends on, by name or number from 1")
-    points.add_argument("--y", required=True, metavar="COLUMN", help="the column to be explained; an empty field is a gap")
+    points.add_argument("--y", required=True, metavar="COLUMN", help="the column to be explained; rows where it is empty are left out")
     points.add_argument("--frame", metavar="COLUMN", help="frame numbers, kept modulo 65,536 (default: rows counted from 0)")
     points.add_argument("--x-step", metavar="STEP[,..]", help="what x is a multiple of, one for each column (default: found from the data)")
     points.add_argument("--y-step", metavar="STEP", help="what y is a multiple of (default: found from the data)")
@@ -58,7 +58,7 @@ def add_fit(commands):
     lines.add_argument("--lines", default="1", metavar="N", help="how many lines, 1 to 4 (default 1)")
     lines.add_argument("--epsilon", required=True, metavar="E",
                        help="how far from its line a point may lie, in y's units; 3 to 4 times the noise")
-    lines.add_argument("--loss", choices=list(fitting.LOSSES), default="square",
+    lines.add_argument("--loss", choices=list(LOSSES), default="square",
                        help="what a point adds to the cost: 1 if outside epsilon, or its distance or square, cut there (default square)")
     lines.add_argument("--offset", action=argparse.BooleanOptionalAction, default=None,
                        help="lines need not pass through 0 (default: on where --x names one column)")
@@ -72,7 +72,7 @@ def add_fit(commands):
     box.add_argument("--wide", action="store_true", help="also search a wide box and say whether other lines there fit more points")
     limits = fit.add_argument_group("limits")
     limits.add_argument("--time-limit", default="60", metavar="SECONDS", help="for each search (default 60; 0 for none)")
-    limits.add_argument("--gap", default="0", metavar="PERCENT", help="solved when the cost is at most so much over the bound (default 0)")
+    limits.add_argument("--gap", default="0", metavar="PERCENT", help="solved when the bound is at most so much below the cost (default 0)")
     limits.add_argument("--rows", metavar="R", help="open boxes kept at most (default: as many as needed, up to half of the free memory)")
     limits.add_argument("--splits", metavar="B", help="splits at most (default: as many as needed)")
     add_outputs(fit)

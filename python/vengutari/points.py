@@ -178,10 +178,11 @@ def frames_of(table, wanted, notes):
     k = column(table, wanted)
     frames = []
     for row, place in zip(table.rows, table.places):
-        what = f"{table.name}, line {place}, {table.names[k]}"
-        value = number(field_of(table, k, row, place), what, table.decimal_comma)
-        if value.denominator != 1:
-            raise BadInput(f"{what}: a frame is a whole number, not {row[k]}")
+        text = dotted(field_of(table, k, row, place), table.decimal_comma)
+        value = Fraction(text) if NUMBER.fullmatch(text) and len(text) <= MOST_CHARACTERS else None
+        if value is None or value.denominator != 1:
+            raise BadInput(f"{table.name}, line {place}, {table.names[k]}: a frame is a whole number, not {shortened(row[k])}; "
+                           "without --frame the rows are counted")
         frames.append(int(value))
     if any(not 0 <= frame < 65536 for frame in frames):
         notes.append("frame numbers are kept modulo 65,536")

@@ -7,8 +7,8 @@ from fractions import Fraction
 from . import __version__
 from .library import GAP, OUTLIER, UNDECIDED
 from .picture import Picture, reach
-from .result import LABELS, SUMMED, advice, box_text, certificate, cost_text, counts_of, equation, gap_text, grid_text, headline, line_value
-from .result import root_mean_square, rows_of, settled, wide_sentence
+from .result import LABELS, SUMMED, advice, box_text, certificate, cost_text, equation, gap_text, grid_text, headline, line_value
+from .result import root_mean_square, rows_of, rows_text, settled, wide_sentence
 from .scaling import digits_of, on_step, shown
 
 # Colours that people with any colour sight tell apart, and a shape for each, for prints without colour.
@@ -29,7 +29,7 @@ ul { padding-left: 1.2rem; } @media print { body { margin: 0; max-width: none; }
 
 
 def name_of(label):
-    return LABELS.get(label, f"line {label}")
+    return LABELS[label][0] if label in LABELS else f"line {label}"
 
 
 def escaped(value):
@@ -44,7 +44,7 @@ class Report:
         self.n = fit.model.n
         self.lines = [fit.line(j) for j in range(self.n)]
         self.rows = rows_of(self.lines, fit.points, fit.labels)
-        self.labels = sorted({row.label for row in self.rows}, key=lambda label: (label in LABELS, label))
+        self.labels = [label for label in (*range(1, self.n + 1), *LABELS) if label in fit.labels]
         self.epsilon = float(fit.settings.epsilon)
 
     def tip(self, k):
@@ -52,7 +52,7 @@ class Report:
         fit, row = self.fit, self.rows[k]
         x = ", ".join(f"{name} {shown(value)}" for name, value in zip(fit.settings.x, fit.points.x[k]))
         if row.residual is None:
-            return f"row {k + 1}, frame {fit.points.counted[k]}: {x}, gap"
+            return f"row {k + 1}, frame {fit.points.counted[k]}: {x}, {name_of(row.label)}"
         y = f"{fit.settings.y} {shown(fit.points.y[k])}"
         return f"row {k + 1}, frame {fit.points.counted[k]}: {x}, {y}, {name_of(row.label)}, residual {row.residual:+.4g}"
 
@@ -141,9 +141,7 @@ class Report:
         return f'<div class="verdict {"solved" if settled(fit) else "open"}">' + "<br>".join(parts) + "</div>"
 
     def notes(self):
-        counts = counts_of(self.fit.labels, self.n)
-        said = f"{counts['outliers']} outliers, {counts['undecided']} undecided, {counts['gaps']} gaps of {len(self.rows)} rows"
-        return "<ul>" + "".join(f"<li>{escaped(note)}</li>" for note in [said, *self.fit.notes]) + "</ul>"
+        return "<ul>" + "".join(f"<li>{escaped(note)}</li>" for note in [rows_text(self.fit.labels), *self.fit.notes]) + "</ul>"
 
     def page(self):
         title = f"{self.fit.settings.y}: {self.n} line{'s' if self.n > 1 else ''} from {os.path.basename(self.fit.source)}"

@@ -11,7 +11,12 @@ from .problems import BadInput
 from .scaling import Column, Scaling, digits_of, on_step, shown
 
 FORMAT = "vengutari fit 1"
-LABELS = {OUTLIER: "outlier", UNDECIDED: "undecided", GAP: "gap"}
+# The labels that are no line's: what one row is by it, and what several are.
+LABELS = {
+    OUTLIER: ("outlier", "outliers"),
+    **({UNDECIDED: ("undecided", "undecided")} if library.CROSSINGS else {}),
+    GAP: ("gap", "gaps") if library.GAPS else ("no y", "without y"),
+}
 SUMMED = ("points outside epsilon", "distance", "squared distance")
 
 
@@ -37,7 +42,7 @@ def line_value(coefficients, x):
 
 @dataclass
 class Row:
-    """What a row is by the fit: its label, the line that the two numbers are of, its value and the residual; None for a gap."""
+    """What a row is by the fit: its label, the line that the two numbers are of, its value and the residual; None without y."""
 
     label: int
     line: int
@@ -66,7 +71,12 @@ def root_mean_square(values):
 def counts_of(labels, n):
     """How many rows have each label."""
     counts = {f"line {j}": labels.count(j) for j in range(1, n + 1)}
-    return {**counts, "undecided": labels.count(UNDECIDED), "outliers": labels.count(OUTLIER), "gaps": labels.count(GAP)}
+    return {**counts, **{several: labels.count(label) for label, (_, several) in LABELS.items()}}
+
+
+def rows_text(labels):
+    """How many rows there are, and how many are of no line."""
+    return f"rows: {len(labels)}, of them " + ", ".join(f"{count} {name}" for name, count in counts_of(labels, 0).items())
 
 
 # The certificate
@@ -126,7 +136,7 @@ def wide_sentence(wide):
 
 
 def settled(fit):
-    return fit.answer.kind == "solved" or fit.answer.cost == fit.answer.bound
+    return fit.answer.kind == "solved"
 
 
 def advice(fit):
@@ -144,8 +154,8 @@ def advice(fit):
 
 def headline(fit):
     answer = fit.answer
-    why = {"time": ", the time is over", "interrupt": ", interrupted", "splits": ", all splits are used", "rows": ", no row is left"}
-    why["solved"] = "" if answer.kind == "solved" else ", but nothing is better"
+    why = {"time": ", the time limit allows no more", "interrupt": ", interrupted", "splits": ", all splits are used",
+           "rows": ", the table has no row left", "solved": ""}
     head = f"{answer.kind}{why[fit.outcome.stopped]}: gap {gap_text(answer)}"
     return f"{head}, {answer.splits:,} splits, {answer.open:,} boxes open, {fit.outcome.seconds:.1f} s"
 
@@ -160,8 +170,7 @@ def summary(fit):
         residuals = [row.residual for row in rows if row.label == j + 1]
         rms = "" if not residuals else f", RMS {digits_of(Fraction(root_mean_square(residuals)), 3)}"
         text.append(f"line {j + 1}: {equation(fit.scaling, line)}   ({len(residuals)} points{rms})")
-    counts = counts_of(fit.labels, n)
-    text.append(f"rows: {len(fit.labels)}, of them {counts['outliers']} outliers, {counts['undecided']} undecided, {counts['gaps']} gaps")
+    text.append(rows_text(fit.labels))
     boxes = box_text(fit.scaling, fit.low, fit.high)
     text.append("box: " + "; ".join(f"line {j + 1} {box}" for j, box in enumerate(boxes)))
     text.append("grid: " + grid_text(fit.scaling))

@@ -43,7 +43,11 @@ class Limits:
 
 @dataclass
 class Outcome:
-    """answer is that of one run of the library; stopped says why no more were made: solved, time, splits, rows or interrupt."""
+    """answer is that of one run of the library; stopped says why no more were made: solved, time, splits, rows or interrupt.
+
+    t is the tolerance that the gap allows at this answer's cost. A run's own tolerance goes by the cost that it starts from, which may be
+    higher: an answer that is solved by that one and not by t is given as spent, as the library says of t and so many splits.
+    """
 
     answer: object
     stopped: str
@@ -94,7 +98,7 @@ class Runs:
         self.rows = limits.rows or rows_in_memory()
         self.start = list(job.start)
         self.best = None
-        self.t = 0
+        self.t = self.tolerance(library.cost(job.store, job.model, job.start))
         self.lengths = []
 
     def seconds(self):
@@ -130,11 +134,12 @@ class Runs:
     def take(self, answer):
         """The answer with the least distance of cost and bound is kept; the next run starts at the vector of the last, never dearer."""
         self.start = answer.vector
-        if self.best is None or answer.kind == "solved" or answer.cost - answer.bound <= self.best.cost - self.best.bound:
+        if self.best is None or answer.cost - answer.bound <= self.best.cost - self.best.bound:
             self.best = answer
 
-    def tolerance(self):
-        return min(LARGEST_TOLERANCE, int(self.limits.gap * self.best.cost)) if self.best else 0
+    def tolerance(self, cost):
+        """How far the bound may lie below a cost, by the gap."""
+        return min(LARGEST_TOLERANCE, int(self.limits.gap * cost))
 
     def next_splits(self, splits):
         """Twice the splits, or as many as the time left allows by the runs before, or None where that is hardly more than before."""
@@ -151,11 +156,11 @@ class Runs:
 
     def stopped(self, answer, splits):
         """Why the runs are over after this answer to so many splits, or None."""
-        if self.best.cost == self.best.bound or (answer.kind == "solved" and answer.cost - answer.bound <= self.tolerance()):
+        if answer.kind == "solved" and answer.cost - answer.bound <= self.tolerance(answer.cost):
             return "solved"
         if answer.kind == "full":
             return "rows"
-        if splits >= self.limits.splits:
+        if answer.kind == "spent" and splits >= self.limits.splits:
             return "splits"
         return "time" if self.left() <= 0 else None
 
@@ -171,14 +176,15 @@ class Runs:
                 self.take(answer)
                 why = self.stopped(answer, splits)
                 if why is None:
-                    self.t = self.tolerance()
+                    self.t = self.tolerance(answer.cost)
                     splits = self.next_splits(splits)
                     why = "time" if splits is None else None
         except KeyboardInterrupt:
             if self.best is None:
                 raise
             why = "interrupt"
-        return Outcome(self.best, why, self.seconds(), self.t)
+        answer = self.best._replace(kind="spent") if self.best.kind == "solved" and why != "solved" else self.best
+        return Outcome(answer, why, self.seconds(), self.tolerance(answer.cost))
 
 
 def search(library, job, limits, progress=None):

@@ -139,11 +139,13 @@ def median(values):
 
 
 def columns_for(points, x_names, y_name, offset, steps, y_step):
-    """The scaling of all columns, with the scale still 0, and notes of what is rounded."""
+    """The scaling of all columns by the rows with y, with the scale still 0, and notes of what is rounded."""
     notes = []
-    y = column_for(y_name, [value for value in points.y if value is not None], y_step, notes)
-    x = [column_for(name, values, step, notes) for name, values, step in zip(x_names, zip(*points.x), steps)]
-    used = [row for row in whole_points(points, Scaling(x, y)) if row is not None]
+    samples = [(values, height) for values, height in zip(points.x, points.y) if height is not None]
+    y = column_for(y_name, [height for _, height in samples], y_step, notes)
+    columns = zip(*(values for values, _ in samples))
+    x = [column_for(name, values, step, notes) for name, values, step in zip(x_names, columns, steps)]
+    used = [row for row in whole_points(points, Scaling(x, y)) if row is not None and row[1] is not None]
     columns = list(zip(*(values for values, _ in used)))
     for column, values in zip(x, columns):
         if offset and min(values) == max(values):

@@ -17,7 +17,7 @@ TOOL = str(ROOT / "tools" / "vengutari")
 
 @dataclass
 class Made:
-    """Lines are (coefficients .., offset). labels has what made each row: its line from 1, 0 an outlier, 6 a gap."""
+    """Lines are (coefficients .., offset). labels has what made each row: its line from 1, 0 an outlier, None without y."""
 
     lines: list
     ranges: list
@@ -54,8 +54,8 @@ class Made:
         lines = ["# made by a test", self.delimiter.join(names)]
         for k in range(self.count):
             x, y, label = self.row(numbers)
-            if k % 11 == 5 and self.labels.count(6) < self.gaps:
-                y, label = None, 6
+            if k % 11 == 5 and self.labels.count(None) < self.gaps:
+                y, label = None, None
             self.x.append(x)
             self.y.append(y)
             self.labels.append(label)

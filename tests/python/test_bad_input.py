@@ -7,8 +7,11 @@ import subprocess
 import sys
 import tempfile
 import unittest
+import unittest.mock
 
 from made_points import TOOL, Made, run
+
+from vengutari import command
 
 GOOD = "adc_raw,current_mA,frame,note\n" + "".join(f"{x},{0.5 * x + 10:.1f},{x},n\n" for x in range(100, 900, 40))
 ONE = ["--x", "adc_raw", "--y", "current_mA", "--epsilon", "2"]
@@ -35,7 +38,8 @@ FILES = {
     "a long row": (GOOD + "3,3,3,n,5,6\n", None, 1, "line 22: 6 fields where 4 are due"),
     "y is empty": ("a,b\n1,\n2,\n", ["--x", "a", "--y", "b", "--epsilon", "2"], 1, "b is empty in every row"),
     "a frame that is not whole": (GOOD + "3,3,1.5,n\n", [*ONE, "--frame", "frame"], 1, "a frame is a whole number"),
-    "a frame that is a time": (GOOD + "3,3,12:00:01,n\n", [*ONE, "--frame", "frame"], 1, "'12:00:01' is not a number"),
+    "a frame that is a time": (
+        GOOD + "3,3,12:00:01,n\n", [*ONE, "--frame", "frame"], 1, "a frame is a whole number, not '12:00:01'; without --frame"),
     "not text": (b"\x00\x01\x02\x03", None, 1, "not a text file"),
     "a constant column beside the offset": ("a,b\n5,1\n5,2\n5,3\n", ["--x", "a", "--y", "b", "--epsilon", "2"], 1, "or give --no-offset"),
     "a column of zeros": ("a,b\n0,1\n0,2\n", ["--x", "a", "--y", "b", "--epsilon", "2", "--no-offset"], 1, "a is 0 in every row"),
@@ -182,17 +186,39 @@ class Process(unittest.TestCase):
         self.path.write_text(made.text(), encoding="utf-8")
         words = ["fit", str(self.path), "--x=x1", "--y=y", "--lines=3", "--epsilon=5", "--loss=absolute", "--scale=10", "--time-limit=0"]
         with subprocess.Popen([sys.executable, TOOL, *words], stdout=subprocess.PIPE, stderr=subprocess.PIPE,
-                              preexec_fn=lambda: signal.signal(signal.SIGINT, signal.default_int_handler)) as command:
-            line = command.stderr.readline()
-            command.send_signal(signal.SIGINT)
-            out, err = command.communicate()
+                              preexec_fn=lambda: signal.signal(signal.SIGINT, signal.default_int_handler)) as process:
+            line = process.stderr.readline()
+            process.send_signal(signal.SIGINT)
+            out, err = process.communicate()
         for word in (b" s ", b" splits ", b" open ", b" C ", b" L ", b" gap ", b" %"):
             self.assertIn(word, line)
-        self.assertEqual(command.returncode, 3, err)
+        self.assertEqual(process.returncode, 3, err)
         self.assertNotIn(b"Traceback", err)
         self.assertTrue(out.startswith(b"spent, interrupted: gap "), out)
         self.assertIn(b"the cost is at least", out)
         self.assertIn(b"next: ", out)
+
+    def test_signals_together_are_one(self):
+        """A second one does not cut off the answer that the first leads to; a later one is heeded; where Ctrl-C is ignored it stays so."""
+        for number in (signal.SIGINT, signal.SIGTERM):
+            self.addCleanup(signal.signal, number, signal.getsignal(number))
+        signal.signal(signal.SIGINT, signal.default_int_handler)
+        command.Interrupts()
+        with self.assertRaises(KeyboardInterrupt):
+            signal.raise_signal(signal.SIGINT)
+        signal.raise_signal(signal.SIGTERM)
+        signal.raise_signal(signal.SIGINT)
+        with unittest.mock.patch.object(command, "TOGETHER", -1), self.assertRaises(KeyboardInterrupt):
+            signal.raise_signal(signal.SIGTERM)
+        signal.signal(signal.SIGINT, signal.SIG_IGN)
+        command.Interrupts()
+        signal.raise_signal(signal.SIGINT)
+
+    def test_interrupt_while_the_command_is_loaded(self):
+        """A module that plays Ctrl-C stands before Python's own."""
+        (self.path.parent / "fractions.py").write_text("raise KeyboardInterrupt\n")
+        done = self.command("fit", self.path, *ONE, stdout=subprocess.PIPE, env={**os.environ, "PYTHONPATH": str(self.path.parent)})
+        self.assertEqual((done.returncode, done.stdout, done.stderr), (130, b"", b""))
 
     def test_text_without_the_letters(self):
         done = self.command("fit", self.path, *ONE, stdout=subprocess.PIPE, env={**os.environ, "PYTHONIOENCODING": "ascii"})

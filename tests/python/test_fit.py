@@ -80,7 +80,9 @@ class Fits(unittest.TestCase):
             self.assertIn(line["equation"], out)
         self.assertIn(found["certificate"], out)
         self.assertIn("in this box and on this grid", out)
-        self.assertIn(f"{made.labels.count(6)} gaps", out)
+        counts = [found["labels"]["outliers"], made.labels.count(None)]
+        self.assertIn("rows: {}, of them {} outliers, {} without y\n".format(made.count, *counts), out)
+        self.assertEqual(sum(found["labels"].values()), made.count)
         self.assertLessEqual(len(out.splitlines()), 14)
 
     def paired(self, made, found):
@@ -104,7 +106,7 @@ class Fits(unittest.TestCase):
 
     @for_each
     def test_labels_are_those_behind_the_points(self, done):
-        """But for points that two lines are near, which may go to either or be undecided."""
+        """But for points that two lines are near, which may go to either."""
         made, files, found = done.made, done.files, done.found
         pairs, epsilon = self.paired(made, found), float(Fraction(found["settings"]["epsilon"]))
         with open(files["labels"], encoding="utf-8", newline="") as file:
@@ -113,7 +115,7 @@ class Fits(unittest.TestCase):
         for x, y, truth, row in zip(made.x, made.y, made.labels, rows):
             near = y is not None and sum(abs(y - made.value(j, x)) <= 2.5 * epsilon for j in range(len(made.lines))) > 1
             if not near:
-                self.assertEqual(int(row["label"]), pairs[truth - 1][0] + 1 if 1 <= truth <= 4 else truth)
+                self.assertEqual(row["label"], "" if truth is None else str(pairs[truth - 1][0] + 1 if truth else 0))
 
     @for_each
     def test_fitted_values_and_residuals(self, done):

@@ -236,7 +236,7 @@ class Command(unittest.TestCase):
 
     def test_refused_job(self):
         done = command("job", str(self.points), *FIT_G, "--fit", self.fit_that_writes("refused 8\n"))
-        self.assertEqual((done.returncode, done.stdout), (1, b"refused 8, table: rows not 1 to 2,048\n"))
+        self.assertEqual((done.returncode, done.stdout), (1, b"refused 8, table: no row, or more rows than allowed\n"))
 
     def test_messages(self):
         def message(words, *given):

@@ -1,9 +1,9 @@
 """The commands on files from before, the limits of a search, the wide search, the user's own box, and the Python interface."""
 
+import ctypes
 import json
 import pathlib
 import struct
-import sys
 import tempfile
 import unittest
 from fractions import Fraction
@@ -41,7 +41,7 @@ class Later(unittest.TestCase):
         target = self.folder / "again.csv"
         status, out, _ = run("label", self.data, "--fit", self.files["json"], "--labels", target)
         self.assertEqual((status, target.read_text(encoding="utf-8")), (0, self.files["labels"].read_text(encoding="utf-8")))
-        self.assertIn("2 gaps", out)
+        self.assertRegex(out, "^line 1: [0-9]+, line 2: [0-9]+, [0-9]+ outliers, 2 without y\n$")
 
     def test_label_takes_more_points_than_a_search(self):
         many = self.folder / "many.csv"
@@ -49,6 +49,13 @@ class Later(unittest.TestCase):
         status, out, err = run("label", many, "--fit", self.files["json"], "--x=raw", "--y=amps")
         self.assertEqual((status, err), (0, ""))
         self.assertEqual([row.split(";")[3] for row in out.splitlines()[1:]], ["1"] * 5000)
+
+    def test_label_near_two_lines_is_the_nearest(self):
+        """0.8 x - 13.5 and 0.31 x + 220 are 362.5 and 365.7 at 470: both rows lie within epsilon of both lines."""
+        near = self.folder / "near.csv"
+        near.write_text("x1,y\n470,363\n470,365.2\n470,\n", encoding="utf-8")
+        status, out, _ = run("label", near, "--fit", self.files["json"])
+        self.assertEqual((status, [row.split(",")[2] for row in out.splitlines()]), (0, ["label", "1", "2", ""]))
 
     def test_label_refuses_what_does_not_fit(self):
         far = self.folder / "far.csv"
@@ -61,16 +68,19 @@ class Later(unittest.TestCase):
         self.assertEqual((status, [row.split(",")[2] for row in out.splitlines()[1:]]), (0, ["0", "0"]))
 
     def test_spikes_do_not_take_the_digits(self):
-        """Two values far beyond the rest are outliers, and the answer is that without them."""
+        """Two values far beyond the rest are outliers, an x there without y is none, and the answer is that without them."""
         lines = TWO.text().splitlines()
         spiked = self.folder / "spiked.csv"
-        spiked.write_text("\n".join([*lines, "60,2000,999999,spike", "61,2500,-99999.5,spike"]) + "\n", encoding="utf-8")
+        spiked.write_text("\n".join([*lines, "60,2000,999999,spike", "61,2500,-99999.5,spike", "62,99999,,spike"]) + "\n", encoding="utf-8")
         status, out, err = run("fit", spiked, *WORDS, "--json")
         self.assertEqual((status, err), (0, ""))
         found = json.loads(out)
         self.assertEqual((found["vector"], found["cost"], found["bound"]), tuple(self.found[key] for key in ("vector", "cost", "bound")))
         self.assertEqual(found["labels"]["outliers"], self.found["labels"]["outliers"] + 2)
-        self.assertIn("2 rows lie far beyond the others", " ".join(found["notes"]))
+        self.assertEqual(found["labels"]["without y"], 3)
+        notes = " ".join(found["notes"])
+        self.assertIn("2 rows lie far beyond the others", notes)
+        self.assertIn("3 rows have no y: they are left out of the search and have no label", notes)
 
     def test_coefficients_of_a_fit_and_of_a_record(self):
         status, out, _ = run("coefficients", self.files["json"])
@@ -145,7 +155,7 @@ class Limits(unittest.TestCase):
         made = self.fitted(0, "--wide")
         wide, samples = made["wide"], TWO.count - 2
         self.assertEqual((wide["kind"], wide["samples"], wide["most"]), ("solved", samples, samples - wide["bound"]))
-        self.assertEqual(wide["fitted"], made["labels"]["line 1"] + made["labels"]["line 2"] + made["labels"]["undecided"])
+        self.assertEqual(wide["fitted"], made["labels"]["line 1"] + made["labels"]["line 2"])
         self.assertIn(f"no lines of the wide box and grid fit more than {wide['most']} of {samples} points", wide["certificate"])
         for side, narrow in zip(wide["box"], made["box"]):
             self.assertTrue(side["low"] < narrow["low"] and narrow["high"] < side["high"])
@@ -179,8 +189,9 @@ class Interface(unittest.TestCase):
         with tempfile.TemporaryDirectory() as folder:
             path = pathlib.Path(folder) / "points.csv"
             path.write_text(TWO.text(), encoding="utf-8")
-            found = vengutari.fit(path, x=["x1"], y="y", lines=2, epsilon=3)
-            self.assertIn("solved", vengutari.summary(found))
+            for x in ("x1", ["x1"]):
+                found = vengutari.fit(path, x=x, y="y", lines=2, epsilon=3)
+                self.assertIn("solved", vengutari.summary(found))
 
     def test_calls(self):
         """Every call once, on the paper's fits and on values by hand."""
@@ -202,12 +213,42 @@ class Interface(unittest.TestCase):
         self.assertEqual(calls.read_line(1, 1, [0xBFC00000, 0, 0, 0]), [-3])
         self.assertEqual(calls.take_in(bytes(24), 12, store[:12]), (bytes(12) + store[:12], 24))
 
-    def test_refusals(self):
+    def test_stray_record(self):
+        """Refusal 7 names the record, the first and the last of a store among them, from every call that makes it."""
+        calls, model = library.find(), library.Model(1, 1, 0, 1, 2)
+        for stray in (0, 1, 255, 256, 4095):
+            store, _ = scaling.store_of([([1, 5 if k == stray else 0], 2) for k in range(4096)], range(4096))
+            for call in (lambda: calls.cost(store, model, [0]), lambda: calls.bound(store, model, [0], [3]),
+                         lambda: calls.labels(store, model, [0]), lambda: calls.search(store, model, 0, 10, [0], [3], [0], 4)):
+                with self.assertRaises(library.Refused) as caught:
+                    call()
+                self.assertEqual((caught.exception.number, caught.exception.record), (7, stray))
+                self.assertIn(f"record {stray}", str(caught.exception))
+
+    def test_stray_record_comes_by_the_code_alone(self):
+        """*value is kept, whatever it held: it is no part of a refusal."""
         calls = library.find()
         store, _ = scaling.store_of([([1, 0], 2), ([1, 5], 2)], [0, 1])
+        value, vector = ctypes.c_uint64(99), (ctypes.c_int16 * 8)()
+        lent = (ctypes.c_uint8 * len(store)).from_buffer_copy(store)
+        code = calls._calls.vengutari_cost(lent, len(store), 1, 1, 0, 1, 2, vector, 8, ctypes.byref(value))
+        self.assertEqual((code, value.value), (7 + 256, 99))
+
+        class Marked:
+            """A library that leaves a mark in *value, as any memory may hold one."""
+
+            def vengutari_cost(self, *given):
+                given[-1]._obj.value = 99
+                return 7 + 256
+
+        calls._calls = Marked()
         with self.assertRaises(library.Refused) as caught:
             calls.cost(store, library.Model(1, 1, 0, 1, 2), [0])
         self.assertEqual((caught.exception.number, caught.exception.record), (7, 1))
+
+    def test_refusals(self):
+        calls = library.find()
+        store, _ = scaling.store_of([([1, 0], 2), ([1, 5], 2)], [0, 1])
         with self.assertRaises(library.Refused) as caught:
             calls.search(store, library.Model(1, 2, 0, 1, 2), 0, 10, [0, 0], [3, 3], [9, 0], 4)
         self.assertEqual((caught.exception.number, caught.exception.record), (6, None))

@@ -75,9 +75,8 @@ class Package(unittest.TestCase):
                     self.said(compiler, *strict, "-Wall", "-Wextra", "-Werror", source, *link, "-o", "program")
                     lines = self.said("./program", LD_LIBRARY_PATH=str(self.prefix / "lib")).splitlines()
                     self.assertEqual(lines[:2], [vengutari.__version__, "0 2"])
-                    words = {k: library.MESSAGES.get(k, "no code of this library") for k in (*range(1, 13), 255)}
-                    self.assertEqual({k: lines[2 + k] for k in words}, words)
-                    self.assertEqual(lines[2], "accepted")
+                    words = [library.MESSAGES.get(k, "no code of this library") for k in range(1, 256)]
+                    self.assertEqual(lines[2:], ["accepted", *words])
 
     def test_from_python(self):
         code = "import vengutari.library as l; c = l.find(); print(c.path, c.loss(2, 4, -5))"

@@ -88,18 +88,20 @@ class Report(unittest.TestCase):
                     self.assertIn(line["equation"], everything)
                 for note in found["notes"]:
                     self.assertIn(note, everything)
+                self.assertIn(f"{found['labels']['outliers']} outliers, {found['labels']['without y']} without y", everything)
+                self.assertNotRegex(everything, "undecided|gaps")
                 if found["wide"]:
                     self.assertIn(found["wide"]["certificate"], "".join(page.text["wide"]))
                 self.assertEqual("class=\"verdict solved\"" in text, found["kind"] == "solved")
                 self.assertEqual(f"Next: {found['next']}" in everything, found["kind"] != "solved")
 
     def test_every_row_is_shown(self):
-        """Each sample in both pictures, each gap among the residuals, by the words that a mark says; and all marks inside the picture."""
+        """Each sample in both pictures, each row without y among the residuals, by the words of a mark, and all marks in the picture."""
         for name, (made, text, _) in self.done.items():
             with self.subTest(name):
                 titles = [title for title in Page(text).text["title"] if title.startswith("row ")]
                 for k, label in enumerate(made.labels):
-                    self.assertEqual(sum(title.startswith(f"row {k + 1}, frame {k}: ") for title in titles), 1 if label == 6 else 2)
+                    self.assertEqual(sum(title.startswith(f"row {k + 1}, frame {k}: ") for title in titles), 1 if label is None else 2)
                 for cx, cy in re.findall(r'<circle cx="([^"]+)" cy="([^"]+)"', text):
                     self.assertTrue(0 <= float(cx) <= 960 and 0 <= float(cy) <= 520)
 
