@@ -20,7 +20,7 @@ struct found {
     uint64_t kind;
 };
 
-/* w from 0 to 3; distances count up to 2; at most 10 splits, in a table of 4 rows. */
+/* w from 0 to 3; distances count up to 2; at most 10 splits, in a table of 4 rows with their bounds. */
 static uint32_t search(const uint8_t *store, size_t length, const int16_t *start, struct found *found)
 {
     const uint8_t p = 1;
@@ -28,8 +28,9 @@ static uint32_t search(const uint8_t *store, size_t length, const int16_t *start
     const uint64_t tolerance = 0;
     const int16_t corners[16] = {0, 0, 0, 0, 0, 0, 0, 0, 3};
     int16_t table[ROWS * 16];
+    uint64_t bounds[ROWS];
     return vengutari_search(store, length, n, d, scale, p, eps, tolerance, budget, corners, 16, start, 8, table, ROWS * 16,
-                            found->vector, 8, found->numbers, 5, &found->kind);
+                            bounds, ROWS, found->vector, 8, found->numbers, 5, &found->kind);
 }
 
 static void print_answer(const struct found *found)

@@ -2,10 +2,10 @@
  * target/staticlib/libcapi.a, which `rt staticlib capi` writes.
  *
  * Each call returns a code:
- *   0         accepted
- *   1 to 12   refused, by the number of the paper's table of refusals; 7 (an x after the d-th is not 0) comes with 256 times the number of
- *             that record added, records counting from 0
- *   255       a buffer has the wrong length; looked at before everything else
+ *   0            accepted
+ *   1 to 12, 14  refused, by the paper's number of the refusal; 7 (an x after the d-th is not 0) comes with 256 times the number of that
+ *                record added, records counting from 0
+ *   255          a buffer has the wrong length; looked at before everything else
  * VENGUTARI_NUMBER takes the number out of a code, and VENGUTARI_RECORD the record.
  *
  * Results go into memory that the caller lends. A call that is not accepted leaves all of it as it is.
@@ -57,15 +57,16 @@ uint32_t vengutari_split(uint8_t n, uint8_t d, const int16_t *corners, size_t co
 uint32_t vengutari_labels(const uint8_t *store, size_t store_len, uint8_t n, uint8_t d, uint8_t scale, uint8_t p, uint32_t eps,
                           const int16_t *vector, size_t vector_len, uint8_t *labels, size_t labels_len, uint64_t *value);
 
-/* Searches a box for the cheapest vector, splitting boxes at most budget times, until C - L is at most t. The rows of 16 numbers that table has
- * hold the open boxes. *value is the kind of the answer: 1 solved, 2 spent, 3 full. vector takes the best vector, and numbers takes its cost C, the
- * lower bound L for every vector of the box, the splits counted, the open boxes and the peak of their number. The first rows of table are then the
- * open boxes; those from there up to the peak may hold leftovers; everything behind keeps what it held.
- * Refusals 1 to 8; 255 where corners_len is not 16, start_len or vector_len not 8, or numbers_len not 5. */
+/* Searches a box for the cheapest vector, splitting boxes at most budget times, until C - L is at most t. The rows of 16 numbers that
+ * table has hold the open boxes, and the entries of bounds beside them their bounds. *value is the kind of the answer: 1 solved,
+ * 2 spent, 3 full. vector takes the best vector, and numbers takes its cost C, the lower bound L for every vector of the box, the splits
+ * counted, the open boxes and the peak of their number. The first rows of table are then the open boxes, and the first entries of bounds
+ * their bounds; those from there up to the peak may hold leftovers; everything behind keeps what it held. Refusals 1 to 8, and 14 where
+ * bounds has fewer entries than table has rows; 255 where corners_len is not 16, start_len or vector_len not 8, or numbers_len not 5. */
 uint32_t vengutari_search(const uint8_t *store, size_t store_len, uint8_t n, uint8_t d, uint8_t scale, uint8_t p, uint32_t eps,
                           uint64_t t, uint32_t budget, const int16_t *corners, size_t corners_len, const int16_t *start, size_t start_len,
-                          int16_t *table, size_t table_len, int16_t *vector, size_t vector_len, uint64_t *numbers, size_t numbers_len,
-                          uint64_t *value);
+                          int16_t *table, size_t table_len, uint64_t *bounds, size_t bounds_len, int16_t *vector, size_t vector_len,
+                          uint64_t *numbers, size_t numbers_len, uint64_t *value);
 
 /* Copies a beacon into the store from byte mark on; *value is the new mark. The store may have any length. Refusals 1, 10 and 11. */
 uint32_t vengutari_take_in(uint8_t *store, size_t store_len, size_t mark, const uint8_t *beacon, size_t beacon_len, uint64_t *value);
@@ -127,6 +128,7 @@ static inline const char *vengutari_message(uint32_t code)
     case 10: return "short: the output is too small";
     case 11: return "beacon: over 236 bytes";
     case 12: return "off grid: a single-precision number that no coefficient has";
+    case 14: return "bounds: fewer entries than rows";
     case 255: return "a buffer has the wrong length";
     default: return "no code of this library";
     }

@@ -3,16 +3,22 @@ use crate::plain::Model;
 use crate::random::Random;
 use crate::search::{Domain, Job};
 
-/// What a job is made from. Each side of its box goes from -side to side; noise and ε are in units of y, outliers in percent.
+/// What a job is made from. Each side of its box goes from -side to side, the hidden lines lie from -hidden to hidden in it, and each x goes
+/// from -reach to reach; with an offset the last x is a constant. Noise and ε are in units of y, outliers in percent.
+#[derive(Clone, Copy)]
 pub struct Shape {
     pub n: usize,
     pub d: usize,
     pub p: u8,
     pub points: usize,
     pub side: i16,
+    pub hidden: i16,
+    pub reach: i16,
+    pub offset: bool,
     pub noise: i16,
     pub eps: u32,
     pub outliers: i16,
+    pub t: u64,
     pub budget: u32,
     pub rows: usize,
 }
@@ -24,9 +30,13 @@ const fn lines(n: usize, d: usize, p: u8, points: usize) -> Shape {
         p,
         points,
         side: 1000,
+        hidden: 1000,
+        reach: 100,
+        offset: d > 1,
         noise: 10,
         eps: 10,
         outliers: 20,
+        t: 0,
         budget: 400,
         rows: 2048,
     }
@@ -36,6 +46,7 @@ const fn lines(n: usize, d: usize, p: u8, points: usize) -> Shape {
 const fn rough(shape: Shape) -> Shape {
     Shape {
         side: 32_000,
+        hidden: 32_000,
         noise: 400,
         eps: 300,
         outliers: 70,
@@ -60,7 +71,24 @@ const fn rows(rows: usize, shape: Shape) -> Shape {
     Shape { rows, ..shape }
 }
 
-pub static SHAPES: [Shape; 12] = [
+/// The experiment of source document 000, section 5.1, with two modes, two dimensions and 500 points: parameters from -10 to 10, hidden ones and x
+/// from -5 to 5, noise of standard deviation 0.1. Here a parameter w stands for w / 128 and one unit of y for 1/500, so each side has 2,561
+/// values; the noise is uniform, and the tolerance is 0.001 of what it costs. No residual is over the threshold.
+const PUBLISHED: Shape = Shape {
+    side: 1280,
+    hidden: 640,
+    reach: 2500,
+    offset: false,
+    noise: 87,
+    eps: 131_071,
+    outliers: 0,
+    t: 20_000_000,
+    budget: 30_000,
+    rows: 32_768,
+    ..lines(2, 2, 2, 500)
+};
+
+pub static SHAPES: [Shape; 14] = [
     rough(lines(1, 1, 1, 1024)),
     rough(lines(1, 1, 2, 512)),
     noisy(lines(1, 2, 0, 256)),
@@ -73,7 +101,20 @@ pub static SHAPES: [Shape; 12] = [
     budget(300, lines(2, 2, 2, 128)),
     lines(1, 4, 1, 128),
     budget(200, lines(4, 2, 1, 128)),
+    PUBLISHED,
+    growing(12_000),
 ];
+
+/// Budgets of the searches that say what a split takes by how many boxes are open.
+pub const GROWTH: [u32; 6] = [500, 1_000, 2_000, 4_000, 8_000, 16_000];
+
+/// A search in which nearly every split leaves one more box open.
+pub const fn growing(splits: u32) -> Shape {
+    rows(
+        splits as usize + 1,
+        budget(splits, noisy(lines(2, 4, 1, 128))),
+    )
+}
 
 const SCALE: u32 = 7;
 /// The last x where there are several, so that a line has an offset.
@@ -83,7 +124,7 @@ impl Shape {
     fn store(&self) -> Vec<u8> {
         let mut random = Random::new(4711);
         let hidden: Vec<i64> = (0..self.n * self.d)
-            .map(|_| i64::from(random.between(-self.side, self.side)))
+            .map(|_| i64::from(random.between(-self.hidden, self.hidden)))
             .collect();
         let lines: Vec<&[i64]> = hidden.chunks_exact(self.d).collect();
         let mut store = Vec::with_capacity(12 * self.points);
@@ -91,9 +132,9 @@ impl Shape {
             let line = lines[frame % self.n];
             let mut x = [0; 4];
             for value in &mut x[..self.d] {
-                *value = random.between(-100, 100);
+                *value = random.between(-self.reach, self.reach);
             }
-            if self.d > 1 {
+            if self.offset {
                 x[self.d - 1] = OFFSET;
             }
             let dot: i64 = line.iter().zip(x).map(|(w, x)| w * i64::from(x)).sum();
@@ -128,7 +169,7 @@ impl Shape {
                 p: self.p,
                 eps: self.eps << SCALE,
             },
-            t: 0,
+            t: self.t,
             budget: self.budget,
             rows: self.rows,
             domain,

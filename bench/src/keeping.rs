@@ -1,11 +1,11 @@
-//! A search in plain Rust that keeps the bounds beside its open boxes, so that each is found once.
+//! A search in plain Rust that keeps the bounds beside its open boxes, so that each is found once: the measure that the proved one is held to.
 use crate::search::{Answer, Domain, Job, Kind, Progress};
 
 /// The open boxes in list order, and their bounds.
 #[derive(Default)]
-struct Open {
-    domains: Vec<Domain>,
-    bounds: Vec<u64>,
+pub struct Open {
+    pub domains: Vec<Domain>,
+    pub bounds: Vec<u64>,
 }
 
 impl Open {
@@ -42,10 +42,10 @@ impl Open {
     }
 }
 
+/// The open boxes are left in `open`, which is empty before.
 #[inline(never)]
-pub fn search(job: &Job) -> Answer {
+pub fn search(job: &Job, open: &mut Open) -> Answer {
     let best = job.start();
-    let mut open = Open::default();
     let first = job.bound_up_to(&job.domain, best.cost);
     if first < best.cost {
         open.push(job.domain, first);

@@ -2,6 +2,7 @@
 //!
 //!     bench evaluations [ROUNDS]     one evaluation of a cost and of a bound: the least of 400 interleaved rounds, or of ROUNDS
 //!     bench search [ROUNDS]          whole searches, the least of 10 rounds
+//!     bench growth [ROUNDS]          what a split takes by how many boxes are open, the least of 3 rounds
 //!     bench compare                  that both sides give the same, without times; the last line is 'N passed, M failed'
 //!     bench once N D P               one evaluation of each, for counting instructions
 //!     bench once-search NUMBER       one search of each kind on the job of that number, for the same
@@ -12,7 +13,6 @@ mod keeping;
 mod plain;
 mod random;
 mod rattle;
-mod recomputing;
 mod search;
 mod searches;
 
@@ -30,12 +30,14 @@ fn main() {
         ("evaluations", 2) => evaluations::table(number(1)),
         ("search", 1) => searches::table(10),
         ("search", 2) => searches::table(number(1)),
+        ("growth", 1) => searches::growth(3),
+        ("growth", 2) => searches::growth(number(1)),
         ("compare", 1) => compare(),
         ("once", 4) => evaluations::once(number(1), number(2), number(3) as u8),
         ("once-search", 2) => searches::once(number(1)),
         _ => {
             eprintln!(
-                "bench evaluations|search [ROUNDS] | compare | once N D P | once-search NUMBER"
+                "bench evaluations|search|growth [ROUNDS] | compare | once N D P | once-search NUMBER"
             );
             std::process::exit(2);
         }

@@ -68,6 +68,8 @@ extern "C" {
         start_len: usize,
         table: *mut i16,
         table_len: usize,
+        bounds: *mut u64,
+        bounds_len: usize,
         vector: *mut i16,
         vector_len: usize,
         numbers: *mut u64,
@@ -157,7 +159,7 @@ pub fn bound_call(store: &[u8], m: Model, corners: &[i16; 16]) -> (u32, u64) {
 }
 
 /// A whole search.
-pub fn search(job: &Job, table: &mut [i16]) -> Answer {
+pub fn search(job: &Job, table: &mut [i16], bounds: &mut [u64]) -> Answer {
     let m = job.model;
     let corners = job.domain.corners();
     let mut vector = [0; 8];
@@ -181,6 +183,8 @@ pub fn search(job: &Job, table: &mut [i16]) -> Answer {
             job.start.len(),
             table.as_mut_ptr(),
             table.len(),
+            bounds.as_mut_ptr(),
+            bounds.len(),
             vector.as_mut_ptr(),
             vector.len(),
             numbers.as_mut_ptr(),

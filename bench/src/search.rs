@@ -1,4 +1,4 @@
-//! What both plain searches share: a job, an answer, what is carried from step to step, and the cut of a box.
+//! What a plain search is made of: a job, an answer, what is carried from step to step, and the cut of a box.
 use crate::plain::{bound_up_to, cost_up_to, Model};
 
 /// A box.

@@ -1,17 +1,41 @@
-//! Whole searches: the proved one against plain Rust that finds its bounds again as it does, and against plain Rust that keeps them.
-use crate::jobs::{Shape, SHAPES};
+//! Whole searches: the proved one against plain Rust that keeps its bounds as well.
+use crate::jobs::{self, Shape, SHAPES};
+use crate::keeping::{self, Open};
 use crate::search::{Answer, Job};
-use crate::{clock, keeping, rattle, recomputing};
+use crate::{clock, rattle};
 use std::hint::black_box;
 
-/// All three give the same answer, and both tables are the same, before anything is timed.
+/// What a search of a job is lent.
+struct Lent {
+    table: Vec<i16>,
+    bounds: Vec<u64>,
+}
+
+impl Lent {
+    fn new(job: &Job) -> Lent {
+        Lent {
+            table: vec![0; 16 * job.rows],
+            bounds: vec![0; job.rows],
+        }
+    }
+
+    fn search(&mut self, job: &Job) -> Answer {
+        rattle::search(job, &mut self.table, &mut self.bounds)
+    }
+}
+
+fn plain(job: &Job) -> Answer {
+    keeping::search(job, &mut Open::default())
+}
+
+/// Both give the same answer, the same open boxes and the same bounds, before anything is timed.
 fn compare(job: &Job) -> Answer {
-    let mut table = vec![0; 16 * job.rows];
-    let mut other = table.clone();
-    let answer = rattle::search(job, &mut table);
-    assert_eq!(recomputing::search(job, &mut other), answer);
-    assert_eq!(keeping::search(job), answer);
-    assert_eq!(table[..16 * answer.open], other[..16 * answer.open]);
+    let (mut lent, mut open) = (Lent::new(job), Open::default());
+    let answer = lent.search(job);
+    assert_eq!(keeping::search(job, &mut open), answer);
+    let rows: Vec<i16> = open.domains.iter().flat_map(|d| d.corners()).collect();
+    assert_eq!(lent.table[..16 * answer.open], rows);
+    assert_eq!(lent.bounds[..answer.open], open.bounds);
     answer
 }
 
@@ -22,19 +46,23 @@ fn timed(least: f64, search: impl FnOnce() -> Answer) -> f64 {
     least.min((clock::processor_time() - start) as f64 / 1_000_000.0)
 }
 
-fn row(shape: &Shape, rounds: usize) -> [f64; 2] {
-    let job = shape.job();
-    let mut table = vec![0; 16 * job.rows];
-    let answer = compare(&job);
-    let mut least = [f64::INFINITY; 3];
+/// The least times of the proved search and of the plain one, over so many interleaved rounds.
+fn least_times(job: &Job, rounds: usize) -> [f64; 2] {
+    let mut lent = Lent::new(job);
+    let mut least = [f64::INFINITY; 2];
     for _ in 0..rounds {
-        least[0] = timed(least[0], || rattle::search(&job, &mut table));
-        least[1] = timed(least[1], || recomputing::search(&job, &mut table));
-        least[2] = timed(least[2], || keeping::search(&job));
+        least[0] = timed(least[0], || lent.search(job));
+        least[1] = timed(least[1], || plain(job));
     }
-    let [proved, recomputed, kept] = least;
+    least
+}
+
+fn row(shape: &Shape, rounds: usize) -> f64 {
+    let job = shape.job();
+    let answer = compare(&job);
+    let [proved, kept] = least_times(&job, rounds);
     println!(
-        "{} {} {} {:6}  {:6} {:6} {:5} {:5}  {proved:8.2}  {:6.2}  {:6.1}",
+        "{} {} {} {:6}  {:6} {:6} {:6} {:6}  {proved:8.2}  {kept:8.2}  {:6.2}",
         shape.n,
         shape.d,
         shape.p,
@@ -43,24 +71,41 @@ fn row(shape: &Shape, rounds: usize) -> [f64; 2] {
         answer.count,
         answer.open,
         answer.peak,
-        proved / recomputed,
         proved / kept
     );
-    [proved / recomputed, proved / kept]
+    proved / kept
 }
 
 /// Prints times in milliseconds and ratios, the least of so many interleaved rounds.
 pub fn table(rounds: usize) {
     println!("whole searches, least of {rounds} rounds, milliseconds for one");
-    println!("(a) plain Rust that finds bounds again at each step, (b) plain Rust that keeps them");
-    println!("n d p points  kind   splits  open  peak    Rattle  to (a)  to (b)");
-    let ratios: Vec<[f64; 2]> = SHAPES.iter().map(|shape| row(shape, rounds)).collect();
-    let largest = |k: usize| ratios.iter().map(|r| r[k]).fold(0.0, f64::max);
-    println!(
-        "largest ratio: to (a) {:.2}, to (b) {:.1}",
-        largest(0),
-        largest(1)
-    );
+    println!("n d p points  kind   splits   open   peak    Rattle      Rust   ratio");
+    let largest = SHAPES
+        .iter()
+        .map(|shape| row(shape, rounds))
+        .fold(0.0, f64::max);
+    println!("largest ratio: {largest:.2}");
+}
+
+/// Prints what a split takes by how many boxes are open: of a search in which every split leaves one more.
+pub fn growth(rounds: usize) {
+    println!("microseconds for a split, least of {rounds} rounds");
+    println!("open boxes from  to    Rattle      Rust   ratio");
+    let mut before = [0.0, 0.0];
+    let mut from = 0;
+    for splits in jobs::GROWTH {
+        let job = jobs::growing(splits).job();
+        let answer = compare(&job);
+        let times = least_times(&job, rounds);
+        let count = f64::from(splits - from) / 1000.0;
+        let [proved, kept] = [0, 1].map(|k| (times[k] - before[k]) / count);
+        println!(
+            "{from:10} {:9}  {proved:8.2}  {kept:8.2}  {:6.2}",
+            answer.open,
+            proved / kept
+        );
+        (before, from) = (times, splits);
+    }
 }
 
 /// Compares all jobs without timing them, and says how many they are.

@@ -1,6 +1,6 @@
 """The library, by ctypes. The signature of every call of include/vengutari.h stands here and nowhere else.
 
-The three switches below are what this module knows of requests that are still to land; each is one line to change.
+The two switches below are what this module knows of requests that are still to land; each is one line to change.
 """
 
 import ctypes
@@ -15,8 +15,6 @@ from collections import namedtuple
 
 from .problems import BadInput
 
-# vengutari_search takes a list of bounds behind its table (request 3 of document 02).
-STORED_BOUNDS = False
 # y = -32,768 is a gap, with label 6 (request 2). Until then the points given to a call hold no gap.
 GAPS = False
 # A sample within epsilon of more than one line is undecided, with label 5 (request 8). Until then its label is the nearest line's.
@@ -52,6 +50,7 @@ MESSAGES = {
     10: "short: the output is too small",
     11: "beacon: over 236 bytes",
     12: "off grid: a single-precision number that no coefficient has",
+    14: "bounds: fewer entries than rows",
     255: "a buffer has the wrong length",
 }
 
@@ -83,8 +82,7 @@ SIGNATURES = {
     "vengutari_bound": [*_BYTES, *_MODEL, *_NUMBERS, *_VALUE],
     "vengutari_split": [_U8, _U8, *_NUMBERS, *_NUMBERS],
     "vengutari_labels": [*_BYTES, *_MODEL, *_NUMBERS, *_BYTES, *_VALUE],
-    "vengutari_search": [*_BYTES, *_MODEL, _U64, _U32, *_NUMBERS, *_NUMBERS, *_NUMBERS, *(_WIDE if STORED_BOUNDS else [])]
-    + [*_NUMBERS, *_WIDE, *_VALUE],
+    "vengutari_search": [*_BYTES, *_MODEL, _U64, _U32, *_NUMBERS, *_NUMBERS, *_NUMBERS, *_WIDE, *_NUMBERS, *_WIDE, *_VALUE],
     "vengutari_take_in": [*_BYTES, _SIZE, *_BYTES, *_VALUE],
     "vengutari_read_job": [*_BYTES, *_WIDE, *_NUMBERS, *_NUMBERS],
     "vengutari_write_job": [*_MODEL, _U64, _U32, _U32, *_NUMBERS, *_NUMBERS, *_BYTES],
@@ -169,10 +167,8 @@ class Library:
 
     def search(self, store, model, t, budget, low, high, start, rows):
         vector, numbers = _numbers([]), _array(ctypes.c_uint64, [0] * 5)
-        table = [_zeros(ctypes.c_int16, rows * ROW_NUMBERS)]
-        if STORED_BOUNDS:
-            table.append(_zeros(ctypes.c_uint64, rows))
-        given = [_bytes(store), *model, t, budget, _corners(low, high), _numbers(start), *table]
+        table, bounds = _zeros(ctypes.c_int16, rows * ROW_NUMBERS), _zeros(ctypes.c_uint64, rows)
+        given = [_bytes(store), *model, t, budget, _corners(low, high), _numbers(start), table, bounds]
         kind = self._call("vengutari_search", *given, vector, numbers)
         return Answer(KINDS[kind], list(vector[: model.n * model.d]), *numbers)
 

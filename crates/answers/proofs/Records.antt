@@ -19,26 +19,22 @@ use Rattle.codes.specs.declared.Refusal.{Refusal}
 use Rattle.codes.specs.Codes.{within}
 use Rattle.codes.proofs.Checks.{first-passed, others-passed}
 use Rattle.boxes.specs.declared.Box.{Box}
-use Rattle.boxes.specs.Boxes.{Between, empty, side, InBox, checkBox}
+use Rattle.boxes.specs.Boxes.{Between, empty, side, InBox}
 use Rattle.boxes.specs.Shape.{checkShape, unusedZero}
 use Rattle.boxes.proofs.Checks.{in-unused}
 use Rattle.boxes.proofs.Volume.{between-length}
 use Rattle.scale.specs.Scale.{checkScale}
 use Rattle.fields.specs.Fields.{IsVector}
 use Rattle.jobs.specs.declared.Job.{Job}
-use Rattle.points.specs.Points.{pointsOf}
-use Rattle.residuals.specs.Cost.{cost, bound}
 use Rattle.model.specs.Calls.{checkModel}
-use Rattle.residuals.proofs.Bounds.{bound-laws}
 use Rattle.model.proofs.Passed.{cost-limit}
 use Rattle.rows.specs.Rows.{rowCount}
 use Rattle.certificate.specs.Search as Search
 use Rattle.certificate.specs.Search.{solved, spent, full}
-use Rattle.certificate.specs.Certificate.{Certificate}
-use Rattle.certificate.proofs.Certified.{certified, finished}
+use Rattle.certificate.proofs.Certified.{finished}
 use Rattle.search.specs.declared.Answer.{Answer}
-use Rattle.search.specs.Search.{kindOf, kindNumber, told, checkJob, checkSearch, searched, searchAnswer}
-use Rattle.search.proofs.Accepted as Accepted
+use Rattle.search.specs.Search.{kindOf, kindNumber, told, searched, CertifiedIn, checkLent, searchedLent, searchAnswer}
+use Rattle.search.proofs.Accepted.{Runs, runs-accepted, certificate}
 use Rattle.job_records.specs.Laws.{IsJob}
 use Rattle.answer_records.specs.Answers.{checkAnswer}
 use Rattle.answer_records.specs.Laws.{IsAnswer}
@@ -64,47 +60,36 @@ vector-between i low high = record {
   signed = signed-between (i .between) (low .signed) (high .signed);
 }
 
-module _ (store : List ℕ) (job : Job) (table : List ℤ) where
+module _ (store : List ℕ) (job : Job) (table : List ℤ) (bounds : List ℕ) where
   -- a refused answer's kind has the number 0
   refused-by-9 :
       (why : Refusal) →
-      checkSearch store job (length table) ≡ Refuse why →
-      checkAnswer (searchRecord store job table) ≡ Refuse Refusal.Answer
+      checkLent store job table bounds ≡ Refuse why →
+      checkAnswer (searchRecord store job table bounds) ≡ Refuse Refusal.Answer
   unfolding searchAnswer recordOf checkAnswer
   refused-by-9 why e = rw e
 
-  module _ (ok : checkSearch store job (length table) ≡ Pass) where
+  module _ (ok : checkLent store job table bounds ≡ Pass) where
     abbrev found : Search.Answer
-    found = searched store job (rowCount table)
+    found = searchedLent store job table bounds
 
-    tells : searchRecord store job table ≡ recordOf (job .model) (told found)
+    tells : searchRecord store job table bounds ≡ recordOf (job .model) (told found)
     unfolding searchAnswer
     tells = rw ok
 
-    model-checked : checkModel store (job .model) ≡ Pass
-    model-checked = Accepted.runs-accepted store job (length table) ok .checked
+    runs : Runs store job
+    runs = runs-accepted store job (length table) (length bounds) ok
 
     shape-checked : checkShape (job .model .n) (job .model .d) ≡ Pass
     unfolding checkModel
-    shape-checked = first-passed _ _ (others-passed _ _ model-checked)
+    shape-checked = first-passed _ _ (others-passed _ _ (runs .checked))
 
     scale-checked : checkScale (job .model .scale) ≡ Pass
     unfolding checkModel
-    scale-checked = first-passed _ _ (others-passed _ _ (others-passed _ _ model-checked))
+    scale-checked = first-passed _ _ (others-passed _ _ (others-passed _ _ (runs .checked)))
 
-    box-checked : checkBox (job .model .n) (job .model .d) (job .domain) ≡ Pass
-    unfolding checkSearch checkJob
-    box-checked = first-passed _ _ (others-passed _ _ (first-passed _ _ ok))
-
-    abbrev costs : List ℤ → ℕ
-    costs = cost (job .model) (pointsOf store)
-
-    abbrev bounds : Box → ℕ
-    bounds = bound (job .model) (pointsOf store)
-
-    certificate : Certificate costs bounds (job .budget) (rowCount table) (job .t) (job .start) (job .domain) found
-    unfolding searched
-    certificate = certified _ _ _ _ _ _ _ (bound-laws (job .model) (pointsOf store)) (Accepted.runs-accepted store job (length table) ok .inside)
+    demand : CertifiedIn store job (rowCount table)
+    demand = certificate store job table bounds ok
 
     within-budget : found .count ≤ job .budget
     unfolding searched
@@ -116,15 +101,15 @@ module _ (store : List ℕ) (job : Job) (table : List ℤ) where
 
     ordered : written .bound ≤ written .cost
     unfolding recordOf
-    ordered = certificate .ordered
+    ordered = demand .ordered
 
     cost-in-range : written .cost ≤ 1152921367167897600
     unfolding recordOf
-    cost-in-range = omega (arith, certificate .exact, cost-limit store (job .model) .most model-checked (found .vector))
+    cost-in-range = omega (arith, demand .exact, cost-limit store (job .model) .most (runs .checked) (found .vector))
 
     unused-zero : T (unusedZero (written .n) (written .d) (written .vector))
     unfolding recordOf
-    unused-zero = in-unused (job .model .n) (job .model .d) (job .domain) (found .vector) box-checked (certificate .inside)
+    unused-zero = in-unused (job .model .n) (job .model .d) (job .domain) (found .vector) (runs .boxed) (demand .inside)
 
     passes-9 : checkAnswer written ≡ Pass
     unfolding recordOf checkAnswer
@@ -141,13 +126,13 @@ module _ (store : List ℕ) (job : Job) (table : List ℤ) where
     fits : IsJob job → IsAnswer written
     unfolding recordOf
     fits is = record {
-      vector = vector-between (certificate .inside) (is .low) (is .high);
+      vector = vector-between (demand .inside) (is .low) (is .high);
       cost = record { fits = omega (arith, cost-in-range) };
       bound = record { fits = omega (arith, cost-in-range, ordered) };
       count = record { fits = omega (arith, within-budget, is .budget .fits) };
     }
 
-  pub record-fits : RecordFits store job table
+  pub record-fits : RecordFits store job table bounds
   record-fits = record {
     accepted = λ ok. rw (tells ok) (passes-9 ok);
     refused = refused-by-9;

@@ -29,6 +29,7 @@ fn stray_record(r: Refusal) -> usize
         Refusal::Short => 0,
         Refusal::Beacon => 0,
         Refusal::OffGrid => 0,
+        Refusal::Bounds => 0,
     }
 }
 

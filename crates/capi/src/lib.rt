@@ -7,7 +7,7 @@ ghost use Rattle.boundary.specs.Boundary.{modelOf, codeOf, valueAfter};
 ghost use Rattle.evaluation_calls.specs.Calls.{lossCall, costCall, boundCall};
 ghost use Rattle.split_calls.specs.Calls.{splitCall, halvesAfter};
 ghost use Rattle.label_calls.specs.Calls.{labelsCall, labelsAfter};
-ghost use Rattle.search_calls.specs.Calls.{searchCall, vectorAfter, numbersAfter, TableAfterCall, CertifiedCall};
+ghost use Rattle.search_calls.specs.Calls.{searchCall, vectorAfter, numbersAfter, TableAfterCall, BoundsAfterCall, CertifiedCall};
 ghost use Rattle.beacon_calls.specs.Calls.{takeInCall};
 ghost use Rattle.job_calls.specs.Calls.{readJobCall, jobNumbersAfter, cornersAfter, startAfter, writeJobCall, jobRecordAfter};
 ghost use Rattle.answer_calls.specs.Calls.{readAnswerCall, answerVectorAfter, answerNumbersAfter, writeAnswerCall, answerRecordAfter};
@@ -93,7 +93,8 @@ pub extern "C" fn vengutari_labels(
     label_calls::labels(store, n, d, scale, p, eps, vector, labels, value)
 }
 
-// Searches a box with the rows of a lent table. The value is the kind of the answer; its vector and its numbers go into their buffers.
+// Searches a box with the rows of a lent table, with the bounds of open boxes in a lent list. The value is the kind of the answer; its
+// vector and its numbers go into their buffers.
 #[no_mangle]
 pub extern "C" fn vengutari_search(
     store: &[u8],
@@ -107,28 +108,32 @@ pub extern "C" fn vengutari_search(
     corners: &[i16],
     start: &[i16],
     table: &mut [i16],
+    bounds: &mut [u64],
     vector: &mut [i16],
     numbers: &mut [u64],
     value: &mut u64,
 ) -> u32
     ensures code { λ k. ⌜ k
         ≡ codeOf (searchCall (now (store .entry)) (modelOf n d scale p eps) t budget (now (corners .entry)) (now (start .entry))
-        (now (table .entry)) (now (vector .entry)) (now (numbers .entry))) ⌝ }
+        (now (table .entry)) (now (bounds .entry)) (now (vector .entry)) (now (numbers .entry))) ⌝ }
     ensures value { λ _. ⌜ now (value .exit)
         ≡ valueAfter (searchCall (now (store .entry)) (modelOf n d scale p eps) t budget (now (corners .entry)) (now (start .entry))
-        (now (table .entry)) (now (vector .entry)) (now (numbers .entry))) (now (value .entry)) ⌝ }
+        (now (table .entry)) (now (bounds .entry)) (now (vector .entry)) (now (numbers .entry))) (now (value .entry)) ⌝ }
     ensures vector { λ _. ⌜ now (vector .exit)
         ≡ vectorAfter (now (store .entry)) (modelOf n d scale p eps) t budget (now (corners .entry)) (now (start .entry))
-        (now (table .entry)) (now (vector .entry)) (now (numbers .entry)) ⌝ }
+        (now (table .entry)) (now (bounds .entry)) (now (vector .entry)) (now (numbers .entry)) ⌝ }
     ensures numbers { λ _. ⌜ now (numbers .exit)
         ≡ numbersAfter (now (store .entry)) (modelOf n d scale p eps) t budget (now (corners .entry)) (now (start .entry))
-        (now (table .entry)) (now (vector .entry)) (now (numbers .entry)) ⌝ }
+        (now (table .entry)) (now (bounds .entry)) (now (vector .entry)) (now (numbers .entry)) ⌝ }
     ensures table { λ _. ⌜
         TableAfterCall (now (store .entry)) (modelOf n d scale p eps) t budget (now (corners .entry)) (now (start .entry))
-        (now (table .entry)) (now (vector .entry)) (now (numbers .entry)) (now (table .exit)) ⌝ }
+        (now (table .entry)) (now (bounds .entry)) (now (vector .entry)) (now (numbers .entry)) (now (table .exit)) ⌝ }
+    ensures bounds { λ _. ⌜
+        BoundsAfterCall (now (store .entry)) (modelOf n d scale p eps) t budget (now (corners .entry)) (now (start .entry))
+        (now (table .entry)) (now (bounds .entry)) (now (vector .entry)) (now (numbers .entry)) (now (bounds .exit)) ⌝ }
     ensures certificate { λ k. ⌜ (k ≡ 0 →
         CertifiedCall (now (store .entry)) (modelOf n d scale p eps) t budget (now (corners .entry)) (now (start .entry))
-        (now (table .entry)) (now (vector .entry)) (now (numbers .entry)) (now (value .exit)) (now (vector .exit))
+        (now (table .entry)) (now (bounds .entry)) (now (vector .entry)) (now (numbers .entry)) (now (value .exit)) (now (vector .exit))
         (now (numbers .exit))) ⌝ }
 {
     search_calls::search(
@@ -143,6 +148,7 @@ pub extern "C" fn vengutari_search(
         corners,
         start,
         table,
+        bounds,
         vector,
         numbers,
         value,

@@ -16,6 +16,13 @@ fn table_space() -> [i16; 32768]
     [0; 32768]
 }
 
+// Their bounds.
+fn bounds_space() -> [u64; 2048]
+    ensures { λ r. ⌜ 2048 ≡ length r ⌝ }
+{
+    [0; 2048]
+}
+
 fn line_space() -> [u8; 200]
     ensures { λ r. ⌜ 200 ≡ length r ⌝ }
 {
@@ -47,8 +54,9 @@ fn main() {
     }
     let mut input = input_space();
     let mut table = table_space();
+    let mut bounds = bounds_space();
     let mut line = line_space();
     let n = io::read_full(0, &mut input);
-    let k = report::report(&input[..n], &mut table, &mut line);
+    let k = report::report(&input[..n], &mut table, &mut bounds, &mut line);
     put(&line[..k]);
 }

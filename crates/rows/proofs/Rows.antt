@@ -7,12 +7,12 @@ use Prim.Native.Nat.{ℕ, zero, suc, _+_, _*_, _-_, _≤_, _<_}
 use native.Mathlib.Numerals.{add-one}
 use native.Mathlib.Omega.{arith}
 use lib.IntN.{ℤ}
-use lib.ListN.{length, getD, take, drop, length-append, length-drop, List·getD-append}
-use lib.Seq.{take-all, take-at, take-append-le, drop-at, drop-drop, length-take-le, getD-at}
+use lib.ListN.{length, getD, take, drop, length-append, length-drop, take-append-drop, List·getD-append}
+use lib.Seq.{take-all, take-at, take-add, take-append-le, drop-append-le, drop-at, drop-drop, length-take-le, getD-at}
 use Rattle.integers.proofs.Tests.{le-or-lt}
 use Rattle.boxes.specs.declared.Box.{Box}
 use Rattle.boxes.specs.Split.{zeroBox}
-use Rattle.rows.specs.Rows.{rowCount, rowAt, rowsOf, withRow}
+use Rattle.rows.specs.Rows.{rowCount, rowAt, rowsOf, withRow, withMoved}
 use Rattle.rows.proofs.Parts.{part-before}
 
 -- a box of sixteen numbers
@@ -48,11 +48,20 @@ pub row-of-rest : (t u : List ℤ) (i : ℕ) → length u ≡ length t → drop 
 unfolding rowAt
 row-of-rest t u i long e = rw (← drop-drop 8 (16 * i) u, ← drop-drop 8 (16 * i) t, e, long)
 
--- what two tables share from one place on they share from each later place on
-pub rest-later : (t u : List ℤ) (j k : ℕ) → j ≤ k → drop j u ≡ drop j t → drop k u ≡ drop k t
+-- what two lists share from one place on they share from each later place on
+pub rest-later : {A : Type 0} (t u : List A) (j k : ℕ) → j ≤ k → drop j u ≡ drop j t → drop k u ≡ drop k t
 rest-later t u j k h e =
     let d : j + (k - j) ≡ k = omega arith in
     rw (← d, ← drop-drop (k - j) j u, ← drop-drop (k - j) j t, e)
+
+-- a row's own part of the table that is lent and comes back as a box
+pub row-written : (t : List ℤ) (i : ℕ) (b : Box) → i < rowCount t →
+    take (16 * i) t ++ ((b .low ++ b .high) ++ drop (16 * i + 16 - 16 * i) (drop (16 * i) t)) ≡ withRow t i b
+unfolding withRow
+row-written t i b there =
+    let sixteen-numbers : 16 * i + 16 - 16 * i ≡ 16 = omega arith in
+    rw (lt-ltb i (rowCount t) there, sixteen-numbers, drop-drop 16 (16 * i) t)
+    (sym (append-assoc (take (16 * i) t) (b .low ++ b .high) (drop (16 * i + 16) t)))
 
 -- The table with the box b in row i.
 module _ (t : List ℤ) (i : ℕ) (b : Box) where
@@ -160,9 +169,34 @@ unfolding rowsOf
 rows-same t u zero f = refl
 rows-same t u (suc n) f = rw (rows-same t u n (λ j h. f j (omega arith)), f n (omega arith))
 
+-- rows at the front of a longer table
+pub rows-front : (t u : List ℤ) (n : ℕ) → n ≤ rowCount t → rowsOf (t ++ u) n ≡ rowsOf t n
+rows-front t u n few =
+    let eight : (a : ℕ) → a + 8 ≤ length t → take 8 (drop a (t ++ u)) ≡ take 8 (drop a t) = λ a h.
+    rw (drop-append-le a t u (omega arith)) (take-append-le 8 (drop a t) u (omega (arith, length-drop a t)))
+    in
+    rows-same t (t ++ u) n
+    (λ j h.
+    row-there (t ++ u) j (omega (arith, length-append t u))
+    ∙ rw (eight (16 * j) (omega arith), eight (16 * j + 8) (omega arith)) (sym (row-there t j (omega arith))))
+
 pub rows-before : (t : List ℤ) (i : ℕ) (b : Box) → Whole b → (n : ℕ) → n ≤ i → rowsOf (withRow t i b) n ≡ rowsOf t n
 rows-before t i b w n h = rows-same t (withRow t i b) n (λ j k. row-before t i b w j (omega arith))
 
 -- one more row written behind the first i
 pub rows-with : (t : List ℤ) (i : ℕ) (b : Box) → i < rowCount t → Whole b → rowsOf (withRow t i b) (i + 1) ≡ rowsOf t i ++ (b ∷ [])
 rows-with t i b h w = rows-more (withRow t i b) i ∙ rw (rows-before t i b w i (omega arith), row-same t i b h w)
+
+-- a row that is written as it is
+pub row-own : (t : List ℤ) (i : ℕ) → i < rowCount t → withRow t i (rowAt t i) ≡ t
+row-own t i h =
+    let row : (rowAt t i) .low ++ (rowAt t i) .high ≡ take 16 (drop (16 * i) t) = rw (row-there t i h, ← drop-drop 8 (16 * i) t) (sym (take-add 8 8 (drop (16 * i) t))) in
+    let rest : drop (16 * i + 16) t ≡ drop 16 (drop (16 * i) t) = sym (drop-drop 16 (16 * i) t) in
+    with-there t i (rowAt t i) h (row-whole t i)
+    ∙ rw (row, rest, append-assoc (take (16 * i) t) (take 16 (drop (16 * i) t)) (drop 16 (drop (16 * i) t)), take-append-drop 16 (drop (16 * i) t))
+    (take-append-drop (16 * i) t)
+
+-- a row that moves to an earlier one
+pub moved-there : (t : List ℤ) (i to : ℕ) → to < i → i < rowCount t → withMoved t i to ≡ withRow t to (rowAt t i)
+unfolding withMoved
+moved-there t i to earlier there = rw (lt-ltb to i earlier, lt-ltb i (rowCount t) there)

@@ -1,8 +1,8 @@
 -- "The table is a lent slice of signed 16-bit numbers; each box is written as its own 16-number part of it, low then high."
 use mathlib.Core.Bool.{cond, _&&_}
 use mathlib.Core.List.{List, [], _∷_, _++_}
-use Prim.Native.Nat.{ℕ, zero, suc, _+_, _*_, _-_, _/_}
-use lib.Dec.{leb, ltb}
+use Prim.Native.Nat.{ℕ, zero, suc, _+_, _*_, _/_}
+use lib.Dec.{ltb}
 use lib.IntN.{ℤ}
 use lib.ListN.{length, take, drop}
 use Rattle.boxes.specs.declared.Box.{Box}
@@ -25,10 +25,6 @@ rowsOf t (suc n) = rowsOf t n ++ (rowAt t n ∷ [])
 unfoldable pub withRow : List ℤ → ℕ → Box → List ℤ
 withRow t i b = cond (ltb i (rowCount t)) (take (16 * i) t ++ (b .low ++ b .high) ++ drop (16 * i + 16) t) t
 
--- The table with row `at` taken out of the first n: the rows behind it stand one place earlier, and from the last of the n on all is
--- as it was. Where the n rows are not all there, or `at` is none of them, nothing changes.
-unfoldable pub withoutRow : List ℤ → ℕ → ℕ → List ℤ
-withoutRow t n at =
-    cond (ltb at n && leb n (rowCount t))
-    (take (16 * at) t ++ take (16 * (n - 1 - at)) (drop (16 * (at + 1)) t) ++ drop (16 * (n - 1)) t)
-    t
+-- The table with the box of row i in the earlier row `to` too. Where it has no row i, or `to` is not before it, nothing changes.
+unfoldable pub withMoved : List ℤ → ℕ → ℕ → List ℤ
+withMoved t i to = cond (ltb to i && ltb i (rowCount t)) (withRow t to (rowAt t i)) t

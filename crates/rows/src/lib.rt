@@ -4,7 +4,7 @@ ghost use mathlib.Core.Path.{_≡_};
 ghost use mathlib.Core.List.{_++_};
 ghost use Prim.Native.Nat.{_+_, _≤_, _<_};
 ghost use lib.ListN.{length, take, drop};
-ghost use Rattle.rows.specs.Rows.{rowCount, rowAt, withRow, withoutRow};
+ghost use Rattle.rows.specs.Rows.{rowCount, rowAt, withRow, withMoved};
 
 // The eight numbers from place `at` on.
 fn vector_at(table: &[i16], at: usize) -> [i16; 8]
@@ -20,15 +20,23 @@ fn vector_at(table: &[i16], at: usize) -> [i16; 8]
     v
 }
 
+// The box in row i, which the table has.
+fn box_at(table: &[i16], i: usize) -> Box
+    requires { ⌜ i < rowCount (now table) ⌝ }
+    ensures { λ b. ⌜ b ≡ rowAt (now (table .entry)) i ⌝ }
+{
+    let at = 16 * i;
+    let low = vector_at(table, at);
+    let high = vector_at(table, at + 8);
+    Box { low, high }
+}
+
 // The box in row i; where the table has no such row, all zeros.
 pub fn read_row(table: &[i16], i: usize) -> Box
     ensures { λ b. ⌜ b ≡ rowAt (now (table .entry)) i ⌝ }
 {
     if i < table.len() / 16 {
-        let at = 16 * i;
-        let low = vector_at(table, at);
-        let high = vector_at(table, at + 8);
-        Box { low, high }
+        box_at(table, i)
     } else {
         let zero = [0i16; 8];
         Box {
@@ -62,24 +70,14 @@ pub fn write_row(table: &mut [i16], i: usize, b: Box)
     }
 }
 
-// Moves each box in the rows behind row `at`, up to the n-th, one row down.
-fn move_down(table: &mut [i16], n: usize, at: usize)
-    requires { ⌜ (at < n) × (n ≤ rowCount (now table)) ⌝ }
-    ensures { λ _. ⌜ now (table .exit) ≡ withoutRow (now (table .entry)) n at ⌝ }
+// Writes the box in row i as the earlier row `to` too. Where the table has no row i, or `to` is not before it, nothing changes.
+pub fn move_row(table: &mut [i16], i: usize, to: usize)
+    ensures { λ _. ⌜ now (table .exit) ≡ withMoved (now (table .entry)) i to ⌝ }
 {
-    let mut i = at + 1;
-    while i < n {
-        let b = read_row(table, i);
-        write_row(table, i - 1, b);
-        i += 1;
-    }
-}
-
-// Takes row `at` out of the first n rows: those behind it move down one place. Where there is no such row, nothing changes.
-pub fn remove_row(table: &mut [i16], n: usize, at: usize)
-    ensures { λ _. ⌜ now (table .exit) ≡ withoutRow (now (table .entry)) n at ⌝ }
-{
-    if at < n && n <= table.len() / 16 {
-        move_down(table, n, at);
+    if to < i {
+        if i < table.len() / 16 {
+            let b = box_at(table, i);
+            put_box(&mut table[16 * to..16 * to + 16], b);
+        }
     }
 }

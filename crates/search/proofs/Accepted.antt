@@ -1,11 +1,12 @@
 -- The checks of a search, in the groups in which the code makes them, and what an accepted or a refused job comes to. Assumes nothing.
 use mathlib.Core.Path.{_≡_, refl, sym, ap, _∙_}
-use mathlib.Core.List.{List, [], _∷_, _++_}
-use Prim.Native.Nat.{ℕ, _*_, _≤_}
+use mathlib.Core.List.{List, [], _∷_, _++_, map}
+use Prim.Native.Nat.{ℕ, _*_, _/_, _≤_}
 use native.Mathlib.Omega.{arith}
 use lib.Dec.{leb, leb→le}
 use lib.IntN.{ℤ}
-use lib.ListN.{length, drop, take-append-drop}
+use lib.ListN.{length, take, drop, take-append-drop}
+use lib.Seq.{take-take}
 use Rattle.codes.specs.declared.Check.{Check}
 use Rattle.codes.specs.declared.Check.the-variants.{Pass, Refuse}
 use Rattle.codes.specs.declared.Refusal.{Refusal}
@@ -28,7 +29,7 @@ use Rattle.certificate.proofs.Reached.{reached-sound}
 use Rattle.certificate.proofs.Certified.{certified}
 use Rattle.search.specs.declared.Answer.{Answer}
 use Rattle.search.specs.declared.branch.State.{State}
-use Rattle.search.specs.Search.{checkJob, checkSearch, searched, refused, searchAnswer, TableAfter, Certified}
+use Rattle.search.specs.Search.{checkJob, checkSearch, searched, refused, CertifiedIn, checkLent, searchAnswer, TableSearched, BoundsSearched, Certified}
 use Rattle.search.specs.Inside.{Begun, Ran}
 
 -- four checks, the first three of them in two groups
@@ -70,6 +71,7 @@ module _ (store : List ℕ) (job : Job) where
   -- what a job that passes has
   pub record Runs : Type 0 where
     pub checked : checkModel store (job .model) ≡ Pass
+    pub boxed : checkBox (job .model .n) (job .model .d) (job .domain) ≡ Pass
     pub inside : InBox (job .start) (job .domain)
 
   runs : checkJob store job ≡ Pass → Runs
@@ -79,72 +81,104 @@ module _ (store : List ℕ) (job : Job) where
       let e₃ = others-passed box (start ∷ stray ∷ []) e₂ in
       record {
         checked = first-passed model (box ∷ start ∷ stray ∷ []) e;
+        boxed = first-passed box (start ∷ stray ∷ []) e₂;
         inside = start-passed (job .domain) (job .start) (first-passed start (stray ∷ []) e₃);
       }
 
-  module _ (numbers : ℕ) (e : checkSearch store job numbers ≡ Pass) where
+  module _ (numbers entries : ℕ) (e : checkSearch store job numbers entries ≡ Pass) where
     abbrev table : Check
     table = passIf (leb 16 numbers) Refusal.Table
 
+    abbrev bounds : Check
+    bounds = passIf (leb (numbers / 16) entries) Refusal.Bounds
+
+    lent : inOrder (table ∷ bounds ∷ []) ≡ Pass
+    unfolding checkSearch
+    lent = others-passed (checkJob store job) (table ∷ bounds ∷ []) e
+
     pub runs-accepted : Runs
     unfolding checkSearch
-    runs-accepted = runs (first-passed (checkJob store job) (table ∷ []) e)
+    runs-accepted = runs (first-passed (checkJob store job) (table ∷ bounds ∷ []) e)
 
     pub rows-accepted : 16 ≤ numbers
-    unfolding checkSearch
-    rows-accepted = leb→le 16 numbers (passed (leb 16 numbers) Refusal.Table (first-passed table [] (others-passed (checkJob store job) (table ∷ []) e)))
+    rows-accepted = leb→le 16 numbers (passed (leb 16 numbers) Refusal.Table (first-passed table (bounds ∷ []) lent))
 
-module _ (store : List ℕ) (job : Job) (t : List ℤ) where
-  abbrev Promised : Answer → List ℤ → Type 0
-  Promised r u = (r ≡ searchAnswer store job t) × (TableAfter store job t u × Certified store job t r)
+    pub entries-accepted : numbers / 16 ≤ entries
+    entries-accepted = leb→le (numbers / 16) entries (passed (leb (numbers / 16) entries) Refusal.Bounds (first-passed bounds [] (others-passed table (bounds ∷ []) lent)))
 
-  pub promised-pass :
-      (u v : List ℤ) (first : State) (r : Answer) →
-      checkSearch store job (length t) ≡ Pass →
-      Begun (cost (job .model) (pointsOf store)) (bound (job .model) (pointsOf store)) (job .start) (job .domain) t first u →
-      Ran (searched store job (rowCount u)) u first r v →
-      Promised r v
-  unfolding searchAnswer searched
-  promised-pass u v first r ok b ran =
-      let q = rw (b .long) at ran in
-      let found = searched store job (rowCount t) in
-      let inside = (runs-accepted store job (length t) ok) .inside in
-      let certificate =
-      certified (cost (job .model) (pointsOf store)) (bound (job .model) (pointsOf store)) (job .budget) (rowCount t) (job .t) (job .start) (job .domain)
-      (bound-laws (job .model) (pointsOf store)) inside
-      in
-      let few : length (found .list) ≤ found .peak =
-      (reached-sound (cost (job .model) (pointsOf store)) (bound (job .model) (pointsOf store)) (bound-laws (job .model) (pointsOf store))
-      (job .budget) (rowCount t) (job .t) (job .start) (job .domain) inside (found .count) (stateOf found) (certificate .counted)) .longest
-      in (
-        rw ok (q .answer),
+-- a list whose first n are known, in two parts
+two-parts : {A : Type 0} (xs front : List A) (n : ℕ) → take n xs ≡ front → xs ≡ front ++ drop n xs
+two-parts xs front n e = sym (take-append-drop n xs) ∙ ap (λ (l : List _). l ++ drop n xs) e
+
+module _ (store : List ℕ) (job : Job) (t : List ℤ) (d : List ℕ) where
+  abbrev B : Box → ℕ
+  B = bound (job .model) (pointsOf store)
+
+  abbrev found : Search.Answer
+  found = searched store job (rowCount t)
+
+  abbrev open-count : ℕ
+  open-count = length (found .list)
+
+  abbrev Promised : Answer → List ℤ → List ℕ → Type 0
+  Promised r u e = (r ≡ searchAnswer store job t d) × (TableSearched store job t d u × (BoundsSearched store job t d e × Certified store job t d r))
+
+  module _ (ok : checkLent store job t d ≡ Pass) where
+    pub certificate : CertifiedIn store job (rowCount t)
+    unfolding searched
+    certificate =
+        certified (cost (job .model) (pointsOf store)) B (job .budget) (rowCount t) (job .t) (job .start) (job .domain)
+        (bound-laws (job .model) (pointsOf store)) ((runs-accepted store job (length t) (length d) ok) .inside)
+
+    -- peak is at most r
+    pub peak-accepted : found .peak ≤ rowCount t
+    peak-accepted =
+        let sound =
+        reached-sound (cost (job .model) (pointsOf store)) B (bound-laws (job .model) (pointsOf store)) (job .budget) (rowCount t) (job .t) (job .start) (job .domain)
+        ((runs-accepted store job (length t) (length d) ok) .inside) (found .count) (stateOf found) (certificate .counted)
+        in
+        omega (arith, sound .room, rows-accepted store job (length t) (length d) ok)
+
+    pub promised-pass :
+        (u v : List ℤ) (e f : List ℕ) (first : State) (r : Answer) →
+        Begun (cost (job .model) (pointsOf store)) B (job .start) (job .domain) t d first u e →
+        Ran B (searched store job (rowCount u)) u e first r v f →
+        Promised r v f
+    unfolding searchAnswer
+    promised-pass u v e f first r b ran =
+        let q = rw (b .long) at ran in (
+          rw ok (q .answer),
+          (
+            record {
+              long = q .long ∙ b .long;
+              untouched = λ why h. refused-not-passed why (sym h ∙ ok);
+              leftovers = drop open-count (rowsOf v (found .peak));
+              rows = λ h. two-parts (rowsOf v (found .peak)) (found .list) open-count (rows-take v (found .peak) open-count (q .few) ∙ q .open-rows);
+              rest = λ h. q .rest ∙ rest-later t u (16 * first .peak) (16 * found .peak) (omega (arith, q .longer)) (b .rest);
+            },
+            (
+              record {
+                long = q .long-entries ∙ b .long-entries;
+                untouched = λ why h. refused-not-passed why (sym h ∙ ok);
+                leftovers = drop open-count (take (found .peak) f);
+                entries = λ h. two-parts (take (found .peak) f) (map B (found .list)) open-count (take-take open-count (found .peak) f (q .few) ∙ q .open-entries);
+                rest = λ h. q .rest-entries ∙ rest-later d e (first .peak) (found .peak) (q .longer) (b .rest-entries);
+              },
+              λ h. (q .answer, certificate),
+            ),
+          ),
+        )
+
+  pub promised-refused : (why : Refusal) (r : Answer) → checkLent store job t d ≡ Refuse why → r ≡ refused why → Promised r t d
+  unfolding searchAnswer
+  promised-refused why r refuses e =
+      let never : checkLent store job t d ≡ Pass → ⊥ = λ h. refused-not-passed why (sym refuses ∙ h) in (
+        rw refuses e,
         (
-          record {
-            long = q .long ∙ b .long;
-            untouched = λ why e. refused-not-passed why (sym e ∙ ok);
-            leftovers = drop (length (found .list)) (rowsOf v (found .peak));
-            rows =
-                λ e. sym (take-append-drop (length (found .list)) (rowsOf v (found .peak)))
-                ∙ ap (λ (l : List Box). l ++ drop (length (found .list)) (rowsOf v (found .peak)))
-                (rows-take v (found .peak) (length (found .list)) few ∙ q .open-rows);
-            rest = λ e. q .rest ∙ rest-later t u (16 * first .peak) (16 * found .peak) (omega (arith, q .longer)) (b .rest);
-          },
-          λ e. (q .answer, certificate),
+          record { long = refl; untouched = λ w h. refl; leftovers = []; rows = λ h. absurd (never h); rest = λ h. absurd (never h) },
+          (
+            record { long = refl; untouched = λ w h. refl; leftovers = []; entries = λ h. absurd (never h); rest = λ h. absurd (never h) },
+            λ h. absurd (never h),
+          ),
         ),
       )
-
-  pub promised-refused : (why : Refusal) (r : Answer) → checkSearch store job (length t) ≡ Refuse why → r ≡ refused why → Promised r t
-  unfolding searchAnswer
-  promised-refused why r refuses e = (
-    rw refuses e,
-    (
-      record {
-        long = refl;
-        untouched = λ w h. refl;
-        leftovers = [];
-        rows = λ h. refused-not-passed why (sym refuses ∙ h);
-        rest = λ h. refused-not-passed why (sym refuses ∙ h);
-      },
-      λ h. refused-not-passed why (sym refuses ∙ h),
-    ),
-  )

@@ -1,11 +1,10 @@
--- The beginning of a search on a table. Assumes nothing.
-use mathlib.Core.Path.{_≡_, refl, sym, ap, _∙_}
-use mathlib.Core.Bool.{cond}
-use mathlib.Core.List.{List, []}
+-- The beginning of a search on a table and a list of bounds. Assumes nothing.
+use mathlib.Core.Path.{_≡_, sym, ap, _∙_}
+use mathlib.Core.List.{List, [], _∷_, map}
 use Prim.Native.Nat.{ℕ, _≤_}
 use native.Mathlib.Omega.{arith}
-use lib.Dec.{ltb}
 use lib.IntN.{ℤ}
+use lib.ListN.{length}
 use Rattle.codes.specs.declared.Check.the-variants.{Pass}
 use Rattle.boxes.specs.declared.Box.{Box}
 use Rattle.jobs.specs.declared.Model.{Model}
@@ -14,12 +13,17 @@ use Rattle.residuals.specs.Cost as model
 use Rattle.model.specs.Calls.{checkModel, costUpTo}
 use Rattle.model.proofs.Passed.{ready}
 use Rattle.residuals.proofs.Sums.{total-uncapped}
-use Rattle.rows.specs.Rows.{rowCount, withRow}
+use Rattle.rows.specs.Rows.{rowCount}
 use Rattle.rows.proofs.Rows.{Whole}
-use Rattle.certificate.specs.Search.{begin}
-use Rattle.search.specs.Inside.{SameBelow, openOf, noneOpen, Begun}
+use Rattle.open_boxes.specs.declared.Child.{Child}
+use Rattle.open_boxes.specs.OpenBoxes.{ifKept}
+use Rattle.open_boxes.proofs.Picking.{one-at-most}
+use Rattle.open_boxes.proofs.Listing.{Put, none-held, one-put}
+use Rattle.certificate.specs.Search.{begin, keepBelow}
+use Rattle.certificate.proofs.Kept.{keeps-if}
+use Rattle.search.specs.Inside.{below, Tested, Begun}
 use Rattle.search.proofs.UpTo.{cost-up-to}
-use Rattle.search.proofs.Listing.{listed-number, one-at-most, openIf, none-listed, one-listed}
+use Rattle.search.proofs.Stepping.{half-box, half-bound}
 
 -- no cost reaches the largest number of 64 bits
 pub whole-cost : (store : List ℕ) (m : Model) (v : List ℤ) → checkModel store m ≡ Pass → costUpTo store m v 18446744073709551615 ≡ model.cost m (pointsOf store) v
@@ -28,26 +32,28 @@ whole-cost store m v ok =
     let g = ready store m ok in
     cost-up-to store m ok v 18446744073709551615 ∙ total-uncapped m (model.sizeAt m v) store (g .lines) (g .cut) (g .few)
 
--- the given box, if x, which is its bound as far as that is below the cost, is below the cost
+-- the given box, if it is kept
 pub begun :
-    (cost : List ℤ → ℕ) (bound : Box → ℕ) (start : List ℤ) (domain : Box) (t : List ℤ) (c x : ℕ) →
+    (cost : List ℤ → ℕ) (bound : Box → ℕ) (start : List ℤ) (domain : Box) (t : List ℤ) (d : List ℕ) (c : ℕ) (child : Child) →
     c ≡ cost start →
-    SameBelow c x (bound domain) →
+    Tested bound (below bound c) domain child →
     1 ≤ rowCount t →
-    Whole domain →
-    Begun cost bound start domain t
-    (record { best = record { vector = start; cost = c }; list = openIf (ltb x c) (noneOpen c) x; count = 0; peak = openIf (ltb x c) (noneOpen c) x .rows })
-    (cond (ltb x c) (withRow t 0 domain) t)
+    1 ≤ length d →
+    Whole (child .half) →
+    (n : ℕ) (u : List ℤ) (e : List ℕ) →
+    Put t d t d 0 child n u e →
+    Begun cost bound start domain t d (record { best = record { vector = start; cost = c }; rows = n; count = 0; peak = n }) u e
 unfolding begin
-begun cost bound start domain t c x exact found some w =
-    let o = openIf (ltb x c) (noneOpen c) x in
-    let few = one-at-most (ltb x c) in
-    let p =
-    one-listed bound c t [] 0 (noneOpen c) t domain w (none-listed bound c t) x found (ltb x c) refl (omega arith) (o .rows) (omega arith) (omega arith)
-    in
+begun cost bound start domain t d c child exact tested rows entries w n u e placed =
+    let h = one-put t d 0 [] [] 0 t d (none-held t d) child w (omega (arith, one-at-most (child .kept))) n u e placed n (omega arith) (omega arith) in
+    let list : ifKept child (child .half) ≡ keepBelow bound (cost start) (domain ∷ []) =
+    rw (← exact) (half-box bound (below bound c) domain child tested ∙ sym (keeps-if bound c (domain ∷ []))) in
     record {
-      exact = record { best = rw exact; told = p .told ∙ ap (openOf bound c) (sym (p .held)) };
-      state = rw (p .held, listed-number p, exact);
-      long = p .long;
-      rest = p .rest;
+      best = rw exact;
+      stored = h .entries ∙ half-bound bound (below bound c) domain child tested ∙ ap (map bound) (sym (h .rows));
+      state = rw (h .rows, ← list, h .told);
+      long = h .long;
+      long-entries = h .long-entries;
+      rest = h .rest;
+      rest-entries = h .rest-entries;
     }

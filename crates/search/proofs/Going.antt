@@ -1,8 +1,10 @@
--- A run of the search whose open boxes are the first rows of a table: it stands at the beginning, a step keeps it up, and where it
--- stops the answer is the definition's. Assumes nothing.
+-- A run of the search whose open boxes are the first rows of a table, with their bounds beside them: it stands at the beginning, a step
+-- keeps it up, and where it stops the answer is the definition's. Assumes nothing.
 use borrow.Author.Tests.{ltb-true, ltb-false}
 use mathlib.Core.Path.{_≡_, refl, sym, ap, _∙_}
 use mathlib.Core.Bool.{true, false}
+use mathlib.Core.Logic.{⊎-elim}
+use Rattle.integers.proofs.Tests.{le-or-lt}
 use mathlib.Core.List.{List}
 use Prim.Native.Nat.{ℕ, _*_, _-_, _≤_, _<_}
 use native.Mathlib.Omega.{arith}
@@ -15,162 +17,221 @@ use Rattle.boxes.specs.Boxes.{InBox}
 use Rattle.boxes.specs.Split.{zeroBox}
 use Rattle.boxes.specs.Laws.{Bounds}
 use Rattle.rows.specs.Rows.{rowCount, rowsOf}
-use Rattle.rows.proofs.Rows.{rows-at, rows-length, rest-later}
+use Rattle.rows.proofs.Rows.{rest-later, rows-at, rows-length}
+use Rattle.open_boxes.specs.declared.Lowest.{Lowest}
+use Rattle.open_boxes.specs.OpenBoxes.{LowestOf}
 use Rattle.certificate.specs.Search as Search
-use Rattle.certificate.specs.Search.{solved, spent, full, lowerBound, firstSmallest, split, answer, search}
+use Rattle.certificate.specs.Search.{solved, spent, full, lowerBound, split, answer, search}
 use Rattle.certificate.specs.Laws.{Sound}
 use Rattle.certificate.proofs.Lists.{all-at}
-use Rattle.certificate.proofs.Smallest.{lower-le, lower-open, smallest}
+use Rattle.certificate.proofs.Smallest.{lower-le, lower-open}
 use Rattle.certificate.proofs.Steps.{gap}
 use Rattle.certificate.proofs.Running.{Running, running-begins, running-sound, running-solved, running-spent, running-full, running-goes}
+use Rattle.search.specs.declared.Answer.{Answer}
 use Rattle.search.specs.declared.branch.Best.{Best}
 use Rattle.search.specs.declared.branch.State.{State}
 use Rattle.search.specs.declared.branch.Stepped.{Stepped}
 use Rattle.search.specs.Search.{kindOf}
-use Rattle.search.specs.declared.scan.Open.{Open}
-use Rattle.search.specs.Inside.{stateIn, Exact, Steppable, Moved, StepOutcome, Begun, answerWith, Ran}
+use Rattle.search.specs.Inside.{bestOf, stateIn, Stored, Steppable, Moved, StepOutcome, Begun, answerWith, Ran}
+use Rattle.search.proofs.Lowest.{least-place, least-bound}
 
-module _
-    (cost : List ℤ → ℕ) (bound : Box → ℕ) (laws : Bounds cost bound) (budget tol : ℕ) (start : List ℤ) (domain : Box) (inside : InBox start domain)
-    (t : List ℤ) (some : 1 ≤ rowCount t) (first : State)
-  where
-    abbrev def : Search.Answer
-    def = search cost bound budget (rowCount t) tol start domain
+-- a run: its cost and bound, what its job asks for, and the table, the list of bounds and the state that it began with
+pub record Run : Type 0 where
+  pub cost : List ℤ → ℕ
+  pub bound : Box → ℕ
+  pub budget : ℕ
+  pub tol : ℕ
+  pub start : List ℤ
+  pub domain : Box
+  pub t : List ℤ
+  pub d : List ℕ
+  pub first : State
 
-    pub record Going (s : State) (u : List ℤ) : Type 0 where
-      pub running : Running cost bound budget (rowCount t) tol start domain (stateIn u s)
-      pub exact : Exact cost bound u s
-      pub long : length u ≡ length t
-      pub longer : first .peak ≤ s .peak
-      pub rest : drop (16 * s .peak) u ≡ drop (16 * s .peak) t
+-- what holds of it
+pub record Ready (r : Run) : Type 0 where
+  pub laws : Bounds (r .cost) (r .bound)
+  pub inside : InBox (r .start) (r .domain)
+  pub some : 1 ≤ rowCount (r .t)
+  pub enough : rowCount (r .t) ≤ length (r .d)
 
-    pub going-begins : Begun cost bound start domain t first t → Going first t
-    going-begins b =
-        record {
-          running = rw (b .state) (running-begins cost bound budget (rowCount t) tol start domain);
-          exact = b .exact;
-          long = refl;
-          longer = le-refl (first .peak);
-          rest = refl;
-        }
+-- the answer of the definition
+abbrev def : Run → Search.Answer
+def r = search (r .cost) (r .bound) (r .budget) (rowCount (r .t)) (r .tol) (r .start) (r .domain)
 
-    module _ (s : State) (u : List ℤ) (g : Going s u) where
-      abbrev list : List Box
-      list = rowsOf u (s .list .rows)
+-- it has come to the state s, the table u and the list e
+pub record Going (r : Run) (s : State) (u : List ℤ) (e : List ℕ) : Type 0 where
+  pub running : Running (r .cost) (r .bound) (r .budget) (rowCount (r .t)) (r .tol) (r .start) (r .domain) (stateIn u s)
+  pub best : s .best ≡ bestOf (r .cost) (s .best .vector)
+  pub stored : Stored (r .bound) u e (s .rows)
+  pub long : length u ≡ length (r .t)
+  pub long-entries : length e ≡ length (r .d)
+  pub longer : r .first .peak ≤ s .peak
+  pub rest : drop (16 * s .peak) u ≡ drop (16 * s .peak) (r .t)
+  pub rest-entries : drop (s .peak) e ≡ drop (s .peak) (r .d)
 
-      sound : Sound cost bound budget (rowCount t) domain (stateIn u s)
-      sound = running-sound cost bound budget (rowCount t) tol start domain (stateIn u s) (g .running) laws inside
+pub going-begins : (r : Run) → Begun (r .cost) (r .bound) (r .start) (r .domain) (r .t) (r .d) (r .first) (r .t) (r .d) → Going r (r .first) (r .t) (r .d)
+going-begins r b =
+    record {
+      running = rw (b .state) (running-begins (r .cost) (r .bound) (r .budget) (rowCount (r .t)) (r .tol) (r .start) (r .domain));
+      best = b .best;
+      stored = b .stored;
+      long = refl;
+      long-entries = refl;
+      longer = le-refl (r .first .peak);
+      rest = refl;
+      rest-entries = refl;
+    }
 
-      exact : s .best .cost ≡ cost (s .best .vector)
-      exact = ap (λ (b : Best). b .cost) (g .exact .best)
+-- what it answers
+abbrev pub Answers : Run → Answer → List ℤ → List ℕ → Type 0
+Answers r a u e = Ran (r .bound) (def r) (r .t) (r .d) (r .first) a u e
 
-      -- peak never falls
-      grows : (after : State) (v : List ℤ) → Moved cost bound u s after v → s .peak ≤ after .peak
-      unfolding split
-      grows after v m = omega (arith, ap (λ (x : Search.State). x .peak) (m .state))
+module _ (r : Run) (ready : Ready r) (s : State) (u : List ℤ) (e : List ℕ) (g : Going r s u e) where
+  abbrev cost : List ℤ → ℕ
+  cost = r .cost
 
-      -- every open box has a bound below C
-      going-below : All (λ b. bound b < s .best .cost) list
-      going-below = rw exact (sound .below)
+  abbrev bound : Box → ℕ
+  bound = r .bound
 
-      going-within : s .count ≤ budget
-      going-within = g .running .within
+  abbrev budget : ℕ
+  budget = r .budget
 
-      -- L, and the place of the box that has it
-      abbrev low : ℕ
-      low = s .list .bound
+  abbrev rows : ℕ
+  rows = rowCount (r .t)
 
-      abbrev at : ℕ
-      at = s .list .at
+  abbrev list : List Box
+  list = rowsOf u (s .rows)
 
-      lowest : low ≡ lowerBound bound (s .best .cost) list
-      lowest = ap (λ (o : Open). o .bound) (g .exact .told)
+  sound : Sound cost bound budget rows (r .domain) (stateIn u s)
+  sound = running-sound cost bound budget rows (r .tol) (r .start) (r .domain) (stateIn u s) (g .running) (ready .laws) (ready .inside)
 
-      place : at ≡ firstSmallest bound list
-      place = ap (λ (o : Open). o .at) (g .exact .told)
+  exact : s .best .cost ≡ cost (s .best .vector)
+  exact = ap (λ (b : Best). b .cost) (g .best)
 
-      pub low-le : low ≤ s .best .cost
-      low-le = rw lowest (lower-le bound (s .best .cost) list going-below)
+  -- peak never falls
+  grows : (after : State) (v : List ℤ) (f : List ℕ) → Moved cost bound u e s after v f → s .peak ≤ after .peak
+  unfolding split
+  grows after v f m = omega (arith, ap (λ (x : Search.State). x .peak) (m .state))
 
-      low-is : low ≡ lowerBound bound (cost (s .best .vector)) list
-      low-is = lowest ∙ ap (λ (c : ℕ). lowerBound bound c list) exact
+  -- every open box has a bound below C
+  going-below : All (λ b. bound b < s .best .cost) list
+  going-below = rw exact (sound .below)
 
-      gap-is : gap cost bound (stateIn u s) ≡ s .best .cost - low
-      gap-is = omega (arith, exact, low-is)
+  open-few : s .rows ≤ s .peak
+  open-few = omega (arith, sound .longest, rows-length u (s .rows))
 
-      answers : (kind : Search.Kind) → def ≡ answer cost bound kind (stateIn u s) → Ran def t first (answerWith (kindOf kind) s) u
-      unfolding answer
-      answers kind e =
-          rw e
-          (record {
-            answer = rw (low-is, exact, rows-length u (s .list .rows));
-            long = g .long;
-            open-rows = rw (rows-length u (s .list .rows));
-            longer = g .longer;
-            rest = g .rest;
-          })
+  -- there is a row and an entry for each open box
+  open-rows : s .rows ≤ rows
+  open-rows = omega (arith, open-few, sound .room, ready .some)
 
-      -- (a)
-      pub going-solved : s .best .cost - low ≤ tol → Ran def t first (answerWith (kindOf solved) s) u
-      going-solved near =
-          answers solved (running-solved cost bound budget (rowCount t) tol start domain (stateIn u s) (g .running) (omega (arith, gap-is)))
+  pub open-entries : s .rows ≤ length e
+  open-entries = omega (arith, open-rows, g .long-entries, ready .enough)
 
-      module _ (far : tol < s .best .cost - low) where
-        far-gap : tol < gap cost bound (stateIn u s)
-        far-gap = omega (arith, gap-is)
+  -- L, and the place of the box that has it
+  module _ (o : Lowest) (found : LowestOf e (s .rows) (s .best .cost) o) where
+    abbrev low : ℕ
+    low = o .bound
 
-        -- (b)
-        pub going-spent : s .count ≡ budget → Ran def t first (answerWith (kindOf spent) s) u
-        going-spent all =
-            answers spent (running-spent cost bound budget (rowCount t) tol start domain (stateIn u s) (g .running) far-gap all)
+    abbrev at : ℕ
+    at = o .at
 
-        -- (c)
-        module _ (left : s .count ≡ budget → ⊥) where
-          less : s .count < budget
-          less = omega (arith, going-within)
+    lowest : low ≡ lowerBound bound (s .best .cost) list
+    unfolding lowerBound rowsOf
+    lowest =
+        ⊎-elim
+        (λ (h : s .rows ≤ 0). let none : s .rows ≡ 0 = omega arith in ap (λ (x : Lowest). x .bound) (found .empty none) ∙ rw none)
+        (λ (h : 0 < s .rows). found .lowest (omega arith) ∙ least-bound bound u e (s .rows) (g .stored) at (found .place (omega arith)) (s .best .cost))
+        (le-or-lt (s .rows) 0)
 
-          pub going-steppable : budget < 4294967296 → Steppable cost bound u s
-          going-steppable few =
-              let many : 1 ≤ length list = lower-open bound (cost (s .best .vector)) list (omega (arith, far-gap)) in
-              let there : at < s .list .rows = rw place (omega (arith, (smallest bound list many) .inside, rows-length u (s .list .rows))) in
+    pub low-le : low ≤ s .best .cost
+    low-le = rw lowest (lower-le bound (s .best .cost) list going-below)
+
+    low-is : low ≡ lowerBound bound (cost (s .best .vector)) list
+    low-is = lowest ∙ ap (λ (c : ℕ). lowerBound bound c list) exact
+
+    gap-is : gap cost bound (stateIn u s) ≡ s .best .cost - low
+    gap-is = omega (arith, exact, low-is)
+
+    answers : (kind : Search.Kind) → def r ≡ answer cost bound kind (stateIn u s) → Answers r (answerWith (kindOf kind) s low) u e
+    unfolding answer
+    answers kind is =
+        rw is
+        (record {
+          answer = rw (low-is, exact, rows-length u (s .rows));
+          long = g .long;
+          long-entries = g .long-entries;
+          open-rows = rw (rows-length u (s .rows));
+          open-entries = rw (rows-length u (s .rows)) (g .stored);
+          few = sound .longest;
+          longer = g .longer;
+          rest = g .rest;
+          rest-entries = g .rest-entries;
+        })
+
+    -- (a)
+    pub going-solved : s .best .cost - low ≤ r .tol → Answers r (answerWith (kindOf solved) s low) u e
+    going-solved near =
+        answers solved (running-solved cost bound budget rows (r .tol) (r .start) (r .domain) (stateIn u s) (g .running) (omega (arith, gap-is)))
+
+    module _ (far : r .tol < s .best .cost - low) where
+      far-gap : r .tol < gap cost bound (stateIn u s)
+      far-gap = omega (arith, gap-is)
+
+      -- (b)
+      pub going-spent : s .count ≡ budget → Answers r (answerWith (kindOf spent) s low) u e
+      going-spent all =
+          answers spent (running-spent cost bound budget rows (r .tol) (r .start) (r .domain) (stateIn u s) (g .running) far-gap all)
+
+      -- (c)
+      module _ (left : s .count ≡ budget → ⊥) where
+        less : s .count < budget
+        less = omega (arith, g .running .within)
+
+        many : 1 ≤ s .rows
+        many = omega (arith, lower-open bound (cost (s .best .vector)) list (omega (arith, far-gap)), rows-length u (s .rows))
+
+        pub going-steppable : budget < 4294967296 → Steppable cost bound u e s at
+        going-steppable few =
+            let there = (found .place many) .inside in
+            record {
+              best = g .best;
+              stored = g .stored;
+              first = least-place bound u e (s .rows) (g .stored) at (found .place many);
+              inside = there;
+              room = omega (arith, open-rows, g .long);
+              entries = omega (arith, g .long, g .long-entries, ready .enough);
+              wide = rw (rows-at u (s .rows) at zeroBox there) at ((all-at zeroBox (sound .opened) at (omega (arith, rows-length u (s .rows)))) .two);
+              longest = open-few;
+              countable = omega (arith, less);
+            }
+
+        module _ (q : Stepped) (v : List ℤ) (f : List ℕ) (out : StepOutcome cost bound u e s q v f) where
+          pub going-full : q .full ≡ true → Answers r (answerWith (kindOf full) s low) v f
+          going-full is =
+              let more = ltb-true (rowCount u) (length ((split cost bound (stateIn u s)) .list)) (sym (out .told) ∙ is) in
+              rw (out .kept is, out .kept-entries is)
+              (answers full
+              (running-full cost bound budget rows (r .tol) (r .start) (r .domain) (stateIn u s) (g .running) far-gap less (omega (arith, g .long))))
+
+          -- one split less is left
+          pub going-counts : q .full ≡ false → budget - q .state .count < budget - s .count
+          unfolding split
+          going-counts is = omega (arith, less, ap (λ (x : Search.State). x .count) (out .moved is .state))
+
+          pub going-on : q .full ≡ false → Going r (q .state) v f
+          going-on is =
+              let few = ltb-false (rowCount u) (length ((split cost bound (stateIn u s)) .list)) (sym (out .told) ∙ is) in
+              let m = out .moved is in
+              let peaks = grows (q .state) v f m in
               record {
-                best = g .exact .best;
-                removable =
-                    record {
-                      told = g .exact .told;
-                      inside = there;
-                      room = omega (arith, sound .longest, sound .room, rows-length u (s .list .rows), g .long);
-                      below = going-below;
-                    };
-                wide = rw (rows-at u (s .list .rows) at zeroBox there) at ((all-at zeroBox (sound .opened) at (omega (arith, rows-length u (s .list .rows)))) .two);
-                longest = omega (arith, sound .longest, rows-length u (s .list .rows));
-                countable = omega (arith, less);
+                running =
+                    rw (m .state)
+                    (running-goes cost bound budget rows (r .tol) (r .start) (r .domain) (stateIn u s) (g .running) far-gap less (omega (arith, g .long)));
+                best = m .best;
+                stored = m .stored;
+                long = m .long ∙ g .long;
+                long-entries = m .long-entries ∙ g .long-entries;
+                longer = omega (arith, g .longer);
+                rest = m .rest ∙ rest-later (r .t) u (16 * s .peak) (16 * q .state .peak) (omega arith) (g .rest);
+                rest-entries = m .rest-entries ∙ rest-later (r .d) e (s .peak) (q .state .peak) peaks (g .rest-entries);
               }
-
-          module _ (r : Stepped) (v : List ℤ) (o : StepOutcome cost bound u s r v) where
-            pub going-full : r .full ≡ true → Ran def t first (answerWith (kindOf full) s) v
-            going-full e =
-                let many = ltb-true (rowCount u) (length ((split cost bound (stateIn u s)) .list)) (sym (o .told) ∙ e) in
-                rw (o .kept e)
-                (answers full
-                (running-full cost bound budget (rowCount t) tol start domain (stateIn u s) (g .running) far-gap less (omega (arith, g .long))))
-
-            -- one split less is left
-            pub going-counts : r .full ≡ false → budget - r .state .count < budget - s .count
-            unfolding split
-            going-counts e = omega (arith, less, ap (λ (x : Search.State). x .count) (o .moved e .state))
-
-            pub going-on : r .full ≡ false → Going (r .state) v
-            going-on e =
-                let few = ltb-false (rowCount u) (length ((split cost bound (stateIn u s)) .list)) (sym (o .told) ∙ e) in
-                let m = o .moved e in
-                let peaks = grows (r .state) v m in
-                record {
-                  running =
-                      rw (m .state)
-                      (running-goes cost bound budget (rowCount t) tol start domain (stateIn u s) (g .running) far-gap less (omega (arith, g .long)));
-                  exact = m .exact;
-                  long = m .long ∙ g .long;
-                  longer = omega (arith, g .longer);
-                  rest = m .rest ∙ rest-later t u (16 * s .peak) (16 * r .state .peak) (omega arith) (g .rest);
-                }

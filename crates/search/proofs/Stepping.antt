@@ -1,104 +1,131 @@
--- The split of the definition, in terms of the table: what is kept is what stays of the first rows, and the halves of the row taken out.
--- Assumes nothing.
-use borrow.Author.Tests.{lt-ltb, le-ltb, ltb-false}
-use mathlib.Core.Path.{_≡_, sym, ap, _∙_}
-use mathlib.Core.Bool.{Bool, false, cond}
-use mathlib.Core.List.{List, [], _∷_, _++_}
-use mathlib.Core.Logic.{⊎-elim}
-use Prim.Native.Nat.{ℕ, suc, _+_, _*_, _≤_, _<_, max}
+-- The split of the definition, in terms of the table and the list of bounds: what is kept is what stays of the first rows, and the halves
+-- of the row taken out. Assumes nothing.
+use mathlib.Core.Path.{_≡_, refl, sym, ap, _∙_}
+use mathlib.Core.Bool.{Bool, true, false, cond}
+use mathlib.Core.List.{List, [], _∷_, _++_, append-assoc, map, map-append}
+use Prim.Native.Nat.{ℕ, suc, _+_, _*_, _<_, min, max}
 use native.Mathlib.Numerals.{add-one}
 use native.Mathlib.Omega.{arith}
-use lib.Dec.{ltb}
+use lib.Dec.{ltb, eqb}
 use lib.IntN.{ℤ}
-use lib.ListN.{length, length-append}
-use Rattle.integers.proofs.Tests.{le-or-lt}
+use lib.ListN.{length}
 use Rattle.boxes.specs.declared.Box.{Box}
-use Rattle.boxes.specs.Split.{zeroBox}
+use Rattle.boxes.specs.Split.{leftHalf, rightHalf, zeroBox}
 use Rattle.rows.specs.Rows.{rowCount, rowAt, rowsOf}
-use Rattle.rows.proofs.Rows.{rows-at, rest-later}
+use Rattle.rows.proofs.Rows.{rest-later, rows-at}
+use Rattle.open_boxes.specs.declared.Child.{Child}
+use Rattle.open_boxes.specs.declared.Replaced.{Replaced}
+use Rattle.open_boxes.specs.OpenBoxes.{boundsLeft, boxesLeft, entryAt, ifKept, picked, roomIn, staysAt, ReplacedBy}
+use Rattle.open_boxes.proofs.Picking.{picked-map}
 use Rattle.certificate.specs.Search as Search
-use Rattle.certificate.specs.Search.{keepBelow, firstSmallest, boxAt, without, split}
-use Rattle.certificate.proofs.Kept.{keep-one, drop-one, keep-append}
+use Rattle.certificate.specs.Search.{keepBelow, boxAt, without, split}
+use Rattle.certificate.proofs.Lists.{keepIf}
+use Rattle.certificate.proofs.Kept.{keeps-if}
 use Rattle.search.specs.declared.branch.Branches.{Branches}
 use Rattle.search.specs.declared.branch.State.{State}
-use Rattle.search.specs.declared.scan.Open.{Open}
-use Rattle.search.specs.Inside.{SameBelow, openOf, Listed, Cut, Placeable, stateIn, Steppable, Moved}
-use Rattle.search.proofs.Listing.{listed-number}
+use Rattle.search.specs.Inside.{below, Tested, Cut, stateIn, Steppable, Moved}
+use Rattle.search.proofs.Keeping.{keep-append, picked-kept, stored-at}
 
--- one box, kept or not: x is its bound as far as that is below c
-keep-number : (bound : Box → ℕ) (c : ℕ) (b : Box) (x : ℕ) → SameBelow c x (bound b) → length (keepBelow bound c (b ∷ [])) ≡ cond (ltb x c) 1 0
-keep-number bound c b x found =
-    ⊎-elim
-    (λ (h : c ≤ x). let reaches : c ≤ bound b = omega arith in rw (drop-one bound c b reaches, le-ltb x c h))
-    (λ (h : x < c). let below : bound b < c = omega arith in rw (keep-one bound c b below, lt-ltb x c h))
-    (le-or-lt c x)
+-- A half, kept or not, for any test.
+module _ (bound : Box → ℕ) (keep : Box → Bool) (b : Box) (child : Child) (s : Tested bound keep b child) where
+  pub half-box : ifKept child (child .half) ≡ keepIf keep (b ∷ [])
+  half-box = rw (s .decided, s .half)
+
+  pub half-bound : ifKept child (child .bound) ≡ map bound (ifKept child (child .half))
+  half-bound = go (child .kept) refl
+    where
+      go : (k : Bool) → child .kept ≡ k → cond k (child .bound ∷ []) [] ≡ map bound (cond k (child .half ∷ []) [])
+      go true e = rw (s .exact e, s .half)
+      go false e = refl
+
+-- Any test p of a box, which the entries decide.
+module _
+    (bound : Box → ℕ) (p : Box → Bool) (t : List ℤ) (d : List ℕ) (n at c : ℕ) (entries : (k : ℕ) → k < n → entryAt d k ≡ bound (rowAt t k))
+    (decides : (k : ℕ) → k < n → staysAt d at c k ≡ cond (eqb k at) false (p (rowAt t k)))
+    (b₁ b₂ : Box) (left right : Child) (l : Tested bound p b₁ left) (r : Tested bound p b₂ right)
+  where
+    pub left-kept : boxesLeft t d n at c left right ≡ keepIf p (without (rowsOf t n) at ++ (b₁ ∷ b₂ ∷ []))
+    left-kept =
+        let stay = without (rowsOf t n) at in
+        rw (picked-kept p t at (staysAt d at c) n decides, half-box bound p b₁ left l, half-box bound p b₂ right r)
+        (append-assoc (keepIf p stay) (keepIf p (b₁ ∷ [])) (keepIf p (b₂ ∷ []))
+        ∙ ap (λ (x : List Box). keepIf p stay ++ x) (sym (keep-append p (b₁ ∷ []) (b₂ ∷ [])))
+        ∙ sym (keep-append p stay (b₁ ∷ b₂ ∷ [])))
+
+    -- and the numbers beside them are their bounds
+    pub left-bounds : boundsLeft t d n at c left right ≡ map bound (boxesLeft t d n at c left right)
+    left-bounds =
+        let f = picked (rowAt t) (staysAt d at c) n in
+        let g = ifKept left (left .half) in
+        let h = ifKept right (right .half) in
+        rw (picked-map bound (rowAt t) (entryAt d) (staysAt d at c) n entries, half-bound bound p b₁ left l, half-bound bound p b₂ right r)
+        (sym (map-append bound (f ++ g) h ∙ ap (λ (x : List ℕ). x ++ map bound h) (map-append bound f g)))
 
 module _
-    (cost : List ℤ → ℕ) (bound : Box → ℕ) (t : List ℤ) (s : State) (p : Steppable cost bound t s)
-    (br : Branches) (made : Cut cost bound (rowAt t (s .list .at)) (s .best .vector) br)
+    (cost : List ℤ → ℕ) (bound : Box → ℕ) (t : List ℤ) (d : List ℕ) (s : State) (at : ℕ) (p : Steppable cost bound t d s at)
+    (br : Branches) (made : Cut cost bound (rowAt t at) (s .best .vector) br)
   where
     abbrev n : ℕ
-    n = s .list .rows
-
-    abbrev at : ℕ
-    at = s .list .at
+    n = s .rows
 
     abbrev c : ℕ
     c = br .best .cost
 
-    abbrev stay : List Box
-    stay = without (rowsOf t n) at
+    abbrev b : Box
+    b = rowAt t at
 
     abbrev kept : List Box
-    kept = keepBelow bound c (stay ++ (br .left .half ∷ br .right .half ∷ []))
+    kept = boxesLeft t d n at c (br .left) (br .right)
 
     abbrev after : Search.State
     after = split cost bound (stateIn t s)
 
-    first : at ≡ firstSmallest bound (rowsOf t n)
-    first = ap (λ (o : Open). o .at) (p .removable .told)
+    entries : (k : ℕ) → k < n → entryAt d k ≡ bound (rowAt t k)
+    entries = stored-at bound t d n (p .stored)
 
-    taken : boxAt (rowsOf t n) at ≡ rowAt t at
-    taken = rows-at t n at zeroBox (p .removable .inside)
+    decides : (k : ℕ) → k < n → staysAt d at c k ≡ cond (eqb k at) false (below bound c (rowAt t k))
+    decides k h = rw (entries k h)
+
+    taken : boxAt (rowsOf t n) at ≡ b
+    taken = rows-at t n at zeroBox (p .inside)
+
+    kept-is : keepBelow bound c (without (rowsOf t n) at ++ (leftHalf b ∷ rightHalf b ∷ [])) ≡ kept
+    kept-is =
+        keeps-if bound c (without (rowsOf t n) at ++ (leftHalf b ∷ rightHalf b ∷ []))
+        ∙ sym (left-kept bound (below bound c) t d n at c entries decides (leftHalf b) (rightHalf b) (br .left) (br .right) (made .left) (made .right))
 
     -- the split, part by part
     split-is : after ≡ record { best = br .best .vector; list = kept; count = suc (s .count); peak = max (s .peak) (length kept) }
     unfolding split
-    split-is = rw (← first, taken, made .best, made .left, made .right)
+    split-is = rw (← p .first, taken, ← kept-is, made .best)
 
-    number : length (after .list) ≡ length (keepBelow bound c stay) + (cond (ltb (br .left .bound) c) 1 0 + cond (ltb (br .right .bound) c) 1 0)
-    number =
-        let l = br .left .half ∷ [] in
-        let r = br .right .half ∷ [] in
-        ap (λ (x : Search.State). length (x .list)) split-is
-        ∙ ap length (keep-append bound c stay (l ++ r))
-        ∙ length-append (keepBelow bound c stay) (keepBelow bound c (l ++ r))
-        ∙ ap (λ (x : ℕ). length (keepBelow bound c stay) + x)
-        (ap length (keep-append bound c l r)
-        ∙ length-append (keepBelow bound c l) (keepBelow bound c r)
-        ∙ rw (keep-number bound c (br .left .half) (br .left .bound) (made .left-bound), keep-number bound c (br .right .half) (br .right .bound) (made .right-bound)))
+    -- there is room for as many boxes as the table has rows, and for all that are open
+    room-is : roomIn t d ≡ rowCount t
+    room-is = omega (arith, p .entries)
 
-    -- whether the table is too small
-    module _ (full : Bool) (x y : ℕ) (left-one : x ≡ cond (ltb (br .left .bound) c) 1 0) (right-one : y ≡ cond (ltb (br .right .bound) c) 1 0)
-        (test : full ≡ ltb (rowCount t) (length (keepBelow bound c stay) + (x + y)))
-      where
-        pub step-told : full ≡ ltb (rowCount t) (length (after .list))
-        step-told = test ∙ ap (ltb (rowCount t)) (rw (left-one, right-one) (sym number))
+    all-open : min n (roomIn t d) ≡ n
+    all-open = omega (arith, p .room, p .entries)
 
-        pub step-fits : full ≡ false → Placeable bound t n at br
-        step-fits e =
-            record {
-              left = made .left-bound;
-              right = made .right-bound;
-              room = rw (left-one, right-one) at (ltb-false (rowCount t) (length (keepBelow bound c stay) + (x + y)) (sym test ∙ e));
-            }
+    module _ (r : Replaced) (u : List ℤ) (e : List ℕ) (out : ReplacedBy t d n at c (br .left) (br .right) r u e) where
+      -- whether the table is too small
+      pub step-told : r .full ≡ ltb (rowCount t) (length (after .list))
+      step-told = rw (all-open, room-is) at (out .told) ∙ ap (λ (x : Search.State). ltb (rowCount t) (length (x .list))) (sym split-is)
 
-    pub step-moved : (o : Open) (u : List ℤ) → Listed bound c kept t (max n (o .rows)) o u → (count peak : ℕ) → count ≡ s .count + 1 → peak ≡ max (s .peak) (o .rows) →
-        Moved cost bound t s (record { best = br .best; list = o; count = count; peak = peak }) u
-    step-moved o u q count peak counts peaks =
-        record {
-          exact = record { best = rw (made .best); told = q .told ∙ ap (openOf bound c) (sym (q .held)) };
-          state = rw (counts, peaks, q .held, add-one, listed-number q) (sym split-is);
-          long = q .long;
-          rest = rw peaks (rest-later t u (16 * max n (o .rows)) (16 * max (s .peak) (o .rows)) (omega (arith, p .longest)) (q .rest));
-        }
+      pub step-moved :
+          r .full ≡ false → (count peak : ℕ) → count ≡ s .count + 1 → peak ≡ max (s .peak) (r .rows) →
+          Moved cost bound t d s (record { best = br .best; rows = r .rows; count = count; peak = peak }) u e
+      step-moved left count peak counts peaks =
+          let h = rw all-open at (out .held left) in
+          let j = r .rows in
+          record {
+            best = rw (made .best);
+            stored =
+                h .entries
+                ∙ left-bounds bound (below bound c) t d n at c entries decides (leftHalf b) (rightHalf b) (br .left) (br .right) (made .left) (made .right)
+                ∙ ap (map bound) (sym (h .rows));
+            state = rw (counts, peaks, h .rows, add-one, h .told) (sym split-is);
+            long = h .long;
+            long-entries = h .long-entries;
+            rest = rw peaks (rest-later t u (16 * max n j) (16 * max (s .peak) j) (omega (arith, p .longest)) (h .rest));
+            rest-entries = rw peaks (rest-later d e (max n j) (max (s .peak) j) (omega (arith, p .longest)) (h .rest-entries));
+          }

@@ -1,10 +1,10 @@
--- What a search answers: "The search" over the points of a store, with the checks 1 to 8 before it.
+-- What a search answers: "The search" over the points of a store, with the checks 1 to 8 and 14 before it. What it leaves in lent memory.
 use mathlib.Core.Path.{_≡_}
-use mathlib.Core.List.{List, [], _∷_, _++_}
-use Prim.Native.Nat.{ℕ, _*_}
+use mathlib.Core.List.{List, [], _∷_, _++_, map}
+use Prim.Native.Nat.{ℕ, _*_, _/_}
 use lib.Dec.{leb}
 use lib.IntN.{ℤ, pos}
-use lib.ListN.{length, drop, replicate}
+use lib.ListN.{length, take, drop, replicate}
 use Rattle.codes.specs.declared.Check.{Check}
 use Rattle.codes.specs.declared.Check.the-variants.{Pass, Refuse}
 use Rattle.codes.specs.declared.Refusal.{Refusal}
@@ -69,38 +69,62 @@ checkJob store job =
     ∷ checkStray (m .d) (pointsOf store)
     ∷ [])
 
--- "A search and fit make 1 to 8"; 8: "fewer than 16 numbers"
-unfoldable pub checkSearch : List ℕ → Job → ℕ → Check
-checkSearch store job numbers = inOrder (checkJob store job ∷ passIf (leb 16 numbers) Refusal.Table ∷ [])
+-- "A search and fit make 1 to 8"; 8: "fewer than 16 numbers". Document 02: "14, bounds, for fewer entries than rows, checked after 8".
+unfoldable pub checkSearch : List ℕ → Job → ℕ → ℕ → Check
+checkSearch store job numbers entries =
+    inOrder (checkJob store job ∷ passIf (leb 16 numbers) Refusal.Table ∷ passIf (leb (numbers / 16) entries) Refusal.Bounds ∷ [])
 
 -- "A search accepts a job when none of the checks that it makes, by the codes below, refuses the call."
 abbrev pub answerUnlessRefused : Check → Search.Answer → Answer
 answerUnlessRefused Pass r = told r
 answerUnlessRefused (Refuse why) r = refused why
 
--- What a search answers: it "accepts a job when none of the checks that it makes, by the codes below, refuses the call". "r is its
--- length divided by 16, rounded down."
-unfoldable pub searchAnswer : List ℕ → Job → List ℤ → Answer
-searchAnswer store job table = answerUnlessRefused (checkSearch store job (length table)) (searched store job (rowCount table))
-
--- The table afterwards, where it was `table`. "At the end the first rows hold the open boxes in list order. Rows from there up to peak
--- may hold leftovers; from peak on, and in a partial row, nothing changed." At a refusal nothing changed at all.
-pub record TableAfter (store : List ℕ) (job : Job) (table after : List ℤ) : Type 0 where
+-- What a search leaves of the table, by its check and by what it comes to. "At the end the first rows hold the open boxes in list order.
+-- Rows from there up to peak may hold leftovers; from peak on, and in a partial row, nothing changed." At a refusal nothing changed at all.
+pub record TableAfter (check : Check) (found : Search.Answer) (table after : List ℤ) : Type 0 where
   pub long : length after ≡ length table
-  pub untouched : (why : Refusal) → checkSearch store job (length table) ≡ Refuse why → after ≡ table
+  pub untouched : (why : Refusal) → check ≡ Refuse why → after ≡ table
   -- The leftovers are free: boxes of any signed 16-bit numbers, as many as peak is more than the open count.
   pub leftovers : List Box
-  pub rows :
-      checkSearch store job (length table) ≡ Pass →
-      rowsOf after ((searched store job (rowCount table)) .peak) ≡ (searched store job (rowCount table)) .list ++ leftovers
-  pub rest :
-      checkSearch store job (length table) ≡ Pass →
-      drop (16 * (searched store job (rowCount table)) .peak) after ≡ drop (16 * (searched store job (rowCount table)) .peak) table
+  pub rows : check ≡ Pass → rowsOf after (found .peak) ≡ found .list ++ leftovers
+  pub rest : check ≡ Pass → drop (16 * found .peak) after ≡ drop (16 * found .peak) table
 
--- An answer r to an accepted job is certified: it tells what the search comes to, and of that demand 3 holds.
-abbrev pub Certified : List ℕ → Job → List ℤ → Answer → Type 0
-Certified store job table r =
-    checkSearch store job (length table) ≡ Pass →
-    (r ≡ told (searched store job (rowCount table)))
-    × Certificate (cost (job .model) (pointsOf store)) (bound (job .model) (pointsOf store)) (job .budget) (rowCount table) (job .t) (job .start) (job .domain)
-    (searched store job (rowCount table))
+-- What it leaves of the list of bounds. Document 02: "keep each open row's bound in a second lent list of unsigned 64-bit numbers", "the
+-- entry equals that bound by definition. Entries from the open count up to peak .. are as free as the rows there, and those from there on
+-- keep their contents." At a refusal nothing changed at all.
+pub record BoundsAfter (bound : Box → ℕ) (check : Check) (found : Search.Answer) (bounds after : List ℕ) : Type 0 where
+  pub long : length after ≡ length bounds
+  pub untouched : (why : Refusal) → check ≡ Refuse why → after ≡ bounds
+  -- The leftovers are free: any unsigned 64-bit numbers, as many as peak is more than the open count.
+  pub leftovers : List ℕ
+  pub entries : check ≡ Pass → take (found .peak) after ≡ map bound (found .list) ++ leftovers
+  pub rest : check ≡ Pass → drop (found .peak) after ≡ drop (found .peak) bounds
+
+-- of what a search in so many rows comes to demand 3 holds
+abbrev pub CertifiedIn : List ℕ → Job → ℕ → Type 0
+CertifiedIn store job rows =
+    Certificate (cost (job .model) (pointsOf store)) (bound (job .model) (pointsOf store)) (job .budget) rows (job .t) (job .start) (job .domain)
+    (searched store job rows)
+
+-- A search that is lent a table and a list of bounds. "r is its length divided by 16, rounded down."
+module _ (store : List ℕ) (job : Job) (table : List ℤ) (bounds : List ℕ) where
+  abbrev pub checkLent : Check
+  checkLent = checkSearch store job (length table) (length bounds)
+
+  abbrev pub searchedLent : Search.Answer
+  searchedLent = searched store job (rowCount table)
+
+  -- what it answers
+  unfoldable pub searchAnswer : Answer
+  searchAnswer = answerUnlessRefused checkLent searchedLent
+
+  -- and leaves in what it is lent
+  abbrev pub TableSearched : List ℤ → Type 0
+  TableSearched after = TableAfter checkLent searchedLent table after
+
+  abbrev pub BoundsSearched : List ℕ → Type 0
+  BoundsSearched after = BoundsAfter (bound (job .model) (pointsOf store)) checkLent searchedLent bounds after
+
+  -- An answer r to an accepted job is certified: it tells what the search comes to, and of that demand 3 holds.
+  abbrev pub Certified : Answer → Type 0
+  Certified r = checkLent ≡ Pass → (r ≡ told searchedLent) × CertifiedIn store job (rowCount table)

@@ -1,7 +1,6 @@
 // The search: branch and bound over the boxes of a lent table, with the certificate of its answer.
 mod branch;
 mod run;
-mod scan;
 
 use crate::run::begin;
 use crate::run::run;
@@ -10,10 +9,11 @@ use codes::Refusal;
 use codes::in_order;
 use jobs::Job;
 ghost use mathlib.Core.Path.{_≡_};
+ghost use Prim.Native.Nat.{_/_};
 ghost use lib.Dec.{leb};
 ghost use Rattle.codes.specs.Codes.{passIf};
 ghost use Rattle.codes.specs.declared.Refusal.{Refusal};
-ghost use Rattle.search.specs.Search.{checkJob, checkSearch, searchAnswer, refused, TableAfter, Certified};
+ghost use Rattle.search.specs.Search.{checkJob, checkSearch, refused, searchAnswer, TableSearched, BoundsSearched, Certified};
 
 // What a search comes to.
 pub enum Kind {
@@ -45,6 +45,17 @@ fn check_table(numbers: usize) -> Check
     }
 }
 
+// Check 14, of the entries beside a table of so many numbers.
+fn check_bounds(numbers: usize, entries: usize) -> Check
+    ensures { λ r. ⌜ r ≡ passIf (leb (numbers / 16) entries) Refusal.Bounds ⌝ }
+{
+    if numbers / 16 <= entries {
+        Check::Pass
+    } else {
+        Check::Refuse(Refusal::Bounds)
+    }
+}
+
 // Checks 1 to 7. Only where checks 1 to 6 pass is the store looked through for stray fields.
 pub fn check_job(store: &[u8], job: Job) -> Check
     ensures { λ r. ⌜ r ≡ checkJob (now (store .entry)) job ⌝ }
@@ -62,11 +73,14 @@ pub fn check_job(store: &[u8], job: Job) -> Check
     }
 }
 
-// Checks 1 to 8, with a table of so many numbers.
-pub fn check_search(store: &[u8], job: Job, numbers: usize) -> Check
-    ensures { λ r. ⌜ r ≡ checkSearch (now (store .entry)) job numbers ⌝ }
+// Checks 1 to 8 and 14, with a table of so many numbers and a list of so many entries.
+pub fn check_search(store: &[u8], job: Job, numbers: usize, entries: usize) -> Check
+    ensures { λ r. ⌜ r ≡ checkSearch (now (store .entry)) job numbers entries ⌝ }
 {
-    in_order(check_job(store, job), check_table(numbers))
+    let given = check_job(store, job);
+    let table = check_table(numbers);
+    let bounds = check_bounds(numbers, entries);
+    in_order(in_order(given, table), bounds)
 }
 
 // The answer to a job that is refused.
@@ -84,19 +98,21 @@ fn refusal(why: Refusal) -> Answer
     }
 }
 
-// Searches the box of a job for the cheapest vector, within a split budget and the rows of a lent table.
-pub fn search(store: &[u8], job: Job, table: &mut [i16]) -> Answer
-    ensures answer { λ r. ⌜ r ≡ searchAnswer (now (store .entry)) job (now (table .entry)) ⌝ }
-    ensures table { λ _. ⌜ TableAfter (now (store .entry)) job (now (table .entry)) (now (table .exit)) ⌝ }
-    ensures certificate { λ r. ⌜ Certified (now (store .entry)) job (now (table .entry)) r ⌝ }
+// Searches the box of a job for the cheapest vector, within a split budget and the rows of a lent table, with the bound of each open box
+// in a lent list.
+pub fn search(store: &[u8], job: Job, table: &mut [i16], bounds: &mut [u64]) -> Answer
+    ensures answer { λ r. ⌜ r ≡ searchAnswer (now (store .entry)) job (now (table .entry)) (now (bounds .entry)) ⌝ }
+    ensures table { λ _. ⌜ TableSearched (now (store .entry)) job (now (table .entry)) (now (bounds .entry)) (now (table .exit)) ⌝ }
+    ensures bounds { λ _. ⌜ BoundsSearched (now (store .entry)) job (now (table .entry)) (now (bounds .entry)) (now (bounds .exit)) ⌝ }
+    ensures certificate { λ r. ⌜ Certified (now (store .entry)) job (now (table .entry)) (now (bounds .entry)) r ⌝ }
 {
-    match check_search(store, job, table.len()) {
+    match check_search(store, job, table.len(), bounds.len()) {
         Check::Pass => {
             let m = job.model;
             let domain = job.domain;
             let start = job.start;
-            let first = begin(store, m, table, domain, start);
-            run(store, job, table, first)
+            let first = begin(store, m, table, bounds, domain, start);
+            run(store, job, table, bounds, first)
         }
         Check::Refuse(why) => refusal(why),
     }

@@ -3,16 +3,14 @@ use mathlib.Core.Path.{_≡_, refl, sym, ap, subst, _∙_}
 use mathlib.Core.List.{List}
 use Prim.Native.Nat.{ℕ}
 use lib.IntN.{ℤ}
-use lib.ListN.{length}
 use Rattle.codes.specs.declared.Check.{Check}
 use Rattle.codes.specs.declared.Check.the-variants.{Pass, Refuse}
 use Rattle.jobs.specs.declared.Job.{Job}
 use Rattle.jobs.specs.declared.Model.{Model}
-use Rattle.rows.specs.Rows.{rowCount}
 use Rattle.search.specs.declared.Kind.{Kind}
 use Rattle.search.specs.declared.Kind.the-variants.{Solved, Spent, Full, Refused}
 use Rattle.search.specs.declared.Answer.{Answer}
-use Rattle.search.specs.Search.{kindNumber, searched, checkSearch, answerUnlessRefused, searchAnswer, Certified}
+use Rattle.search.specs.Search.{kindNumber, answerUnlessRefused, checkLent, searchedLent, searchAnswer, Certified}
 use Rattle.boundary.specs.Boundary.{answered, codeOf, valueAfter, ifAccepted, jobFrom}
 use Rattle.search_calls.specs.Calls.{outcomeOf, searchNumbers, CertifiedCall}
 use Rattle.boundary.proofs.Codes.{refusal-not-0, given-at-0}
@@ -25,34 +23,37 @@ kind-at-0 Full held e = refl
 kind-at-0 (Refused why) held e = absurd (refusal-not-0 why e)
 
 -- the check of a search at 0
-module _ (store : List ℕ) (job : Job) (table : List ℤ) where
-  passed-at-0 : (check : Check) → codeOf (answered (outcomeOf ((answerUnlessRefused check (searched store job (rowCount table))) .kind))) ≡ 0 → check ≡ Pass
+module _ (store : List ℕ) (job : Job) (table : List ℤ) (bounds : List ℕ) where
+  passed-at-0 : (check : Check) →
+      codeOf (answered (outcomeOf ((answerUnlessRefused check (searchedLent store job table bounds)) .kind))) ≡ 0 → check ≡ Pass
   passed-at-0 Pass e = refl
   passed-at-0 (Refuse why) e = absurd (refusal-not-0 why e)
 
-  accepted-at-0 : codeOf (answered (outcomeOf ((searchAnswer store job table) .kind))) ≡ 0 → checkSearch store job (length table) ≡ Pass
+  accepted-at-0 : codeOf (answered (outcomeOf ((searchAnswer store job table bounds) .kind))) ≡ 0 → checkLent store job table bounds ≡ Pass
   unfolding searchAnswer
-  accepted-at-0 e = passed-at-0 (checkSearch store job (length table)) e
+  accepted-at-0 e = passed-at-0 (checkLent store job table bounds) e
 
-module _ (store : List ℕ) (m : Model) (t budget : ℕ) (corners start table vector : List ℤ) (numbers : List ℕ) where
-  abbrev job : Job
-  job = jobFrom m t budget 0 corners start
+module _
+    (store : List ℕ) (m : Model) (t budget : ℕ) (corners start table : List ℤ) (bounds : List ℕ) (vector : List ℤ) (numbers : List ℕ)
+  where
+    abbrev job : Job
+    job = jobFrom m t budget 0 corners start
 
-  -- r is what the search answered; the rest is what is left where it was handed over
-  pub certified-call :
-      (r : Answer) (held newValue : ℕ) (newVector : List ℤ) (newNumbers : List ℕ) →
-      r ≡ searchAnswer store job table →
-      Certified store job table r →
-      codeOf (answered (outcomeOf (r .kind))) ≡ 0 →
-      newValue ≡ valueAfter (answered (outcomeOf (r .kind))) held →
-      newVector ≡ ifAccepted (answered (outcomeOf (r .kind))) (r .vector) vector →
-      newNumbers ≡ ifAccepted (answered (outcomeOf (r .kind))) (searchNumbers r) numbers →
-      CertifiedCall store m t budget corners start table vector numbers newValue newVector newNumbers
-  certified-call r held newValue newVector newNumbers found certificate at-0 value laid told =
-      record {
-        accepted = accepted-at-0 store job table (ap (λ (a : Answer). codeOf (answered (outcomeOf (a .kind)))) (sym found) ∙ at-0);
-        kind = value ∙ kind-at-0 (r .kind) held at-0 ∙ ap (λ (a : Answer). kindNumber (a .kind)) found;
-        best = laid ∙ given-at-0 (outcomeOf (r .kind)) (r .vector) vector at-0 ∙ ap (λ (a : Answer). a .vector) found;
-        told = told ∙ given-at-0 (outcomeOf (r .kind)) (searchNumbers r) numbers at-0 ∙ ap searchNumbers found;
-        certified = subst (Certified store job table) found certificate;
-      }
+    -- r is what the search answered; the rest is what is left where it was handed over
+    pub certified-call :
+        (r : Answer) (held newValue : ℕ) (newVector : List ℤ) (newNumbers : List ℕ) →
+        r ≡ searchAnswer store job table bounds →
+        Certified store job table bounds r →
+        codeOf (answered (outcomeOf (r .kind))) ≡ 0 →
+        newValue ≡ valueAfter (answered (outcomeOf (r .kind))) held →
+        newVector ≡ ifAccepted (answered (outcomeOf (r .kind))) (r .vector) vector →
+        newNumbers ≡ ifAccepted (answered (outcomeOf (r .kind))) (searchNumbers r) numbers →
+        CertifiedCall store m t budget corners start table bounds vector numbers newValue newVector newNumbers
+    certified-call r held newValue newVector newNumbers found certificate at-0 value laid told =
+        record {
+          accepted = accepted-at-0 store job table bounds (ap (λ (a : Answer). codeOf (answered (outcomeOf (a .kind)))) (sym found) ∙ at-0);
+          kind = value ∙ kind-at-0 (r .kind) held at-0 ∙ ap (λ (a : Answer). kindNumber (a .kind)) found;
+          best = laid ∙ given-at-0 (outcomeOf (r .kind)) (r .vector) vector at-0 ∙ ap (λ (a : Answer). a .vector) found;
+          told = told ∙ given-at-0 (outcomeOf (r .kind)) (searchNumbers r) numbers at-0 ∙ ap searchNumbers found;
+          certified = subst (Certified store job table bounds) found certificate;
+        }

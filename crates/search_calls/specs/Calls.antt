@@ -15,7 +15,7 @@ use Rattle.search.specs.declared.Kind.{Kind}
 use Rattle.search.specs.declared.Kind.the-variants.{Solved, Spent, Full}
 use Rattle.search.specs.declared.Kind.the-variants as kinds
 use Rattle.search.specs.declared.Answer.{Answer}
-use Rattle.search.specs.Search.{kindNumber, checkSearch, searchAnswer, TableAfter, Certified}
+use Rattle.search.specs.Search.{kindNumber, checkLent, searchAnswer, TableSearched, BoundsSearched, Certified}
 use Rattle.boundary.specs.Boundary.{Call, ifLengths, ifAccepted, jobFrom}
 
 -- the kind by its number, or the refusal
@@ -34,38 +34,45 @@ abbrev pub searchLengths : ℕ → ℕ → ℕ → ℕ → Bool
 searchLengths corners start vector numbers = eqb corners 16 && eqb start 8 && eqb vector 8 && eqb numbers 5
 
 -- What a call is given: r is told by the table, so the rows of a job record are not asked for.
-module _ (store : List ℕ) (m : Model) (t budget : ℕ) (corners start table vector : List ℤ) (numbers : List ℕ) where
-  -- whether the lengths are right, the job, and the answer to it
-  abbrev right : Bool
-  right = searchLengths (length corners) (length start) (length vector) (length numbers)
+module _
+    (store : List ℕ) (m : Model) (t budget : ℕ) (corners start table : List ℤ) (bounds : List ℕ) (vector : List ℤ) (numbers : List ℕ)
+  where
+    -- whether the lengths are right, the job, and the answer to it
+    abbrev right : Bool
+    right = searchLengths (length corners) (length start) (length vector) (length numbers)
 
-  abbrev job : Job
-  job = jobFrom m t budget 0 corners start
+    abbrev job : Job
+    job = jobFrom m t budget 0 corners start
 
-  abbrev found : Answer
-  found = searchAnswer store job table
+    abbrev found : Answer
+    found = searchAnswer store job table bounds
 
-  -- what the call comes to
-  abbrev pub searchCall : Call
-  searchCall = ifLengths right (outcomeOf (found .kind))
+    -- what the call comes to
+    abbrev pub searchCall : Call
+    searchCall = ifLengths right (outcomeOf (found .kind))
 
-  -- the lent vector and numbers afterwards
-  abbrev pub vectorAfter : List ℤ
-  vectorAfter = ifAccepted searchCall (found .vector) vector
+    -- the lent vector and numbers afterwards
+    abbrev pub vectorAfter : List ℤ
+    vectorAfter = ifAccepted searchCall (found .vector) vector
 
-  abbrev pub numbersAfter : List ℕ
-  numbersAfter = ifAccepted searchCall (searchNumbers found) numbers
+    abbrev pub numbersAfter : List ℕ
+    numbersAfter = ifAccepted searchCall (searchNumbers found) numbers
 
-  -- the table afterwards: as a search leaves it, or as it was where a length is wrong
-  pub record TableAfterCall (after : List ℤ) : Type 0 where
-    pub searched : right ≡ true → TableAfter store job table after
-    pub kept : right ≡ false → after ≡ table
+    -- the table afterwards: as a search leaves it, or as it was where a length is wrong
+    pub record TableAfterCall (after : List ℤ) : Type 0 where
+      pub searched : right ≡ true → TableSearched store job table bounds after
+      pub kept : right ≡ false → after ≡ table
 
-  -- What is handed over with the code 0 is certified: the job was accepted, the lent value, vector and numbers afterwards are those of
-  -- its answer, and of that answer demand 3 holds.
-  pub record CertifiedCall (newValue : ℕ) (newVector : List ℤ) (newNumbers : List ℕ) : Type 0 where
-    pub accepted : checkSearch store job (length table) ≡ Pass
-    pub kind : newValue ≡ kindNumber (found .kind)
-    pub best : newVector ≡ found .vector
-    pub told : newNumbers ≡ searchNumbers found
-    pub certified : Certified store job table found
+    -- and the list of bounds
+    pub record BoundsAfterCall (after : List ℕ) : Type 0 where
+      pub searched : right ≡ true → BoundsSearched store job table bounds after
+      pub kept : right ≡ false → after ≡ bounds
+
+    -- What is handed over with the code 0 is certified: the job was accepted, the lent value, vector and numbers afterwards are those of
+    -- its answer, and of that answer demand 3 holds.
+    pub record CertifiedCall (newValue : ℕ) (newVector : List ℤ) (newNumbers : List ℕ) : Type 0 where
+      pub accepted : checkLent store job table bounds ≡ Pass
+      pub kind : newValue ≡ kindNumber (found .kind)
+      pub best : newVector ≡ found .vector
+      pub told : newNumbers ≡ searchNumbers found
+      pub certified : Certified store job table bounds found

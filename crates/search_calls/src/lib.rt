@@ -13,7 +13,7 @@ ghost use lib.ListN.{length};
 ghost use Rattle.buffers.specs.Buffers.{filled};
 ghost use Rattle.boundary.specs.Boundary.{modelOf, answered, codeOf, valueAfter, ifAccepted};
 ghost use Rattle.search_calls.specs.Calls.{outcomeOf, searchNumbers, searchLengths};
-ghost use Rattle.search_calls.specs.Calls.{searchCall, vectorAfter, numbersAfter, TableAfterCall, CertifiedCall};
+ghost use Rattle.search_calls.specs.Calls.{searchCall, vectorAfter, numbersAfter, TableAfterCall, BoundsAfterCall, CertifiedCall};
 
 fn outcome_of(k: Kind) -> Outcome
     ensures { λ o. ⌜ o ≡ outcomeOf k ⌝ }
@@ -62,7 +62,8 @@ fn hand_over(a: Answer, vector: &mut [i16], numbers: &mut [u64], value: &mut u64
     }
 }
 
-// Searches a box with the rows of a lent table. The value is the kind of the answer; its vector and its numbers go into their buffers.
+// Searches a box with the rows of a lent table, with the bounds of open boxes in a lent list. The value is the kind of the answer; its
+// vector and its numbers go into their buffers.
 pub fn search(
     store: &[u8],
     n: u8,
@@ -75,33 +76,42 @@ pub fn search(
     corners: &[i16],
     start: &[i16],
     table: &mut [i16],
+    bounds: &mut [u64],
     vector: &mut [i16],
     numbers: &mut [u64],
     value: &mut u64,
 ) -> u32
     ensures code { λ k. ⌜ k
         ≡ codeOf (searchCall (now (store .entry)) (modelOf n d scale p eps) t budget (now (corners .entry)) (now (start .entry))
-        (now (table .entry)) (now (vector .entry)) (now (numbers .entry))) ⌝ }
+        (now (table .entry)) (now (bounds .entry)) (now (vector .entry)) (now (numbers .entry))) ⌝ }
     ensures value { λ _. ⌜ now (value .exit)
         ≡ valueAfter (searchCall (now (store .entry)) (modelOf n d scale p eps) t budget (now (corners .entry)) (now (start .entry))
-        (now (table .entry)) (now (vector .entry)) (now (numbers .entry))) (now (value .entry)) ⌝ }
+        (now (table .entry)) (now (bounds .entry)) (now (vector .entry)) (now (numbers .entry))) (now (value .entry)) ⌝ }
     ensures vector { λ _. ⌜ now (vector .exit)
         ≡ vectorAfter (now (store .entry)) (modelOf n d scale p eps) t budget (now (corners .entry)) (now (start .entry))
-        (now (table .entry)) (now (vector .entry)) (now (numbers .entry)) ⌝ }
+        (now (table .entry)) (now (bounds .entry)) (now (vector .entry)) (now (numbers .entry)) ⌝ }
     ensures numbers { λ _. ⌜ now (numbers .exit)
         ≡ numbersAfter (now (store .entry)) (modelOf n d scale p eps) t budget (now (corners .entry)) (now (start .entry))
-        (now (table .entry)) (now (vector .entry)) (now (numbers .entry)) ⌝ }
+        (now (table .entry)) (now (bounds .entry)) (now (vector .entry)) (now (numbers .entry)) ⌝ }
     ensures table { λ _. ⌜
         TableAfterCall (now (store .entry)) (modelOf n d scale p eps) t budget (now (corners .entry)) (now (start .entry))
-        (now (table .entry)) (now (vector .entry)) (now (numbers .entry)) (now (table .exit)) ⌝ }
+        (now (table .entry)) (now (bounds .entry)) (now (vector .entry)) (now (numbers .entry)) (now (table .exit)) ⌝ }
+    ensures bounds { λ _. ⌜
+        BoundsAfterCall (now (store .entry)) (modelOf n d scale p eps) t budget (now (corners .entry)) (now (start .entry))
+        (now (table .entry)) (now (bounds .entry)) (now (vector .entry)) (now (numbers .entry)) (now (bounds .exit)) ⌝ }
     ensures certificate { λ k. ⌜ (k ≡ 0 →
         CertifiedCall (now (store .entry)) (modelOf n d scale p eps) t budget (now (corners .entry)) (now (start .entry))
-        (now (table .entry)) (now (vector .entry)) (now (numbers .entry)) (now (value .exit)) (now (vector .exit))
+        (now (table .entry)) (now (bounds .entry)) (now (vector .entry)) (now (numbers .entry)) (now (value .exit)) (now (vector .exit))
         (now (numbers .exit))) ⌝ }
 {
     if !lengths_right(corners.len(), start.len(), vector.len(), numbers.len()) {
         return WRONG_LENGTH;
     }
     let job = job_of(model_of(n, d, scale, p, eps), t, budget, 0, corners, start);
-    hand_over(search::search(store, job, table), vector, numbers, value)
+    hand_over(
+        search::search(store, job, table, bounds),
+        vector,
+        numbers,
+        value,
+    )
 }

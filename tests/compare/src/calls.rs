@@ -40,6 +40,7 @@ pub trait Calls {
         corners: &[i16],
         start: &[i16],
         table: &mut [i16],
+        bounds: &mut [u64],
         found: &mut Found,
     ) -> u32;
     /// The numbers are n, d, S, p, ε, t, budget and r.

@@ -84,6 +84,8 @@ extern "C" {
         start_len: usize,
         table: *mut i16,
         table_len: usize,
+        bounds: *mut u64,
+        bounds_len: usize,
         vector: *mut i16,
         vector_len: usize,
         numbers: *mut u64,
@@ -209,6 +211,7 @@ impl Calls for Library {
         corners: &[i16],
         start: &[i16],
         table: &mut [i16],
+        bounds: &mut [u64],
         found: &mut Found,
     ) -> u32 {
         let Model { n, d, s, p, epsilon } = job.model;
@@ -230,6 +233,8 @@ impl Calls for Library {
                 start.len(),
                 table.as_mut_ptr(),
                 table.len(),
+                bounds.as_mut_ptr(),
+                bounds.len(),
                 vector.as_mut_ptr(),
                 vector.len(),
                 numbers.as_mut_ptr(),

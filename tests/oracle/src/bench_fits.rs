@@ -145,6 +145,15 @@ fn fit_refuses_by_the_number_alone() {
 fn a_table_of_fewer_than_sixteen_numbers() {
     let good = job(1, 2, 3, 10, 0);
     let store = store_of(&[point(1, 2)]);
-    assert_eq!(crate::search(&good, &store, 15), Err(Refusal::Table));
-    assert!(crate::search(&good, &store, 16).is_ok());
+    assert_eq!(crate::search(&good, &store, 15, 1), Err(Refusal::Table));
+    assert!(crate::search(&good, &store, 16, 1).is_ok());
+}
+
+#[test]
+fn fewer_entries_than_rows() {
+    let good = job(1, 2, 3, 10, 0);
+    let store = store_of(&[point(1, 2)]);
+    assert_eq!(crate::search(&good, &store, 16, 0), Err(Refusal::Bounds));
+    assert_eq!(crate::search(&good, &store, 47, 1), Err(Refusal::Bounds));
+    assert!(crate::search(&good, &store, 31, 1).is_ok());
 }

@@ -12,7 +12,7 @@ fn solve(input: &[u8]) -> Result<(Job, Answer), Refusal> {
     let job = read_job(record);
     check_job(&job, store)?;
     refuse_if(job.rows < 1 || job.rows > ROWS_LIMIT, Refusal::Table)?;
-    let answer = search(&job, store, 16 * job.rows as usize)?;
+    let answer = search(&job, store, 16 * job.rows as usize, ROWS_LIMIT as usize)?;
     Ok((job, answer))
 }
 

@@ -1,4 +1,4 @@
-//! The refusals of the paper's table, "Codes for jobs that can't run".
+//! The refusals of the paper's table, "Codes for jobs that can't run", and those of later requests.
 
 /// One row of the table; a stray field also gives its record's number.
 #[derive(Clone, Copy, Debug, PartialEq, Eq)]
@@ -15,6 +15,7 @@ pub enum Refusal {
     Short,
     Beacon,
     OffGrid,
+    Bounds,
 }
 
 impl Refusal {
@@ -33,6 +34,7 @@ impl Refusal {
             Refusal::Short => 10,
             Refusal::Beacon => 11,
             Refusal::OffGrid => 12,
+            Refusal::Bounds => 14,
         }
     }
 }

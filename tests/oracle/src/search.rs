@@ -14,7 +14,7 @@ pub enum Kind {
     Full = 3,
 }
 
-/// What a search answers; `open` holds the open boxes in list order, as the table's first rows do.
+/// What a search answers; `open` holds the open boxes in list order, as the table's first rows do, and `bounds` their bounds.
 #[derive(Clone, Debug, PartialEq, Eq)]
 pub struct Answer {
     pub kind: Kind,
@@ -23,6 +23,7 @@ pub struct Answer {
     pub l: u64,
     pub count: u32,
     pub open: Vec<Box8>,
+    pub bounds: Vec<u64>,
     pub peak: usize,
 }
 
@@ -126,11 +127,12 @@ pub fn check_job(job: &Job, store: &[u8]) -> Result<Vec<Point>, Refusal> {
     Ok(points)
 }
 
-/// Searches with a table of `numbers` signed 16-bit numbers; makes checks 1 to 8. The rows that the job
-/// record carries are fit's alone.
-pub fn search(job: &Job, store: &[u8], numbers: usize) -> Result<Answer, Refusal> {
+/// Searches with a table of `numbers` signed 16-bit numbers and a list of `entries` bounds; makes checks 1 to 8
+/// and 14. The rows that the job record carries are fit's alone.
+pub fn search(job: &Job, store: &[u8], numbers: usize, entries: usize) -> Result<Answer, Refusal> {
     let points = check_job(job, store)?;
     refuse_if(numbers < 16, Refusal::Table)?;
+    refuse_if(entries < numbers / 16, Refusal::Bounds)?;
     let (kind, state) = Search { job, points, rows: numbers / 16 }.run();
     Ok(Answer {
         kind,
@@ -139,6 +141,7 @@ pub fn search(job: &Job, store: &[u8], numbers: usize) -> Result<Answer, Refusal
         l: state.l(),
         count: state.count,
         open: state.list.iter().map(|open| open.domain).collect(),
+        bounds: state.list.iter().map(|open| open.bound).collect(),
         peak: state.peak,
     })
 }

@@ -20,6 +20,9 @@ input-space-requires c κs = search needs
 table-space-requires : tie.Need-table-space-requires
 table-space-requires c κs = search needs
 
+bounds-space-requires : tie.Need-bounds-space-requires
+bounds-space-requires c κs = search needs
+
 line-space-requires : tie.Need-line-space-requires
 line-space-requires c κs = search needs
 
@@ -41,19 +44,22 @@ slice-aggregate-report-2 c = search needs
 slice-aggregate-report-3 : tie.Need-slice-aggregate-report-3
 slice-aggregate-report-3 c = search needs
 
+slice-aggregate-report-4 : tie.Need-slice-aggregate-report-4
+slice-aggregate-report-4 c = search needs
+
 report-requires : tie.Need-report-requires
 report-requires c κs = search needs
 
-short : (c : tie.After-report) → c .report .result ≤ length (c .report .last .1 .1 .0)
+short : (c : tie.After-report) → c .report .result ≤ length (c .report .last .1 .1 .1 .0)
 short c = rw (c .report .ensures .0, c .report .ensures .1 .0) (over-long _ _)
 
 array-share-prefix-line : tie.Need-array-share-prefix-line
-array-share-prefix-line c = short (c .before .before)
+array-share-prefix-line c = short (c .before .before .before)
 
 slice-aggregate-put : tie.Need-slice-aggregate-put
 slice-aggregate-put c =
-    let r = c .before .before .before in
-    sym (length-take-le (r .report .result) (r .report .last .1 .1 .0) (short r))
+    let r = c .before .before .before .before in
+    sym (length-take-le (r .report .result) (r .report .last .1 .1 .1 .0) (short r))
 
 put-requires : tie.Need-put-requires
 put-requires c κs = search needs
@@ -69,6 +75,7 @@ main-spec =
     returns
     input-space-requires
     table-space-requires
+    bounds-space-requires
     line-space-requires
     slice-aggregate-read-full
     read-full-requires
@@ -76,6 +83,7 @@ main-spec =
     slice-aggregate-report
     slice-aggregate-report-2
     slice-aggregate-report-3
+    slice-aggregate-report-4
     report-requires
     array-share-prefix-line
     slice-aggregate-put

@@ -31,19 +31,23 @@ same-length c = search needs
 same-length-2 : tie.Need-same-length-2
 same-length-2 c = search needs
 
+same-length-3 : tie.Need-same-length-3
+same-length-3 c = search needs
+
 returns : tie.Need-returns
 returns c =
     let w = c .before .before in
-    let q = w .before .before .before in
-    let start = q .before .before .before in
+    let q = w .before .before .before .before .before in
+    let start = q .before .before .before .before in
     let r = start .before .before .before in
-    let s = r .before .before .before in
+    let s = r .before .before .before .before in
     let a = s .args in
     let found = rw (store-part (a .input .now) (start .store-start .result) (start .store-start .ensures)) at (q .search-rows .ensures) in
-    reported (a .input .now) (a .table .now) (s .pre .0) (r .read-job .result .job) (q .search-rows .result) (q .search-rows .last .1 .1 .0) found
+    reported (a .input .now) (a .table .now) (a .bounds .now) (s .pre .0) (s .pre .1) (r .read-job .result .job) (q .search-rows .result)
+    (q .search-rows .last .1 .1 .0) (q .search-rows .last .1 .1 .1 .0) found
     (a .out .now) (w .line .last .1 .1 .0) (w .line .result)
     (record-read (a .input .now) (r .read-job .result) (r .read-job .ensures))
-    (s .pre .1)
+    (s .pre .2)
     (w .line .ensures)
 
 pub write-line-spec : {M : Type 1} → statement M
@@ -59,4 +63,5 @@ write-line-spec =
     line-requires
     same-length
     same-length-2
+    same-length-3
     returns)

@@ -1,11 +1,11 @@
 -- Where the checks pass, the beginning and the run; else the refusal, and nothing is written.
 use mathlib.Core.Path.{_≡_, refl, sym, _∙_}
+use Prim.Native.Nat.{_/_, _≤_}
 use native.Mathlib.Omega.{arith}
-use Prim.Native.Nat.{_≤_}
 use lib.ListN.{length}
 use Rattle.codes.specs.declared.Check.the-variants.{Pass}
-use Rattle.search.specs.Search.{checkSearch}
-use Rattle.search.proofs.Accepted.{Runs, runs-accepted, rows-accepted, promised-pass, promised-refused}
+use Rattle.search.specs.Search.{checkLent}
+use Rattle.search.proofs.Accepted.{Runs, runs-accepted, rows-accepted, entries-accepted, promised-pass, promised-refused}
 use borrow.Author.Needs.{needs}
 use Rattle.search.proofs.search.Statement.{statement}
 use Rattle.search.proofs.search.Tie as tie
@@ -16,30 +16,36 @@ check-search-requires c κs = search needs
 enum-told : tie.Need-enum-told
 enum-told c = search needs
 
+-- an accepted job
 module _ (c : tie.After-enum-told) where
   abbrev begun : tie.Start
-  begun = c .before .before .before .before
+  begun = c .before .before .before .before .before
 
-  pass : checkSearch (begun .args .store .now) (begun .args .job) (length (begun .args .table .now)) ≡ Pass
+  pass : checkLent (begun .args .store .now) (begun .args .job) (begun .args .table .now) (begun .args .bounds .now) ≡ Pass
   pass = sym (c .before .before .check-search .ensures) ∙ c .enum-told .given .1
 
   runs : Runs (begun .args .store .now) (begun .args .job)
-  runs = runs-accepted (begun .args .store .now) (begun .args .job) (length (begun .args .table .now)) pass
+  runs = runs-accepted (begun .args .store .now) (begun .args .job) (length (begun .args .table .now)) (length (begun .args .bounds .now)) pass
 
   rows : 16 ≤ length (begun .args .table .now)
-  rows = rows-accepted (begun .args .store .now) (begun .args .job) (length (begun .args .table .now)) pass
+  rows = rows-accepted (begun .args .store .now) (begun .args .job) (length (begun .args .table .now)) (length (begun .args .bounds .now)) pass
+
+  entries : length (begun .args .table .now) / 16 ≤ length (begun .args .bounds .now)
+  entries = entries-accepted (begun .args .store .now) (begun .args .job) (length (begun .args .table .now)) (length (begun .args .bounds .now)) pass
 
 begin-requires : tie.Need-begin-requires
 begin-requires c κs =
-    let e = c .before .before .before .before in
-    ((runs e) .checked, omega (arith, rows e))
+    let e = c .before .before .before .before .before in
+    ((runs e) .checked, omega (arith, rows e), omega (arith, rows e, entries e))
 
 run-requires : tie.Need-run-requires
 run-requires c κs =
-    let q = c .before .before in
-    let e = q .before .before .before .before .before in
-    let b = q .begin .ensures in
-    (((runs e) .checked, omega (arith, rows e, b .long), (runs e) .inside), record { exact = b .exact; state = b .state; long = refl; rest = refl })
+    let q = c .before .before .before .before .before in
+    let e = q .before .before .before .before .before .before in
+    let b = q .begin .ensures in (
+      ((runs e) .checked, omega (arith, rows e, b .long), omega (arith, entries e, b .long, b .long-entries), (runs e) .inside),
+      record { best = b .best; stored = b .stored; state = b .state; long = refl; long-entries = refl; rest = refl; rest-entries = refl },
+    )
 
 enum-known-why : tie.Need-enum-known-why
 enum-known-why c = search needs
@@ -50,19 +56,25 @@ refusal-requires c κs = search needs
 same-length : tie.Need-same-length
 same-length c = search needs
 
+same-length-2 : tie.Need-same-length-2
+same-length-2 c = search needs
+
 returns : tie.Need-returns
 returns c =
-    let q = c .before .before .before .before in
-    let e = q .before .before .before .before .before in
+    let r = c .before .before .before in
+    let q = r .before .before .before .before .before .before in
+    let e = q .before .before .before .before .before .before in
     let a = begun e .args in
-    promised-pass (a .store .now) (a .job) (a .table .now) (q .begin .last .1 .1 .0) (c .before .run .last .1 .1 .0) (q .begin .result) (c .before .run .result) (pass e) (q .begin .ensures) (c .before .run .ensures)
+    promised-pass (a .store .now) (a .job) (a .table .now) (a .bounds .now) (pass e) (q .begin .last .1 .1 .0) (r .run .last .1 .1 .0)
+    (q .begin .last .1 .1 .1 .0) (r .run .last .1 .1 .1 .0) (q .begin .result) (r .run .result) (q .begin .ensures) (r .run .ensures)
 
 returns-2 : tie.Need-returns-2
 returns-2 c =
     let w = c .before .before in
     let q = w .before .before in
-    let a = q .before .before .args in
-    promised-refused (a .store .now) (a .job) (a .table .now) (w .why .given .0 .0) (c .refusal .result) (sym (q .check-search .ensures) ∙ w .why .given .1) (c .refusal .ensures)
+    let a = q .before .before .before .args in
+    promised-refused (a .store .now) (a .job) (a .table .now) (a .bounds .now) (w .why .given .0 .0) (c .refusal .result)
+    (sym (q .check-search .ensures) ∙ w .why .given .1) (c .refusal .ensures)
 
 pub search-spec : {M : Type 1} → statement M
 search-spec =
@@ -75,5 +87,6 @@ search-spec =
     enum-known-why
     refusal-requires
     same-length
+    same-length-2
     returns
     returns-2)

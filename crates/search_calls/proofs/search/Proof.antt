@@ -5,7 +5,7 @@ use native.Mathlib.Omega.{arith}
 use lib.ListN.{length}
 use borrow.Author.Tests.{not-true, not-false}
 use Rattle.jobs.specs.declared.Job.{Job}
-use Rattle.search.specs.Search.{searchAnswer, TableAfter, Certified}
+use Rattle.search.specs.Search.{searchAnswer, TableSearched, BoundsSearched, Certified}
 use Rattle.boundary.specs.Boundary.{modelOf, jobFrom}
 use Rattle.buffers.proofs.Buffers.{filled-whole}
 use Rattle.search_calls.specs.Calls.{searchLengths, searchNumbers}
@@ -26,7 +26,16 @@ returns c =
       refl,
       (
         refl,
-        (refl, (refl, (record { searched = λ right. absurd (true≢false (sym right ∙ wrong)); kept = λ _. refl }, λ e. absurd (omega arith)))),
+        (
+          refl,
+          (
+            refl,
+            (
+              record { searched = λ right. absurd (true≢false (sym right ∙ wrong)); kept = λ _. refl },
+              (record { searched = λ right. absurd (true≢false (sym right ∙ wrong)); kept = λ _. refl }, λ e. absurd (omega arith)),
+            ),
+          ),
+        ),
       ),
     )
 
@@ -51,17 +60,21 @@ same-length-2 c = search needs
 same-length-3 : tie.Need-same-length-3
 same-length-3 c = search needs
 
+same-length-4 : tie.Need-same-length-4
+same-length-4 c = search needs
+
 returns-2 : tie.Need-returns-2
 returns-2 c =
     let h = c .before .before .before in
-    let s = h .before .before .before .before .before in
-    let j = s .before .before in
+    let s = h .before .before .before .before .before .before .before in
+    let j = s .before .before .before in
     let test = j .before .before in
-    let a = test .before .before .before .before .args in
+    let a = test .before .before .before .before .before .args in
     let m = modelOf (a .n) (a .d) (a .scale) (a .p) (a .eps) in
     let job = jobFrom m (a .t) (a .budget) 0 (a .corners .now) (a .start .now) in
     let is-job : j .job-of .result ≡ job = j .job-of .ensures ∙ ap (λ m. jobFrom m (a .t) (a .budget) 0 (a .corners .now) (a .start .now)) (j .before .model-of .ensures) in
-    let found : s .search .result ≡ searchAnswer (a .store .now) job (a .table .now) = s .search .ensures .0 ∙ ap (λ (x : Job). searchAnswer (a .store .now) x (a .table .now)) is-job in
+    let found : s .search .result ≡ searchAnswer (a .store .now) job (a .table .now) (a .bounds .now) =
+    s .search .ensures .0 ∙ ap (λ (x : Job). searchAnswer (a .store .now) x (a .table .now) (a .bounds .now)) is-job in
     let right : searchLengths (length (a .corners .now)) (length (a .start .now)) (length (a .vector .now)) (length (a .numbers .now)) ≡ true = sym (test .before .lengths-right .ensures) ∙ not-false _ (test .if1 .left) in
     let room = search-lengths (length (a .corners .now)) (length (a .start .now)) (length (a .vector .now)) (length (a .numbers .now)) right in
     let out = h .hand-over .ensures in
@@ -69,7 +82,8 @@ returns-2 c =
     let told = filled-whole (a .numbers .now) (searchNumbers (s .search .result)) (room .1) in
     let handed-vector = rw laid at (out .1 .1 .0) in
     let handed-numbers = rw told at (out .1 .1 .1 .0) in
-    let certificate = subst (λ (x : Job). Certified (a .store .now) x (a .table .now) (s .search .result)) is-job (s .search .ensures .1 .1) in
+    let certificate =
+    subst (λ (x : Job). Certified (a .store .now) x (a .table .now) (a .bounds .now) (s .search .result)) is-job (s .search .ensures .1 .1 .1) in
     rw (right, ← found) (
       out .0,
       (
@@ -80,10 +94,22 @@ returns-2 c =
             handed-numbers,
             (
               record {
-                searched = λ _. subst (λ (x : Job). TableAfter (a .store .now) x (a .table .now) (s .search .last .1 .1 .0)) is-job (s .search .ensures .1 .0);
+                searched = λ _.
+                    subst (λ (x : Job). TableSearched (a .store .now) x (a .table .now) (a .bounds .now) (s .search .last .1 .1 .0)) is-job
+                    (s .search .ensures .1 .0);
                 kept = λ wrong. absurd (true≢false (sym right ∙ wrong));
               },
-              λ e. certified-call (a .store .now) m (a .t) (a .budget) (a .corners .now) (a .start .now) (a .table .now) (a .vector .now) (a .numbers .now) (s .search .result) (a .value .now) _ _ _ found certificate (sym (out .0) ∙ e) (out .1 .0) handed-vector handed-numbers,
+              (
+                record {
+                  searched = λ _.
+                      subst (λ (x : Job). BoundsSearched (a .store .now) x (a .table .now) (a .bounds .now) (s .search .last .1 .1 .1 .0)) is-job
+                      (s .search .ensures .1 .1 .0);
+                  kept = λ wrong. absurd (true≢false (sym right ∙ wrong));
+                },
+                λ e.
+                    certified-call (a .store .now) m (a .t) (a .budget) (a .corners .now) (a .start .now) (a .table .now) (a .bounds .now) (a .vector .now)
+                    (a .numbers .now) (s .search .result) (a .value .now) _ _ _ found certificate (sym (out .0) ∙ e) (out .1 .0) handed-vector handed-numbers,
+              ),
             ),
           ),
         ),
@@ -103,4 +129,5 @@ search-spec =
     same-length
     same-length-2
     same-length-3
+    same-length-4
     returns-2)

@@ -117,14 +117,15 @@ pub fn searched(calls: &dyn Calls, _: &mut Random) -> Outcome {
         (interval(7, 0, 0, 10, 1), [1, 6, 6], 3, [3, 0, 0, 1, 1], 0),
         (interval(7, 0, 0, 10, 4), [1, 6, 6], 1, [1, 1, 2, 0, 2], 6),
     ] {
-        let mut table = vec![9; 16 * job.rows as usize];
+        let (mut table, mut bounds) = (vec![9; 16 * job.rows as usize], vec![9; job.rows as usize]);
         let mut found = Found {
             vector: Lent::new(8, |count| vec![9; count]),
             numbers: Lent::new(5, |count| vec![9; count]),
             value: 9,
         };
         let points = store(&y.map(|y| (1, y)));
-        let code = calls.search(&points, &job, &row_of(&job.domain), &job.start, &mut table, &mut found);
+        let corners = row_of(&job.domain);
+        let code = calls.search(&points, &job, &corners, &job.start, &mut table, &mut bounds, &mut found);
         same("search", (code, found.value), (0, kind))?;
         found.numbers.holds("numbers", &numbers)?;
         found.vector.holds("vector", &vector(&[w]))?;

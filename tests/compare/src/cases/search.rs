@@ -6,7 +6,7 @@ use crate::inputs::{self, Input};
 use crate::lent::{same, Lent};
 use crate::random::Random;
 use oracle::points::points_of;
-use oracle::{Answer, Kind};
+use oracle::{Answer, Kind, Refusal};
 
 /// Small boxes: the promises are checked over all grid vectors, without the oracle's search.
 pub fn exhaustive(calls: &dyn Calls, random: &mut Random) -> Outcome {
@@ -20,7 +20,8 @@ pub fn exhaustive(calls: &dyn Calls, random: &mut Random) -> Outcome {
     let half = (volume as usize).div_ceil(2);
     let rows = random.pick(&[1, 2, 3, 5, half, half, half, half + 1, 64]).max(1);
     let length = 16 * rows + random.pick(&[0, 0, 1, 7, 15]);
-    let mut run = Run::new(random, input, length);
+    let entries = rows + random.pick(&[0, 0, 1, 3]);
+    let mut run = Run::new(random, input, length, entries);
     run.call(calls);
     let outcome = run.promises(volume, rows).and_then(|()| run.compare());
     with_case(outcome, || run.to_string())
@@ -37,12 +38,13 @@ pub fn wide(calls: &dyn Calls, random: &mut Random) -> Outcome {
     input.job.t = random.pick(&[0, 0, 1, 100]);
     let rows = random.pick(&[1, 2, 7, 30, 100, 400]);
     let length = 16 * rows + random.size(0, 15);
-    let mut run = Run::new(random, input, length);
+    let entries = rows + random.pick(&[0, 0, 1, 20]);
+    let mut run = Run::new(random, input, length, entries);
     run.call(calls);
     with_case(run.compare(), || run.to_string())
 }
 
-/// Damaged jobs, tables that are too short and buffers of other lengths.
+/// Damaged jobs, tables and lists of bounds that are too short and buffers of other lengths.
 pub fn damaged(calls: &dyn Calls, random: &mut Random) -> Outcome {
     let mut input = if random.once_in(2) { inputs::small(random, 50) } else { inputs::sound(random) };
     input.job.budget = random.below(8) as u32;
@@ -54,7 +56,11 @@ pub fn damaged(calls: &dyn Calls, random: &mut Random) -> Outcome {
         0 => random.size(0, 17),
         _ => random.size(16, 100),
     };
-    let mut run = Run::new(random, input, length);
+    let entries = match random.below(3) {
+        0 => random.size(0, 7),
+        _ => random.size(length / 16, 10),
+    };
+    let mut run = Run::new(random, input, length, entries);
     if random.once_in(8) {
         run.other_lengths(random);
     }
@@ -68,14 +74,16 @@ struct Run {
     corners: Vec<i16>,
     start: Vec<i16>,
     table: Lent<i16>,
+    bounds: Lent<u64>,
     was: u64,
     found: Found,
     code: u32,
 }
 
 impl Run {
-    fn new(random: &mut Random, input: Input, length: usize) -> Run {
+    fn new(random: &mut Random, input: Input, length: usize, entries: usize) -> Run {
         let table = Lent::new(length, |count| random.numbers(count));
+        let bounds = Lent::new(entries, |count| random.words(count));
         let was = random.next();
         let found = Found {
             vector: Lent::new(8, |count| random.numbers(count)),
@@ -83,7 +91,7 @@ impl Run {
             value: was,
         };
         let (corners, start) = (row_of(&input.job.domain), input.job.start.to_vec());
-        Run { input, corners, start, table, was, found, code: 0 }
+        Run { input, corners, start, table, bounds, was, found, code: 0 }
     }
 
     /// Some of the four buffers have other lengths.
@@ -103,8 +111,8 @@ impl Run {
 
     fn call(&mut self, calls: &dyn Calls) {
         let job = &self.input.job;
-        let table = self.table.part();
-        self.code = calls.search(&self.input.store, job, &self.corners, &self.start, table, &mut self.found);
+        let (table, bounds) = (self.table.part(), self.bounds.part());
+        self.code = calls.search(&self.input.store, job, &self.corners, &self.start, table, bounds, &mut self.found);
     }
 
     /// What is promised of a search, by all vectors of the box: the lower bound, that C is reached, when
@@ -130,15 +138,21 @@ impl Run {
         Ok(())
     }
 
-    /// The answer and every lent element by the oracle; only rows from open up to peak are free.
+    fn expected(&self) -> Result<Answer, Refusal> {
+        let (numbers, entries) = (self.table.was().len(), self.bounds.was().len());
+        oracle::search(&self.input.job, &self.input.store, numbers, entries)
+    }
+
+    /// The answer and every lent element by the oracle; only rows and entries from open up to peak are free.
     fn compare(&self) -> Outcome {
         if !self.lengths_right() {
             same("answer", self.code, WRONG_LENGTH)?;
-            return self.holds(self.table.was(), self.found.vector.was(), self.found.numbers.was(), self.was);
+            self.lent(self.table.was(), self.bounds.was())?;
+            return self.told(self.found.vector.was(), self.found.numbers.was(), self.was);
         }
-        let expected = oracle::search(&self.input.job, &self.input.store, self.table.was().len());
+        let expected = self.expected();
         same("answer", self.code, code_of(&expected))?;
-        let mut table = self.table.was().to_vec();
+        let (mut table, mut bounds) = (self.table.was().to_vec(), self.bounds.was().to_vec());
         let (mut vector, mut numbers) = (self.found.vector.was().to_vec(), self.found.numbers.was().to_vec());
         let mut value = self.was;
         if let Ok(answer) = expected {
@@ -147,15 +161,21 @@ impl Run {
             numbers = vec![answer.c, answer.l, answer.count as u64, open, answer.peak as u64];
             value = answer.kind as u64;
             self.put_rows(&answer, &mut table);
+            self.put_bounds(&answer, &mut bounds);
         }
-        self.holds(&table, &vector, &numbers, value)
+        self.lent(&table, &bounds)?;
+        self.told(&vector, &numbers, value)
     }
 
-    fn holds(&self, table: &[i16], vector: &[i16], numbers: &[u64], value: u64) -> Outcome {
+    fn told(&self, vector: &[i16], numbers: &[u64], value: u64) -> Outcome {
         same("value", self.found.value, value)?;
         self.found.vector.holds("vector", vector)?;
-        self.found.numbers.holds("numbers", numbers)?;
-        self.table.holds("table", table)
+        self.found.numbers.holds("numbers", numbers)
+    }
+
+    fn lent(&self, table: &[i16], bounds: &[u64]) -> Outcome {
+        self.table.holds("table", table)?;
+        self.bounds.holds("bounds", bounds)
     }
 
     fn put_rows(&self, answer: &Answer, table: &mut [i16]) {
@@ -166,12 +186,19 @@ impl Run {
         let leftovers = 16 * answer.open.len()..16 * answer.peak;
         table[leftovers.clone()].copy_from_slice(&self.table.now()[leftovers]);
     }
+
+    fn put_bounds(&self, answer: &Answer, bounds: &mut [u64]) {
+        bounds[..answer.bounds.len()].copy_from_slice(&answer.bounds);
+        let leftovers = answer.bounds.len()..answer.peak;
+        bounds[leftovers.clone()].copy_from_slice(&self.bounds.now()[leftovers]);
+    }
 }
 
 impl std::fmt::Display for Run {
     fn fmt(&self, f: &mut std::fmt::Formatter) -> std::fmt::Result {
-        let expected = oracle::search(&self.input.job, &self.input.store, self.table.was().len());
-        write!(f, "{}\n  table of {} numbers\n", self.input, self.table.was().len())?;
+        let expected = self.expected();
+        let (numbers, entries) = (self.table.was().len(), self.bounds.was().len());
+        write!(f, "{}\n  table of {numbers} numbers, list of {entries} bounds\n", self.input)?;
         write!(f, "  corners {:?}, start {:?}\n", self.corners, self.start)?;
         let (vector, numbers) = (self.found.vector.now(), self.found.numbers.now());
         write!(

@@ -98,12 +98,12 @@ impl StandIn {
     }
 
     /// The search with its slips; as the product may, it works in place of the table's first rows.
-    pub fn run(&self, job: &Job, points: &[Point], table: &mut [i16]) -> Told {
+    pub fn run(&self, job: &Job, points: &[Point], table: &mut [i16], bounds: &mut [u64]) -> Told {
         let rows = if self.slips(PartialRowUsed) { table.len().div_ceil(16) } else { table.len() / 16 };
         let mut state = self.begin(job, points);
         let (kind, l) = loop {
-            let bounds = state.list.iter().map(|domain| self.bound_of(&job.model, points, domain));
-            let l = bounds.min().unwrap_or(state.c).min(state.c);
+            let open = state.list.iter().map(|domain| self.bound_of(&job.model, points, domain));
+            let l = open.min().unwrap_or(state.c).min(state.c);
             if let Some(kind) = self.stops(job, &state, l) {
                 break (kind, l);
             }
@@ -119,6 +119,8 @@ impl StandIn {
             state = next;
         };
         self.put_rows(&state.list, state.peak, table);
+        let entries = state.list.iter().map(|domain| self.bound_of(&job.model, points, domain)).collect();
+        self.put_bounds(entries, state.peak, bounds);
         self.told(kind, &state, l)
     }
 
@@ -149,7 +151,29 @@ impl StandIn {
         }
     }
 
-    pub fn check_search(&self, job: &Job, store: &[u8], numbers: usize) -> Result<Vec<Point>, Refusal> {
+    fn put_bounds(&self, mut entries: Vec<u64>, peak: usize, bounds: &mut [u64]) {
+        match self.slip {
+            EntriesZero => entries.fill(0),
+            EntriesReversed => entries.reverse(),
+            _ => {}
+        }
+        // As free as the rows there.
+        entries.resize(peak, 7);
+        if self.slips(EntriesPastPeakWritten) {
+            entries.push(1);
+        }
+        for (bound, entry) in bounds.iter_mut().zip(entries) {
+            *bound = entry;
+        }
+    }
+
+    pub fn check_search(
+        &self,
+        job: &Job,
+        store: &[u8],
+        numbers: usize,
+        entries: usize,
+    ) -> Result<Vec<Point>, Refusal> {
         check_length(store.len())?;
         job.model.check()?;
         let outside = !job.domain.contains(&job.start);
@@ -163,9 +187,16 @@ impl StandIn {
         if self.slips(TableBeforeStray) && numbers < 16 {
             return Err(Refusal::Table);
         }
+        let few = entries < numbers / 16;
+        if self.slips(BoundsBeforeStray) && few {
+            return Err(Refusal::Bounds);
+        }
         let points = check_job(job, store)?;
         if numbers < 16 {
             return Err(Refusal::Table);
+        }
+        if few && !self.slips(FewEntriesTaken) {
+            return Err(Refusal::Bounds);
         }
         Ok(points)
     }

@@ -183,6 +183,7 @@ impl Calls for StandIn {
         corners: &[i16],
         start: &[i16],
         table: &mut [i16],
+        bounds: &mut [u64],
         found: &mut Found,
     ) -> u32 {
         let (vector, numbers) = (found.vector.part(), found.numbers.part());
@@ -193,9 +194,9 @@ impl Calls for StandIn {
             return WRONG_LENGTH;
         };
         let job = &Job { domain, start, ..*job };
-        match self.check_search(job, store, table.len()) {
+        match self.check_search(job, store, table.len(), bounds.len()) {
             Ok(points) => {
-                let told = self.run(job, &points, table);
+                let told = self.run(job, &points, table, bounds);
                 put(vector, &told.vector);
                 put(numbers, &told.numbers);
                 found.value = told.kind as u64;

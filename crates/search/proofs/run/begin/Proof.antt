@@ -1,9 +1,8 @@
 -- The start vector's cost, and the given box if its bound is below that.
-use mathlib.Core.Path.{_≡_, ap, _∙_}
+use mathlib.Core.Path.{_≡_, _∙_}
 use Rattle.points.specs.Points.{pointsOf}
 use Rattle.residuals.specs.Cost.{cost, bound}
 use Rattle.rows.proofs.Rows.{Whole}
-use Rattle.search.specs.declared.scan.Open.{Open}
 use Rattle.search.proofs.Beginning.{whole-cost, begun}
 use borrow.Author.Needs.{needs}
 use Rattle.search.proofs.run.begin.Statement.{statement}
@@ -12,34 +11,34 @@ use Rattle.search.proofs.run.begin.Tie as tie
 cost-up-to-requires : tie.Need-cost-up-to-requires
 cost-up-to-requires c κs = search needs
 
-none-open-requires : tie.Need-none-open-requires
-none-open-requires c κs = search needs
+tested-requires : tie.Need-tested-requires
+tested-requires c κs = search needs
 
-bound-below-requires : tie.Need-bound-below-requires
-bound-below-requires c κs = search needs
-
-keep-requires : tie.Need-keep-requires
-keep-requires c κs = search (needs, ap (λ (o : Open). o .rows) (c .before .none-open .ensures))
+put-requires : tie.Need-put-requires
+put-requires c κs = search needs
 
 same-length : tie.Need-same-length
 same-length c = search needs
 
+same-length-2 : tie.Need-same-length-2
+same-length-2 c = search needs
+
 domain-whole : (s : tie.Start) → Whole (s .args .domain)
-domain-whole s = record { low = search (needs, s .good .1 .1 .1 .0); high = search (needs, s .good .1 .1 .1 .0) }
+domain-whole s = record { low = search (needs, s .good); high = search (needs, s .good) }
 
 returns : tie.Need-returns
 returns c =
-    let kept = c .before in
-    let found = kept .before in
-    let cost-found = found .before .before .before in
-    let start = cost-found .before .before in
+    let p = c .before .before .before in
+    let tests = p .before in
+    let costs = c .before .before .before .before .before .before .before in
+    let start = c .before .before .before .before .before .before .before .before .before .before in
     let a = start .args in
+    let o = tests .tested .result in
     let C = cost (a .m) (pointsOf (a .store .now)) in
-    let exact : cost-found .cost-up-to .result ≡ C (a .start) = cost-found .cost-up-to .ensures ∙ whole-cost (a .store .now) (a .m) (a .start) (start .pre .0) in
-    rw (kept .keep .ensures .0, kept .keep .ensures .1, found .before .none-open .ensures)
-    (begun C (bound (a .m) (pointsOf (a .store .now))) (a .start) (a .domain) (a .table .now) (cost-found .cost-up-to .result) (found .bound-below .result) exact (found .bound-below .ensures) (start .pre .1) (domain-whole start))
+    let exact : costs .cost-up-to .result ≡ C (a .start) = costs .cost-up-to .ensures ∙ whole-cost (a .store .now) (a .m) (a .start) (start .pre .0) in
+    let half-whole : Whole (o .half) = rw (tests .tested .ensures .half) (domain-whole start) in
+    begun C (bound (a .m) (pointsOf (a .store .now))) (a .start) (a .domain) (a .table .now) (a .bounds .now) (costs .cost-up-to .result) o exact
+    (tests .tested .ensures) (start .pre .1) (start .pre .2) half-whole (p .put .result) (p .put .last .0) (p .put .last .1 .0) (p .put .ensures)
 
 pub begin-spec : {M : Type 1} → statement M
-begin-spec =
-    tie.close
-    (tie.spec cost-up-to-requires none-open-requires bound-below-requires keep-requires same-length returns)
+begin-spec = tie.close (tie.spec cost-up-to-requires tested-requires put-requires same-length same-length-2 returns)

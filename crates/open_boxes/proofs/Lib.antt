@@ -1,0 +1,4 @@
+pub mod Least
+pub mod Picking
+pub mod Listing
+pub mod Placing

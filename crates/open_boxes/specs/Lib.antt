@@ -1,0 +1,2 @@
+pub mod OpenBoxes
+pub mod Inside

@@ -1,0 +1,228 @@
+// The list of open boxes in lent memory: the boxes are the first rows of the table, and their bounds the first entries of a list beside it.
+use boxes::Box;
+ghost use mathlib.Core.Path.{_≡_};
+ghost use mathlib.Core.Bool.{cond};
+ghost use Prim.Native.Nat.{_+_, _≤_, _<_, min};
+ghost use lib.Dec.{ltb};
+ghost use lib.ListN.{length, getD, set};
+ghost use Rattle.rows.specs.Rows.{rowCount, rowAt, withRow};
+ghost use Rattle.open_boxes.specs.OpenBoxes.{LowestOf, Held, ReplacedBy, entryAt, fits, number, picked, roomIn, staysAt, FirstLeast};
+ghost use Rattle.open_boxes.specs.Inside.{NextSmaller, Unmoved};
+
+// A box that is to be open if it is kept, with its bound, which has to be exact only then.
+pub struct Child {
+    pub half: Box,
+    pub bound: u64,
+    pub kept: bool,
+}
+
+// The place of the first box with the smallest bound, and that bound, L. Where no box is open, L is the cost.
+pub struct Lowest {
+    pub at: usize,
+    pub bound: u64,
+}
+
+// How many boxes are open where one was replaced by its halves, or that there is no room for so many.
+pub struct Replaced {
+    pub full: bool,
+    pub rows: usize,
+}
+
+fn smaller(a: usize, b: usize) -> usize
+    ensures { λ r. ⌜ r ≡ min a b ⌝ }
+{
+    if a < b { a } else { b }
+}
+
+// The place of the next of the first n entries, from `from` on, that is smaller than `low`; n where there is none.
+fn next_smaller(bounds: &[u64], n: usize, from: usize, low: u64) -> usize
+    requires { ⌜ (from ≤ n) × (n ≤ length (now bounds)) ⌝ }
+    ensures { λ r. ⌜ NextSmaller (now (bounds .entry)) n from low r ⌝ }
+{
+    let mut i = from;
+    while i < n {
+        if bounds[i] < low {
+            return i;
+        }
+        i += 1;
+    }
+    i
+}
+
+// The place of the first smallest of the first n entries. Most entries are only compared.
+fn smallest(bounds: &[u64], n: usize) -> usize
+    requires { ⌜ (1 ≤ n) × (n ≤ length (now bounds)) ⌝ }
+    ensures { λ r. ⌜ FirstLeast (now (bounds .entry)) n r ⌝ }
+{
+    let mut at = 0;
+    let mut i = next_smaller(bounds, n, 1, bounds[0]);
+    while i < n {
+        at = i;
+        i = next_smaller(bounds, n, i + 1, bounds[i]);
+    }
+    at
+}
+
+// L of the first n boxes, and its place.
+pub fn lower_bound(bounds: &[u64], n: usize, cost: u64) -> Lowest
+    ensures { λ r. ⌜ LowestOf (now (bounds .entry)) (min n (length (now (bounds .entry)))) cost r ⌝ }
+{
+    let listed = smaller(n, bounds.len());
+    if listed == 0 {
+        return Lowest { at: 0, bound: cost };
+    }
+    let at = smallest(bounds, listed);
+    let bound = bounds[at];
+    Lowest { at, bound }
+}
+
+// Whether a box with this bound is kept: no other code decides it.
+pub fn keeps(bound: u64, cost: u64) -> bool
+    ensures { λ r. ⌜ r ≡ ltb bound cost ⌝ }
+{
+    bound < cost
+}
+
+// Whether the box in row i stays where the one in row `at` is taken out.
+fn stays(bounds: &[u64], at: usize, i: usize, cost: u64) -> bool
+    requires { ⌜ i < length (now bounds) ⌝ }
+    ensures { λ r. ⌜ r ≡ staysAt (now (bounds .entry)) at cost i ⌝ }
+{
+    if i == at {
+        return false;
+    }
+    keeps(bounds[i], cost)
+}
+
+// How many of the first n boxes stay.
+fn staying(bounds: &[u64], n: usize, at: usize, cost: u64) -> usize
+    requires { ⌜ n ≤ length (now bounds) ⌝ }
+    ensures { λ r. ⌜ r ≡ number (staysAt (now (bounds .entry)) at cost) n ⌝ }
+{
+    let mut stay = 0;
+    let mut i = 0;
+    while i < n {
+        if stays(bounds, at, i, cost) {
+            stay += 1;
+        }
+        i += 1;
+    }
+    stay
+}
+
+// Moves a box and its bound from one row to another, no later one.
+fn move_box(table: &mut [i16], bounds: &mut [u64], i: usize, to: usize)
+    requires { ⌜ (to ≤ i) × (i < rowCount (now table)) × (i < length (now bounds)) ⌝ }
+    ensures table { λ _. ⌜ now (table .exit) ≡ withRow (now (table .entry)) to (rowAt (now (table .entry)) i) ⌝ }
+    ensures bounds { λ _. ⌜ now (bounds .exit) ≡ set (now (bounds .entry)) to (getD (now (bounds .entry)) i 0) ⌝ }
+{
+    if to < i {
+        rows::move_row(table, i, to);
+        bounds[to] = bounds[i];
+    }
+}
+
+// How many of the first n boxes stay before one that does not: these do not move.
+fn unmoved(bounds: &[u64], n: usize, at: usize, cost: u64) -> usize
+    requires { ⌜ n ≤ length (now bounds) ⌝ }
+    ensures { λ r. ⌜ Unmoved (staysAt (now (bounds .entry)) at cost) n r ⌝ }
+{
+    let end = smaller(at, n);
+    let mut i = 0;
+    while i < end {
+        if !keeps(bounds[i], cost) {
+            return i;
+        }
+        i += 1;
+    }
+    i
+}
+
+// Of the first n boxes those that stay become the first, in order.
+fn close_up(table: &mut [i16], bounds: &mut [u64], n: usize, at: usize, cost: u64) -> usize
+    requires { ⌜ n ≤ roomIn (now table) (now bounds) ⌝ }
+    ensures { λ r. ⌜
+        Held (now (table .entry)) (now (bounds .entry)) n
+        (picked (rowAt (now (table .entry))) (staysAt (now (bounds .entry)) at cost) n)
+        (picked (entryAt (now (bounds .entry))) (staysAt (now (bounds .entry)) at cost) n)
+        r (now (table .exit)) (now (bounds .exit)) ⌝ }
+{
+    let mut stay = unmoved(bounds, n, at, cost);
+    let mut i = stay;
+    while i < n {
+        if stays(bounds, at, i, cost) {
+            move_box(table, bounds, i, stay);
+            stay += 1;
+        }
+        i += 1;
+    }
+    stay
+}
+
+// How many boxes a half adds.
+fn added(child: Child) -> usize
+    ensures { λ r. ⌜ r ≡ cond (child .kept) 1 0 ⌝ }
+{
+    if child.kept { 1 } else { 0 }
+}
+
+// Writes a box that is kept and its bound behind the first n. Where there is no room, nothing changes.
+pub fn put(table: &mut [i16], bounds: &mut [u64], n: usize, child: Child) -> usize
+    ensures told { λ r. ⌜ r ≡ n + cond (fits (now (table .entry)) (now (bounds .entry)) n child) 1 0 ⌝ }
+    ensures table { λ _. ⌜ now (table .exit)
+        ≡ cond (fits (now (table .entry)) (now (bounds .entry)) n child) (withRow (now (table .entry)) n (child .half)) (now (table .entry)) ⌝ }
+    ensures bounds { λ _. ⌜ now (bounds .exit)
+        ≡ cond (fits (now (table .entry)) (now (bounds .entry)) n child) (set (now (bounds .entry)) n (child .bound)) (now (bounds .entry)) ⌝ }
+{
+    let room = smaller(table.len() / 16, bounds.len());
+    if child.kept {
+        if n < room {
+            let half = child.half;
+            rows::write_row(table, n, half);
+            bounds[n] = child.bound;
+            return n + 1;
+        }
+    }
+    n
+}
+
+// Whether more than `room` boxes would remain. They are counted only where there may be too many.
+fn too_many(bounds: &[u64], n: usize, at: usize, cost: u64, more: usize, room: usize) -> bool
+    requires { ⌜ (n ≤ length (now bounds)) × (more ≤ 2) × (n ≤ room) × (room < 1152921504606846976) ⌝ }
+    ensures { λ r. ⌜ r ≡ ltb room (number (staysAt (now (bounds .entry)) at cost) n + more) ⌝ }
+{
+    if more <= room - n {
+        return false;
+    }
+    room < staying(bounds, n, at, cost) + more
+}
+
+// Takes out the box in row `at` of the first n and those that are not kept, and puts its halves behind the others. Where more boxes would
+// remain than there is room for, nothing is written.
+pub fn replace(
+    table: &mut [i16],
+    bounds: &mut [u64],
+    n: usize,
+    at: usize,
+    cost: u64,
+    left: Child,
+    right: Child,
+) -> Replaced
+    ensures { λ r. ⌜
+        ReplacedBy (now (table .entry)) (now (bounds .entry)) n at cost left right r (now (table .exit)) (now (bounds .exit)) ⌝ }
+{
+    let room = smaller(table.len() / 16, bounds.len());
+    let listed = smaller(n, room);
+    if too_many(bounds, listed, at, cost, added(left) + added(right), room) {
+        return Replaced {
+            full: true,
+            rows: listed,
+        };
+    }
+    let stay = close_up(table, bounds, listed, at, cost);
+    let with_left = put(table, bounds, stay, left);
+    Replaced {
+        full: false,
+        rows: put(table, bounds, with_left, right),
+    }
+}
