@@ -2,10 +2,10 @@
  * target/staticlib/libcapi.a, which `rt staticlib capi` writes.
  *
  * Each call returns a code:
- *   0            accepted
- *   1 to 12, 14  refused, by the paper's number of the refusal; 7 (an x after the d-th is not 0) comes with 256 times the number of that
- *                record added, records counting from 0
- *   255          a buffer has the wrong length; looked at before everything else
+ *   0                  accepted
+ *   1 to 12, 14 to 16  refused, by the papers' number of the refusal; 7 (an x after the d-th is not 0) comes with 256 times the number of
+ *                      that record added, records counting from 0
+ *   255                a buffer has the wrong length; looked at before everything else
  * VENGUTARI_NUMBER takes the number out of a code, and VENGUTARI_RECORD the record.
  *
  * Results go into memory that the caller lends. A call that is not accepted leaves all of it as it is.
@@ -71,6 +71,12 @@ uint32_t vengutari_search(const uint8_t *store, size_t store_len, uint8_t n, uin
 /* Copies a beacon into the store from byte mark on; *value is the new mark. The store may have any length. Refusals 1, 10 and 11. */
 uint32_t vengutari_take_in(uint8_t *store, size_t store_len, size_t mark, const uint8_t *beacon, size_t beacon_len, uint64_t *value);
 
+/* Makes one store of two, in each of which the frame numbers rise strictly: the records found in either, by rising frame numbers, into the
+ * front of out, whose rest is kept; *value is how many bytes. Either store may be empty (of length 0); a record that both have is taken once.
+ * Refusals 1, 15 (the frames of either do not rise), 16 (unequal records of one frame), 1 (over 4,096 records together) and 10, in this order. */
+uint32_t vengutari_merge(const uint8_t *first, size_t first_len, const uint8_t *second, size_t second_len, uint8_t *out, size_t out_len,
+                         uint64_t *value);
+
 /* Reads the job record in the first 72 bytes; what follows them is no part of it. numbers takes n, d, S, p, eps, t, the split budget and the
  * rows r; corners takes the box and start the start vector. Any 72 bytes are a job; a search refuses what is out of range.
  * Refusal 1 for fewer than 72 bytes; 255 where numbers_len is not 8, corners_len not 16 or start_len not 8. */
@@ -129,6 +135,8 @@ static inline const char *vengutari_message(uint32_t code)
     case 11: return "beacon: over 236 bytes";
     case 12: return "off grid: a single-precision number that no coefficient has";
     case 14: return "bounds: fewer entries than rows";
+    case 15: return "order: frame numbers that do not rise";
+    case 16: return "clash: unequal records of one frame";
     case 255: return "a buffer has the wrong length";
     default: return "no code of this library";
     }

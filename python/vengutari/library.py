@@ -51,6 +51,8 @@ MESSAGES = {
     11: "beacon: over 236 bytes",
     12: "off grid: a single-precision number that no coefficient has",
     14: "bounds: fewer entries than rows",
+    15: "order: frame numbers that do not rise",
+    16: "clash: unequal records of one frame",
     255: "a buffer has the wrong length",
 }
 

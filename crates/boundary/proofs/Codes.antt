@@ -13,7 +13,7 @@ use Rattle.codes.specs.declared.Check.the-variants.{Pass, Refuse}
 use Rattle.codes.specs.declared.Outcome.{Outcome}
 use Rattle.codes.specs.declared.Outcome.the-variants.{Value, Refused}
 use Rattle.codes.specs.declared.Refusal.{Refusal}
-use Rattle.codes.specs.declared.Refusal.the-variants.{Length, Shape, Scale, Loss, Box, Start, Stray, Table, Answer, Short, Beacon, OffGrid, Bounds}
+use Rattle.codes.specs.declared.Refusal.the-variants.{Length, Shape, Scale, Loss, Box, Start, Stray, Table, Answer, Short, Beacon, OffGrid, Bounds, Order, Clash}
 use Rattle.codes.specs.Codes.{numberOf, within}
 use Rattle.codes.proofs.Checks.{passed}
 use Rattle.points.specs.declared.Point.{Point}
@@ -22,8 +22,8 @@ use Rattle.points.proofs.Laws.{points-length}
 use Rattle.boundary.specs.Boundary.{answered, codeOf, ifAccepted}
 use Rattle.boundary.specs.Laws.{Told}
 
--- the numbers of refusals are 1 to 14
-numbered : (r : Refusal) → (1 ≤ numberOf r) × (numberOf r ≤ 14)
+-- the papers' numbers are 1 to 18
+numbered : (r : Refusal) → (1 ≤ numberOf r) × (numberOf r ≤ 18)
 numbered Length = (omega arith, omega arith)
 numbered Shape = (omega arith, omega arith)
 numbered Scale = (omega arith, omega arith)
@@ -37,6 +37,8 @@ numbered Short = (omega arith, omega arith)
 numbered Beacon = (omega arith, omega arith)
 numbered OffGrid = (omega arith, omega arith)
 numbered Bounds = (omega arith, omega arith)
+numbered Order = (omega arith, omega arith)
+numbered Clash = (omega arith, omega arith)
 
 -- no refusal has the code 0
 pub refusal-not-0 : (r : Refusal) → codeOf (answered (Refused r)) ≡ 0 → ⊥

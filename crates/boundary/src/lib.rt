@@ -30,6 +30,8 @@ fn stray_record(r: Refusal) -> usize
         Refusal::Beacon => 0,
         Refusal::OffGrid => 0,
         Refusal::Bounds => 0,
+        Refusal::Order => 0,
+        Refusal::Clash => 0,
     }
 }
 

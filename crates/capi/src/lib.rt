@@ -9,6 +9,8 @@ ghost use Rattle.split_calls.specs.Calls.{splitCall, halvesAfter};
 ghost use Rattle.label_calls.specs.Calls.{labelsCall, labelsAfter};
 ghost use Rattle.search_calls.specs.Calls.{searchCall, vectorAfter, numbersAfter, TableAfterCall, BoundsAfterCall, CertifiedCall};
 ghost use Rattle.beacon_calls.specs.Calls.{takeInCall};
+ghost use Rattle.merge.specs.Merge.{outputAfter};
+ghost use Rattle.merge_calls.specs.Calls.{mergeCall};
 ghost use Rattle.job_calls.specs.Calls.{readJobCall, jobNumbersAfter, cornersAfter, startAfter, writeJobCall, jobRecordAfter};
 ghost use Rattle.answer_calls.specs.Calls.{readAnswerCall, answerVectorAfter, answerNumbersAfter, writeAnswerCall, answerRecordAfter};
 ghost use Rattle.line_calls.specs.Calls.{writeLineCall, patternsAfter, readLineCall, coordinatesAfter};
@@ -169,6 +171,22 @@ pub extern "C" fn vengutari_take_in(
     ensures store { λ _. ⌜ now (store .exit) ≡ storeAfter (now (store .entry)) mark (now (beacon .entry)) ⌝ }
 {
     beacon_calls::take_in(store, mark, beacon, value)
+}
+
+// Makes one store of two: the union of their records into the front of `out`; the value is its length in bytes.
+#[no_mangle]
+pub extern "C" fn vengutari_merge(
+    first: &[u8],
+    second: &[u8],
+    out: &mut [u8],
+    value: &mut u64,
+) -> u32
+    ensures code { λ k. ⌜ k ≡ codeOf (mergeCall (now (first .entry)) (now (second .entry)) (now (out .entry))) ⌝ }
+    ensures value { λ _. ⌜ now (value .exit)
+        ≡ valueAfter (mergeCall (now (first .entry)) (now (second .entry)) (now (out .entry))) (now (value .entry)) ⌝ }
+    ensures output { λ _. ⌜ now (out .exit) ≡ outputAfter (now (first .entry)) (now (second .entry)) (now (out .entry)) ⌝ }
+{
+    merge_calls::merge(first, second, out, value)
 }
 
 // Reads the job record in the first 72 bytes.

@@ -32,6 +32,8 @@ pub trait Calls {
     /// The value is the number of labels written.
     fn labels(&self, store: &[u8], model: &Model, vector: &[i16], labels: &mut [u8], value: &mut u64) -> u32;
     fn take_in(&self, store: &mut [u8], mark: usize, beacon: &[u8], value: &mut u64) -> u32;
+    /// The value is the length of the union in bytes.
+    fn merge(&self, first: &[u8], second: &[u8], out: &mut [u8], value: &mut u64) -> u32;
     /// The box is in `corners` and the start vector in `start`; the job's own are not looked at.
     fn search(
         &self,

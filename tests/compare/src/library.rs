@@ -68,6 +68,15 @@ extern "C" {
         beacon_len: usize,
         value: *mut u64,
     ) -> u32;
+    fn vengutari_merge(
+        first: *const u8,
+        first_len: usize,
+        second: *const u8,
+        second_len: usize,
+        out: *mut u8,
+        out_len: usize,
+        value: *mut u64,
+    ) -> u32;
     fn vengutari_search(
         store: *const u8,
         store_len: usize,
@@ -202,6 +211,20 @@ impl Calls for Library {
 
     fn take_in(&self, store: &mut [u8], mark: usize, beacon: &[u8], value: &mut u64) -> u32 {
         unsafe { vengutari_take_in(store.as_mut_ptr(), store.len(), mark, beacon.as_ptr(), beacon.len(), value) }
+    }
+
+    fn merge(&self, first: &[u8], second: &[u8], out: &mut [u8], value: &mut u64) -> u32 {
+        unsafe {
+            vengutari_merge(
+                first.as_ptr(),
+                first.len(),
+                second.as_ptr(),
+                second.len(),
+                out.as_mut_ptr(),
+                out.len(),
+                value,
+            )
+        }
     }
 
     fn search(

@@ -6,6 +6,7 @@
 pub mod boxes;
 pub mod coefficients;
 pub mod fit;
+pub mod merge;
 pub mod model;
 pub mod points;
 pub mod records;
@@ -18,6 +19,7 @@ mod bench_fits;
 pub use boxes::{split, Box8};
 pub use coefficients::{read_line, write_line};
 pub use fit::fit;
+pub use merge::merge;
 pub use model::{bound, cost, labels, loss, Model, Vector};
 pub use points::take_in;
 pub use records::{read_answer, read_job, write_answer, write_job, AnswerRecord, Job};

@@ -1,4 +1,4 @@
-//! The refusals of the paper's table, "Codes for jobs that can't run", and those of later requests.
+//! The refusals of the paper's table, "Codes for jobs that can't run", and those that document 02 adds.
 
 /// One row of the table; a stray field also gives its record's number.
 #[derive(Clone, Copy, Debug, PartialEq, Eq)]
@@ -16,6 +16,8 @@ pub enum Refusal {
     Beacon,
     OffGrid,
     Bounds,
+    Order,
+    Clash,
 }
 
 impl Refusal {
@@ -35,6 +37,8 @@ impl Refusal {
             Refusal::Beacon => 11,
             Refusal::OffGrid => 12,
             Refusal::Bounds => 14,
+            Refusal::Order => 15,
+            Refusal::Clash => 16,
         }
     }
 }

@@ -4,6 +4,7 @@ mod beacon;
 mod bench;
 mod fit;
 mod lines;
+mod merge;
 mod model;
 mod records;
 mod search;
@@ -53,6 +54,8 @@ pub const GROUPS: &[Group] = &[
     group("split", "split", 3000, model::split),
     group("labels", "labels", 3000, model::labels),
     group("take_in", "take_in", 3000, beacon::take_in),
+    group("merge", "merge", 3000, merge::small),
+    group("merge-large", "merge", 60, merge::large),
     group("search-exhaustive", "search", 4000, search::exhaustive),
     group("search-wide", "search", 1000, search::wide),
     group("search-damaged", "search", 2000, search::damaged),

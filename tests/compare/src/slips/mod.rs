@@ -1,6 +1,7 @@
 //! Do the cases notice a wrong product? Stand-ins made from the oracle, each with one slip, the paper's own
 //! "slips to expect" among them; every one must fail some case, and the one without a slip none.
 
+mod merge;
 mod search;
 mod stand_in;
 
@@ -38,6 +39,23 @@ enum Slip {
     BoundsBeforeStray,
     FewEntriesTaken,
     WrongLengthTaken,
+    // Two stores made one.
+    MergeFirstOfClash,
+    MergeCommonTwice,
+    MergeShortBeforeUnion,
+    MergeClashBeforeOrder,
+    MergeSignedFrames,
+    MergeLittleEndianFrames,
+    MergeEqualNeighboursTaken,
+    MergeSecondOrderUnchecked,
+    MergeSecondBehindFirst,
+    MergeGapYields,
+    MergeClashWithoutY,
+    MergeEmptyRefused,
+    MergeOneRecordOver,
+    MergeWritesWhatFits,
+    MergeClearsTheRest,
+    MergeLengthInRecords,
     // The search.
     CutsHighestCoordinate,
     TakesLastSmallest,
@@ -90,6 +108,27 @@ const SLIPS: &[(&str, &[Slip])] = &[
         &[EpsilonItselfIsOut, LabelsWithoutThreshold, LabelsHighestAmongEquals, LabelsClearTheRest, WrongLengthTaken],
     ),
     ("take_in", &[Beacon250, BeaconBeforeShort, MarkUnchecked, StorePastItsLimit]),
+    (
+        "merge",
+        &[
+            MergeFirstOfClash,
+            MergeCommonTwice,
+            MergeShortBeforeUnion,
+            MergeClashBeforeOrder,
+            MergeSignedFrames,
+            MergeLittleEndianFrames,
+            MergeEqualNeighboursTaken,
+            MergeSecondOrderUnchecked,
+            MergeSecondBehindFirst,
+            MergeGapYields,
+            MergeClashWithoutY,
+            MergeEmptyRefused,
+            MergeOneRecordOver,
+            MergeWritesWhatFits,
+            MergeClearsTheRest,
+            MergeLengthInRecords,
+        ],
+    ),
     (
         "search",
         &[

@@ -176,6 +176,10 @@ impl Calls for StandIn {
         settle(oracle::take_in(store, mark, beacon).map(|mark| mark as u64), value)
     }
 
+    fn merge(&self, first: &[u8], second: &[u8], out: &mut [u8], value: &mut u64) -> u32 {
+        settle(self.merged(first, second, out), value)
+    }
+
     fn search(
         &self,
         store: &[u8],
