@@ -8,6 +8,7 @@ use crate::branch::tested;
 use boxes::Box;
 use jobs::Job;
 use jobs::Model;
+use model::NO_CAP;
 use open_boxes::lower_bound;
 use open_boxes::put;
 ghost use mathlib.Core.Path.{_≡_};
@@ -21,8 +22,6 @@ ghost use Rattle.model.specs.Calls.{checkModel};
 ghost use Rattle.rows.specs.Rows.{rowCount};
 ghost use Rattle.search.specs.Inside.{Begun, answerWith, Ran};
 ghost use Rattle.search.specs.Search.{searched};
-
-const NO_CAP: u64 = 18446744073709551615;
 
 // The best vector is the start vector. The given box is open if its bound is below the cost.
 pub fn begin(
