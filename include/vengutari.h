@@ -12,6 +12,7 @@
  *
  * A length counts elements, not bytes. No pointer is null, each points to as many elements as its length says, and what one argument
  * lends for writing no other argument reaches. Nothing is allocated or kept, so calls on different memory may run at the same time.
+ * A search takes less than 180,000 bytes of stack, every other call less than 8,000.
  *
  * store    point records of 12 bytes, 1 to 4,096 of them
  * n, d     lines (1 to 4) and x used (1 to 4), n * d at most 8

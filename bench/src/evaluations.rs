@@ -25,6 +25,7 @@ const EPS: u32 = 40_000;
 struct Case {
     model: Model,
     store: Vec<u8>,
+    lanes: Vec<rattle::Chunk>,
     domain: Domain,
     corners: [i16; 16],
 }
@@ -70,9 +71,12 @@ fn case(n: usize, d: usize, p: u8) -> Case {
         p,
         eps: EPS,
     };
+    let mut lanes = vec![[[0.0; 80]; 5]; 54];
+    rattle::decode(&mut lanes, &store, model);
     Case {
         model,
         store,
+        lanes,
         corners: domain.corners(),
         domain,
     }
@@ -82,8 +86,11 @@ fn case(n: usize, d: usize, p: u8) -> Case {
 fn compare(c: &Case) {
     let cost = plain::cost(&c.store, c.model, &c.domain.low);
     let bound = plain::bound(&c.store, c.model, &c.domain.low, &c.domain.high);
-    assert_eq!(rattle::cost(&c.store, c.model, &c.corners), cost);
-    assert_eq!(rattle::bound(&c.store, c.model, &c.corners), bound);
+    assert_eq!(rattle::cost(&c.store, &c.lanes, c.model, &c.corners), cost);
+    assert_eq!(
+        rattle::bound(&c.store, &c.lanes, c.model, &c.corners),
+        bound
+    );
     assert_eq!(
         rattle::cost_call(&c.store, c.model, &c.domain.low),
         (0, cost)
@@ -113,39 +120,47 @@ pub fn compare_all() -> usize {
     cases.len()
 }
 
-/// The least time of each side over so many interleaved rounds, in nanoseconds: of the cost in Rust and in Rattle, then of the bound.
-fn least_times(c: &Case, rounds: usize) -> [f64; 4] {
-    let mut least = [f64::INFINITY; 4];
+/// The least times over so many interleaved rounds, in nanoseconds: of the cost in Rust, over lanes, and by the whole call; then of the bound.
+fn least_times(c: &Case, rounds: usize) -> [f64; 6] {
+    let mut least = [f64::INFINITY; 6];
     for _ in 0..rounds {
         let m = black_box(c.model);
-        least[0] = timed(least[0], || plain::cost(&c.store, m, &c.domain.low));
-        least[1] = timed(least[1], || rattle::cost(&c.store, m, &c.corners));
-        least[2] = timed(least[2], || {
-            plain::bound(&c.store, m, &c.domain.low, &c.domain.high)
+        let (low, high) = (&c.domain.low, &c.domain.high);
+        least[0] = timed(least[0], || plain::cost(&c.store, m, low));
+        least[1] = timed(least[1], || rattle::cost(&c.store, &c.lanes, m, &c.corners));
+        least[2] = timed(least[2], || rattle::cost_call(&c.store, m, low).1);
+        least[3] = timed(least[3], || plain::bound(&c.store, m, low, high));
+        least[4] = timed(least[4], || {
+            rattle::bound(&c.store, &c.lanes, m, &c.corners)
         });
-        least[3] = timed(least[3], || rattle::bound(&c.store, m, &c.corners));
+        least[5] = timed(least[5], || rattle::bound_call(&c.store, m, &c.corners).1);
     }
     least
 }
 
 /// Prints times and ratios.
 pub fn table(rounds: usize) {
-    println!("{POINTS} points, least of {rounds} rounds, microseconds for one evaluation");
-    println!("                     cost                          bound");
-    println!("n d p      Rust    Rattle   ratio        Rust    Rattle   ratio");
-    let mut worst = [0f64; 2];
+    println!("{POINTS} points, least of {rounds} rounds, microseconds for one evaluation: over lanes, and the whole call, which decodes");
+    println!("                        cost                                    bound");
+    println!(
+        "n d p      Rust    lanes ratio     call ratio        Rust    lanes ratio     call ratio"
+    );
+    let mut worst = [0f64; 4];
     for c in cases() {
         compare(&c);
         let Model { n, d, p, .. } = c.model;
-        let [a, b, e, f] = least_times(&c, rounds).map(|t| t / 1000.0);
+        let [a, b, c, e, f, g] = least_times(&c, rounds).map(|t| t / 1000.0);
+        let ratios = [b / a, c / a, f / e, g / e];
         println!(
-            "{n} {d} {p}  {a:8.1}  {b:8.1}  {:6.2}    {e:8.1}  {f:8.1}  {:6.2}",
-            b / a,
-            f / e
+            "{n} {d} {p}  {a:8.1} {b:8.1} {:5.2} {c:8.1} {:5.2}    {e:8.1} {f:8.1} {:5.2} {g:8.1} {:5.2}",
+            ratios[0], ratios[1], ratios[2], ratios[3]
         );
-        worst = [worst[0].max(b / a), worst[1].max(f / e)];
+        (0..4).for_each(|k| worst[k] = worst[k].max(ratios[k]));
     }
-    println!("largest ratio: cost {:.2}, bound {:.2}", worst[0], worst[1]);
+    println!(
+        "largest ratio: cost {:.2}, call {:.2}; bound {:.2}, call {:.2}",
+        worst[0], worst[1], worst[2], worst[3]
+    );
 }
 
 /// One evaluation of each, for counting instructions.
@@ -153,7 +168,7 @@ pub fn once(n: usize, d: usize, p: u8) {
     let c = case(n, d, p);
     let m = black_box(c.model);
     black_box(plain::cost(&c.store, m, &c.domain.low));
-    black_box(rattle::cost(&c.store, m, &c.corners));
+    black_box(rattle::cost(&c.store, &c.lanes, m, &c.corners));
     black_box(plain::bound(&c.store, m, &c.domain.low, &c.domain.high));
-    black_box(rattle::bound(&c.store, m, &c.corners));
+    black_box(rattle::bound(&c.store, &c.lanes, m, &c.corners));
 }

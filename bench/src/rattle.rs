@@ -4,9 +4,19 @@ use crate::plain::Model;
 use crate::search::{Answer, Job, Kind};
 
 extern "C" {
-    fn bench_cost_up_to(
+    fn bench_decode(
+        lanes: *mut Chunk,
+        lanes_len: usize,
         store: *const u8,
         store_len: usize,
+        d: u8,
+        scale: u8,
+    );
+    fn bench_cost_in(
+        store: *const u8,
+        store_len: usize,
+        lanes: *const Chunk,
+        lanes_len: usize,
         n: u8,
         d: u8,
         scale: u8,
@@ -16,9 +26,11 @@ extern "C" {
         corners_len: usize,
         cap: u64,
     ) -> u64;
-    fn bench_bound_up_to(
+    fn bench_bound_in(
         store: *const u8,
         store_len: usize,
+        lanes: *const Chunk,
+        lanes_len: usize,
         n: u8,
         d: u8,
         scale: u8,
@@ -78,13 +90,33 @@ extern "C" {
     ) -> u32;
 }
 
-/// The loop of the cost alone, of the low vector of a box.
-pub fn cost(store: &[u8], m: Model, corners: &[i16; 16]) -> u64 {
+/// Eighty points in five columns.
+pub type Chunk = [[f64; 80]; 5];
+
+/// A store decoded into lanes, as a search does once.
+pub fn decode(lanes: &mut [Chunk], store: &[u8], m: Model) {
     // Each pointer comes with the length of what it points to, and nothing is kept.
     unsafe {
-        bench_cost_up_to(
+        bench_decode(
+            lanes.as_mut_ptr(),
+            lanes.len(),
             store.as_ptr(),
             store.len(),
+            m.d as u8,
+            m.scale as u8,
+        )
+    }
+}
+
+/// The cost of the low vector of a box over lanes, as a search asks for it.
+pub fn cost(store: &[u8], lanes: &[Chunk], m: Model, corners: &[i16; 16]) -> u64 {
+    // As above.
+    unsafe {
+        bench_cost_in(
+            store.as_ptr(),
+            store.len(),
+            lanes.as_ptr(),
+            lanes.len(),
             m.n as u8,
             m.d as u8,
             m.scale as u8,
@@ -97,13 +129,15 @@ pub fn cost(store: &[u8], m: Model, corners: &[i16; 16]) -> u64 {
     }
 }
 
-/// The loop of the bound alone.
-pub fn bound(store: &[u8], m: Model, corners: &[i16; 16]) -> u64 {
+/// The bound over lanes.
+pub fn bound(store: &[u8], lanes: &[Chunk], m: Model, corners: &[i16; 16]) -> u64 {
     // As above.
     unsafe {
-        bench_bound_up_to(
+        bench_bound_in(
             store.as_ptr(),
             store.len(),
+            lanes.as_ptr(),
+            lanes.len(),
             m.n as u8,
             m.d as u8,
             m.scale as u8,

@@ -1,13 +1,25 @@
-// The loops of cost and bound alone, for bench/: what a search asks again and again, without the pass for stray fields that a call makes.
+// The evaluations of a search alone, for bench/: what it asks again and again of a store that it decoded once.
+use lanes::Chunk;
 ghost use mathlib.Core.Path.{_≡_};
-ghost use Rattle.model.specs.Calls.{costUpTo, boundUpTo};
+ghost use Prim.Native.Nat.{_^_, _%_};
+ghost use Rattle.columns.specs.Columns.{DecodedInto};
+ghost use Rattle.model.specs.Calls.{costIn, boundIn};
 ghost use Rattle.rows.specs.Rows.{rowAt};
 ghost use Rattle.boundary.specs.Boundary.{modelOf};
 
+// Decodes a store, as a search does at its beginning.
+#[no_mangle]
+pub extern "C" fn bench_decode(lanes: &mut [Chunk], store: &[u8], d: u8, scale: u8)
+    ensures { λ _. ⌜ DecodedInto (now (store .entry)) d (2 ^ (scale % 16)) (now (lanes .entry)) (now (lanes .exit)) ⌝ }
+{
+    columns::decode(lanes, store, d, scale::power(scale))
+}
+
 // The cost of the low vector of a box, up to a cap.
 #[no_mangle]
-pub extern "C" fn bench_cost_up_to(
+pub extern "C" fn bench_cost_in(
     store: &[u8],
+    lanes: &[Chunk],
     n: u8,
     d: u8,
     scale: u8,
@@ -16,18 +28,20 @@ pub extern "C" fn bench_cost_up_to(
     corners: &[i16],
     cap: u64,
 ) -> u64
-    ensures { λ r. ⌜ r ≡ costUpTo (now (store .entry)) (modelOf n d scale p eps) (rowAt (now (corners .entry)) 0 .low) cap ⌝ }
+    ensures { λ r. ⌜ r
+        ≡ costIn (now (store .entry)) (now (lanes .entry)) (modelOf n d scale p eps) (rowAt (now (corners .entry)) 0 .low) cap ⌝ }
 {
     let m = boundary::model_of(n, d, scale, p, eps);
     let b = rows::read_row(corners, 0);
     let low = b.low;
-    model::cost_up_to(store, m, low, cap)
+    model::cost_in(store, lanes, m, low, cap)
 }
 
 // The bound of a box, up to a cap.
 #[no_mangle]
-pub extern "C" fn bench_bound_up_to(
+pub extern "C" fn bench_bound_in(
     store: &[u8],
+    lanes: &[Chunk],
     n: u8,
     d: u8,
     scale: u8,
@@ -36,8 +50,9 @@ pub extern "C" fn bench_bound_up_to(
     corners: &[i16],
     cap: u64,
 ) -> u64
-    ensures { λ r. ⌜ r ≡ boundUpTo (now (store .entry)) (modelOf n d scale p eps) (rowAt (now (corners .entry)) 0) cap ⌝ }
+    ensures { λ r. ⌜ r
+        ≡ boundIn (now (store .entry)) (now (lanes .entry)) (modelOf n d scale p eps) (rowAt (now (corners .entry)) 0) cap ⌝ }
 {
     let m = boundary::model_of(n, d, scale, p, eps);
-    model::bound_up_to(store, m, rows::read_row(corners, 0), cap)
+    model::bound_in(store, lanes, m, rows::read_row(corners, 0), cap)
 }

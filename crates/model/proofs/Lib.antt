@@ -1,4 +1,2 @@
-pub mod Dots
-pub mod Ends
-pub mod Losses
 pub mod Passed
+pub mod Summing

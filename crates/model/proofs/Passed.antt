@@ -1,12 +1,13 @@
 -- What holds of a model and a store that the checks let through; their costs have a limit. Assumes nothing.
-use mathlib.Core.Path.{_≡_}
+use mathlib.Core.Path.{_≡_, subst}
 use mathlib.Core.Bool.{_&&_, _||_}
 use mathlib.Core.List.{List, [], _∷_}
-use Prim.Native.Nat.{ℕ, _%_, _≤_}
+use Prim.Native.Nat.{ℕ, _%_, _^_, _≤_}
 use native.Mathlib.Omega.{arith}
 use lib.Dec.{T, leb, eqb, leb→le}
 use lib.IntN.{ℤ}
-use lib.ListN.{length}
+use lib.ListN.{length, getD}
+use lib.Ieee.{Float}
 use Rattle.codes.specs.declared.Check.the-variants.{Pass}
 use Rattle.codes.specs.declared.Refusal.the-variants.{Length, Loss}
 use Rattle.codes.specs.Codes.{within}
@@ -22,8 +23,10 @@ use Rattle.scale.specs.Scale.{checkScale}
 use Rattle.scale.proofs.Checks.{scale-within}
 use Rattle.residuals.specs.Cost.{sizeAt, cost}
 use Rattle.residuals.specs.Inside.{Ready}
+use Rattle.residuals.proofs.Sizes.{power-of}
 use Rattle.residuals.proofs.Sums.{total-most}
-use Rattle.model.specs.Calls.{checkModel, checkCost, checkBound}
+use Rattle.columns.specs.Columns.{ChunkOf, DecodedInto}
+use Rattle.model.specs.Calls.{checkModel, checkCost, checkBound, DecodedFor}
 use Rattle.model.specs.Laws.{CostLimit}
 
 -- both ends of `within`
@@ -65,6 +68,17 @@ ready store m e =
       scaled = omega (arith, scale);
       cut = loss .0;
       kind = loss .1;
+    }
+
+-- Room for 54 chunks is enough for an accepted store: all of it is decoded.
+pub decoded-for : (store : List ℕ) (m : Model) → checkModel store m ≡ Pass → {power : ℕ} {old new : List (List (List Float))}
+    → power ≡ 2 ^ (m .scale % 16) → length old ≡ 54 → length new ≡ 54 → DecodedInto store (m .d) power old new → DecodedFor store m new
+decoded-for store m e {power} {new = new} p long long-new into =
+    let r = ready store m e in
+    let is : power ≡ 2 ^ m .scale = power-of (m .scale) power (r .scaled) p in
+    record {
+      all = omega (arith, r .few);
+      chunk = λ t h. subst (λ (n : ℕ). ChunkOf store t (m .d) n (getD new t [])) is (into .here t (omega (arith, r .few)));
     }
 
 pub cost-limit : (store : List ℕ) (m : Model) → CostLimit store m

@@ -1,8 +1,10 @@
 -- The calls on a store and a model: which checks each makes, and what it answers. "Codes for jobs that can't run".
+use mathlib.Core.Bool.{Bool, true, false}
 use mathlib.Core.List.{List, [], _∷_}
-use Prim.Native.Nat.{ℕ, min}
+use Prim.Native.Nat.{ℕ, _^_, min}
 use lib.IntN.{ℤ}
-use lib.ListN.{length}
+use lib.ListN.{length, getD}
+use lib.Ieee.{Float}
 use Rattle.codes.specs.declared.Check.{Check}
 use Rattle.codes.specs.declared.Outcome.{Outcome}
 use Rattle.codes.specs.Codes.{inOrder, unlessRefused, ifPassed}
@@ -14,6 +16,9 @@ use Rattle.jobs.specs.declared.Model.{Model}
 use Rattle.points.specs.Points.{pointsOf, checkStore, checkStray}
 use Rattle.loss.specs.Loss.{checkLoss}
 use Rattle.residuals.specs.Cost.{cost, bound}
+use Rattle.residuals.specs.Inside.{sumOf}
+use Rattle.columns.specs.Columns.{decodedChunks, Decoded}
+use Rattle.kernel.specs.Kernel.{doubles, chunkLoss}
 
 -- Checks 1 to 4, which every call here makes first.
 unfoldable pub checkModel : List ℕ → Model → Check
@@ -43,3 +48,19 @@ costUpTo store m v cap = ifPassed (checkModel store m) (min (cost m (pointsOf st
 
 unfoldable pub boundUpTo : List ℕ → Model → Box → ℕ → ℕ
 boundUpTo store m B cap = ifPassed (checkModel store m) (min (bound m (pointsOf store) B) cap) 0
+
+-- lanes are the store's, decoded for the model
+abbrev pub DecodedFor : List ℕ → Model → List (List (List Float)) → Type 0
+DecodedFor store m lanes = Decoded store (m .d) (2 ^ m .scale) lanes
+
+-- The same over lanes, of a store that was decoded before. What lanes give that are not the store's is said by the numbers in them.
+abbrev pub chunkLossIn : Bool → List (List (List Float)) → Model → List ℤ → List ℤ → ℕ → ℕ
+chunkLossIn over lanes m low high t = chunkLoss over (getD lanes t []) (doubles low) (doubles high) m
+
+unfoldable pub costIn : List ℕ → List (List (List Float)) → Model → List ℤ → ℕ → ℕ
+costIn store lanes m v cap =
+    ifPassed (checkModel store m) (min (sumOf (chunkLossIn false lanes m v v) (decodedChunks store lanes)) cap) 0
+
+unfoldable pub boundIn : List ℕ → List (List (List Float)) → Model → Box → ℕ → ℕ
+boundIn store lanes m B cap =
+    ifPassed (checkModel store m) (min (sumOf (chunkLossIn true lanes m (B .low) (B .high)) (decodedChunks store lanes)) cap) 0

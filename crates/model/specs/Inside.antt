@@ -1,19 +1,23 @@
--- What the loops behind the calls say of blocks of points.
+-- What the sums behind the calls say of a point's sizes.
+use mathlib.Core.Bool.{Bool, cond}
 use mathlib.Core.List.{List}
 use mathlib.Core.Path.{_≡_}
-use Prim.Native.Nat.{ℕ, _+_, _<_}
-use lib.ListN.{getD}
+use Prim.Native.Nat.{ℕ, min}
+use lib.IntN.{ℤ}
+use lib.Ieee.{Float}
 use Rattle.jobs.specs.declared.Model.{Model}
-use Rattle.loss.specs.Loss.{lossOf}
 use Rattle.points.specs.declared.Point.{Point}
-use Rattle.points.specs.Points.{pointAt}
-use Rattle.residuals.specs.Cost.{least}
-use Rattle.residuals.specs.Inside.{sumOf}
+use Rattle.points.specs.Points.{pointsOf}
+use Rattle.residuals.specs.Cost.{sizeAt, leastSize, totalLoss}
+use Rattle.residuals.specs.Inside.{boxOf, sumOf}
+use Rattle.columns.specs.Columns.{decodedChunks}
+use Rattle.model.specs.Calls.{DecodedFor, chunkLossIn}
 
--- the list begins with f 0, …, f (n − 1)
-abbrev pub Begins : List ℕ → (ℕ → ℕ) → ℕ → Type 0
-Begins zs f n = (k : ℕ) → k < n → getD zs k 0 ≡ f k
+-- over the box from low to high the least size, else |e| under low
+abbrev pub sizesBy : Bool → Model → List ℤ → List ℤ → Point → ℕ → ℕ
+sizesBy over m low high q j = cond over (leastSize m (boxOf low high) q j) (sizeAt m low q j)
 
--- the losses of n points from record i on, each of its least size
-abbrev pub lossesFrom : Model → (Point → ℕ → ℕ) → List ℕ → ℕ → ℕ → ℕ
-lossesFrom m size s i n = sumOf (λ k. lossOf (m .p) (m .eps) (least (size (pointAt s (i + k))) (m .n))) n
+-- what a sum over lanes is: by the lanes, and of the store's own by its points
+pub record SumIn (over : Bool) (store : List ℕ) (lanes : List (List (List Float))) (m : Model) (low high : List ℤ) (cap r : ℕ) : Type 0 where
+  pub by-lanes : r ≡ min (sumOf (chunkLossIn over lanes m low high) (decodedChunks store lanes)) cap
+  pub by-points : DecodedFor store m lanes → r ≡ min (totalLoss m (sizesBy over m low high) (pointsOf store)) cap

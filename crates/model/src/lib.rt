@@ -1,19 +1,17 @@
 // The cost of a vector and the bound of a box, over a store of point records.
-mod blocks;
-mod range;
-mod record;
-mod residual;
+mod sums;
 
 use boxes::Box;
 use codes::Check;
 use codes::Outcome;
 use codes::in_order;
 use jobs::Model;
+use lanes::Chunk;
 ghost use mathlib.Core.List.{[], _∷_};
 ghost use mathlib.Core.Path.{_≡_};
 ghost use Rattle.codes.specs.Codes.{inOrder};
 ghost use Rattle.points.specs.Points.{pointsOf, checkStray};
-ghost use Rattle.model.specs.Calls.{checkModel, checkCost, costAnswer, checkBound, boundAnswer, costUpTo, boundUpTo};
+ghost use Rattle.model.specs.Calls.{checkModel, checkCost, costAnswer, checkBound, boundAnswer, costUpTo, boundUpTo, DecodedFor, costIn, boundIn};
 
 // A cap that no cost and no bound reaches.
 pub const NO_CAP: u64 = 18446744073709551615;
@@ -56,7 +54,7 @@ pub fn cost(store: &[u8], m: Model, v: [i16; 8]) -> Outcome
     ensures { λ r. ⌜ r ≡ costAnswer (now (store .entry)) m v ⌝ }
 {
     match check_cost(store, m, v) {
-        Check::Pass => Outcome::Value(residual::cost_sum(store, m, &v, NO_CAP)),
+        Check::Pass => Outcome::Value(sums::sum(store, m, v, v, false)),
         Check::Refuse(r) => Outcome::Refused(r),
     }
 }
@@ -80,31 +78,34 @@ pub fn bound(store: &[u8], m: Model, b: Box) -> Outcome
         Check::Pass => {
             let low = b.low;
             let high = b.high;
-            Outcome::Value(range::bound_sum(store, m, &low, &high, NO_CAP))
+            Outcome::Value(sums::sum(store, m, low, high, true))
         }
         Check::Refuse(r) => Outcome::Refused(r),
     }
 }
 
-// The cost of a vector, or `cap` if that is less: for a search, which asks only whether a vector is cheaper.
-pub fn cost_up_to(store: &[u8], m: Model, v: [i16; 8], cap: u64) -> u64
-    ensures { λ r. ⌜ r ≡ costUpTo (now (store .entry)) m v cap ⌝ }
+// For a search, which decodes its store once and asks only whether a vector is cheaper: over lanes, the cost of a vector, or `cap` if that
+// is less. The first clause says for any lanes what it gives, the second that of the store's own lanes it is the cost.
+pub fn cost_in(store: &[u8], lanes: &[Chunk], m: Model, v: [i16; 8], cap: u64) -> u64
+    ensures lanes { λ r. ⌜ r ≡ costIn (now (store .entry)) (now (lanes .entry)) m v cap ⌝ }
+    ensures store { λ r. ⌜ (DecodedFor (now (store .entry)) m (now (lanes .entry)) → r ≡ costUpTo (now (store .entry)) m v cap) ⌝ }
 {
     match check_model(store, m) {
-        Check::Pass => residual::cost_sum(store, m, &v, cap),
+        Check::Pass => sums::lanes_up_to(store, lanes, m, v, v, false, cap),
         Check::Refuse(_) => 0,
     }
 }
 
 // The bound of a box, or `cap` if that is less.
-pub fn bound_up_to(store: &[u8], m: Model, b: Box, cap: u64) -> u64
-    ensures { λ r. ⌜ r ≡ boundUpTo (now (store .entry)) m b cap ⌝ }
+pub fn bound_in(store: &[u8], lanes: &[Chunk], m: Model, b: Box, cap: u64) -> u64
+    ensures lanes { λ r. ⌜ r ≡ boundIn (now (store .entry)) (now (lanes .entry)) m b cap ⌝ }
+    ensures store { λ r. ⌜ (DecodedFor (now (store .entry)) m (now (lanes .entry)) → r ≡ boundUpTo (now (store .entry)) m b cap) ⌝ }
 {
     match check_model(store, m) {
         Check::Pass => {
             let low = b.low;
             let high = b.high;
-            range::bound_sum(store, m, &low, &high, cap)
+            sums::lanes_up_to(store, lanes, m, low, high, true, cap)
         }
         Check::Refuse(_) => 0,
     }

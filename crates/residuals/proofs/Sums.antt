@@ -1,8 +1,8 @@
--- Sums, and of losses over the first points of a store: one more, their size, and where a cap is reached. Assumes nothing.
-use mathlib.Core.Path.{_≡_, refl, sym, ap, _∙_}
+-- Sums, and of losses over the first points of a store: one more, their size, and all of them. Assumes nothing.
+use mathlib.Core.Path.{_≡_, refl, ap, _∙_}
 use mathlib.Core.List.{List, [], _∷_, _++_}
-use Prim.Native.Nat.{ℕ, zero, suc, _+_, _*_, _-_, _/_, _≤_, _<_, min}
-use native.Mathlib.Nat.{add-zero, add-suc, min-eq-left, min-eq-right}
+use Prim.Native.Nat.{ℕ, zero, suc, _+_, _*_, _/_, _≤_, _<_, min}
+use native.Mathlib.Nat.{min-eq-left}
 use native.Mathlib.Numerals.{add-one}
 use native.Mathlib.Omega.{arith}
 use lib.ListN.{length}
@@ -56,17 +56,6 @@ module _ (m : Model) (size : Point → ℕ → ℕ) where
         ≡ totalLoss m size (firstPoints s i) + least (λ j. lossOf (m .p) (m .eps) (size (pointAt s i) j)) (m .n)
     total-more i = ap (totalLoss m size) (points-more s i) ∙ total-snoc (firstPoints s i) (pointAt s i)
 
-    -- more points cost at least as much
-    behind : (i k : ℕ) → totalLoss m size (firstPoints s i) ≤ totalLoss m size (firstPoints s (i + k))
-    unfolding firstPoints
-    behind i zero = rw add-zero (omega arith)
-    behind i (suc k) = rw add-suc (omega (arith, behind i k, total-snoc (firstPoints s (i + k)) (pointAt s (i + k))))
-
-    total-prefix : {i n : ℕ} → i ≤ n → totalLoss m size (firstPoints s i) ≤ totalLoss m size (firstPoints s n)
-    total-prefix {i} {n} h =
-        let e : n ≡ i + (n - i) = omega arith in
-        omega (arith, behind i (n - i), ap (λ (k : ℕ). totalLoss m size (firstPoints s k)) e)
-
     -- the sum over the first i records of a store, as a loop has it
     pub record Summed (i sum : ℕ) : Type 0 where
       pub few : i ≤ length s / 12
@@ -88,14 +77,8 @@ module _ (m : Model) (size : Point → ℕ → ℕ) where
           small = omega (arith, g .small, e, loss-le (m .p) (m .eps) a cut);
         }
 
-    module _ {i sum : ℕ} (g : Summed i sum) (cap : ℕ) where
-      -- where the cap is reached the rest of the store does not matter
-      pub cap-reached : cap ≤ sum → cap ≡ min (totalLoss m size (pointsOf s)) cap
-      unfolding pointsOf
-      cap-reached h = sym (min-eq-right (omega (arith, total-prefix (g .few), g .total)))
-
-      pub all-summed : length s / 12 ≤ i → min sum cap ≡ min (totalLoss m size (pointsOf s)) cap
-      unfolding pointsOf
-      all-summed h =
-          let e : i ≡ length s / 12 = omega (arith, g .few) in
-          ap (λ (n : ℕ). min n cap) (g .total ∙ ap (λ (k : ℕ). totalLoss m size (firstPoints s k)) e)
+    pub all-total : {i sum : ℕ} → Summed i sum → length s / 12 ≤ i → sum ≡ totalLoss m size (pointsOf s)
+    unfolding pointsOf
+    all-total {i} g h =
+        let e : i ≡ length s / 12 = omega (arith, g .few) in
+        g .total ∙ ap (λ (k : ℕ). totalLoss m size (firstPoints s k)) e

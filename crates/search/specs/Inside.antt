@@ -6,9 +6,13 @@ use Prim.Native.Nat.{ℕ, _*_, _≤_, _<_}
 use lib.Dec.{ltb}
 use lib.IntN.{ℤ}
 use lib.ListN.{length, take, drop}
+use lib.Ieee.{Float}
+use Rattle.codes.specs.declared.Check.the-variants.{Pass}
 use Rattle.boxes.specs.declared.Box.{Box}
 use Rattle.boxes.specs.Boxes.{volume}
 use Rattle.boxes.specs.Split.{leftHalf, rightHalf}
+use Rattle.jobs.specs.declared.Model.{Model}
+use Rattle.model.specs.Calls.{checkModel, DecodedFor}
 use Rattle.rows.specs.Rows.{rowCount, rowAt, rowsOf}
 use Rattle.open_boxes.specs.declared.Child.{Child}
 use Rattle.certificate.specs.Search as Search
@@ -20,6 +24,11 @@ use Rattle.search.specs.declared.branch.Branches.{Branches}
 use Rattle.search.specs.declared.branch.State.{State}
 use Rattle.search.specs.declared.branch.Stepped.{Stepped}
 use Rattle.search.specs.Search.{told}
+
+-- what an evaluation asks: checks 1 to 4 passed, and the lanes are the store's, which a search decodes once
+pub record Evaluable (store : List ℕ) (lanes : List (List (List Float))) (m : Model) : Type 0 where
+  pub checked : checkModel store m ≡ Pass
+  pub decoded : DecodedFor store m lanes
 
 -- Document 02: "after the beginning and after every step the entry equals that bound by definition". The entries beside the first n rows
 -- of t are the bounds of the boxes there.

@@ -1,18 +1,17 @@
 // One step of the search: the first box with the smallest bound is cut, and its halves take its place in the list.
 use boxes::Box;
 use jobs::Model;
+use lanes::Chunk;
 use open_boxes::Child;
 use open_boxes::keeps;
 use open_boxes::replace;
 ghost use mathlib.Core.Path.{_≡_};
 ghost use Prim.Native.Nat.{_≤_, max};
-ghost use Rattle.codes.specs.declared.Check.the-variants.{Pass};
 ghost use Rattle.boxes.specs.Boxes.{volume};
 ghost use Rattle.points.specs.Points.{pointsOf};
 ghost use Rattle.residuals.specs.Cost.{bound, cost};
-ghost use Rattle.model.specs.Calls.{checkModel};
 ghost use Rattle.certificate.specs.Search.{cheaper};
-ghost use Rattle.search.specs.Inside.{bestOf, below, Tested, Cut, Steppable, StepOutcome};
+ghost use Rattle.search.specs.Inside.{Evaluable, bestOf, below, Tested, Cut, Steppable, StepOutcome};
 
 // The best vector and its cost, C.
 pub struct Best {
@@ -28,12 +27,12 @@ pub struct Branches {
 }
 
 // A vector becomes best only if it is cheaper. Its cost is summed only as far as the best one's.
-fn tried(store: &[u8], m: Model, best: Best, v: [i16; 8]) -> Best
-    requires { ⌜ (checkModel (now store) m ≡ Pass) × (best ≡ bestOf (cost m (pointsOf (now store))) (best .vector)) ⌝ }
+fn tried(store: &[u8], lanes: &[Chunk], m: Model, best: Best, v: [i16; 8]) -> Best
+    requires { ⌜ Evaluable (now store) (now lanes) m × (best ≡ bestOf (cost m (pointsOf (now store))) (best .vector)) ⌝ }
     ensures { λ r. ⌜ r
         ≡ bestOf (cost m (pointsOf (now (store .entry)))) (cheaper (cost m (pointsOf (now (store .entry)))) (best .vector) v) ⌝ }
 {
-    let c = model::cost_up_to(store, m, v, best.cost);
+    let c = model::cost_in(store, lanes, m, v, best.cost);
     if c < best.cost {
         Best { vector: v, cost: c }
     } else {
@@ -42,12 +41,12 @@ fn tried(store: &[u8], m: Model, best: Best, v: [i16; 8]) -> Best
 }
 
 // Whether a box is kept, with its bound, which is summed only as far as the cost: below it that is the whole bound.
-pub fn tested(store: &[u8], m: Model, half: Box, cost: u64) -> Child
-    requires { ⌜ checkModel (now store) m ≡ Pass ⌝ }
+pub fn tested(store: &[u8], lanes: &[Chunk], m: Model, half: Box, cost: u64) -> Child
+    requires { ⌜ Evaluable (now store) (now lanes) m ⌝ }
     ensures { λ r. ⌜
         Tested (bound m (pointsOf (now (store .entry)))) (below (bound m (pointsOf (now (store .entry)))) cost) half r ⌝ }
 {
-    let bound = model::bound_up_to(store, m, half, cost);
+    let bound = model::bound_in(store, lanes, m, half, cost);
     Child {
         half,
         bound,
@@ -56,9 +55,9 @@ pub fn tested(store: &[u8], m: Model, half: Box, cost: u64) -> Child
 }
 
 // Cuts a box of two vectors or more, tries the low vector of each half, and finds the halves' bounds.
-fn cut_box(store: &[u8], m: Model, b: Box, best: Best) -> Branches
+fn cut_box(store: &[u8], lanes: &[Chunk], m: Model, b: Box, best: Best) -> Branches
     requires { ⌜
-        (checkModel (now store) m ≡ Pass) × (best ≡ bestOf (cost m (pointsOf (now store))) (best .vector)) × (2 ≤ volume b) ⌝ }
+        Evaluable (now store) (now lanes) m × (best ≡ bestOf (cost m (pointsOf (now store))) (best .vector)) × (2 ≤ volume b) ⌝ }
     ensures { λ r. ⌜
         Cut (cost m (pointsOf (now (store .entry)))) (bound m (pointsOf (now (store .entry)))) b (best .vector) r ⌝ }
 {
@@ -67,11 +66,17 @@ fn cut_box(store: &[u8], m: Model, b: Box, best: Best) -> Branches
     let right = halves.right;
     let left_low = left.low;
     let right_low = right.low;
-    let new = tried(store, m, tried(store, m, best, left_low), right_low);
+    let new = tried(
+        store,
+        lanes,
+        m,
+        tried(store, lanes, m, best, left_low),
+        right_low,
+    );
     Branches {
         best: new,
-        left: tested(store, m, left, new.cost),
-        right: tested(store, m, right, new.cost),
+        left: tested(store, lanes, m, left, new.cost),
+        right: tested(store, lanes, m, right, new.cost),
     }
 }
 
@@ -98,6 +103,7 @@ pub struct Stepped {
 // Splits the box in row `at`, the first with the smallest bound. Where there is no room nothing is written.
 pub fn step(
     store: &[u8],
+    lanes: &[Chunk],
     m: Model,
     table: &mut [i16],
     bounds: &mut [u64],
@@ -105,7 +111,7 @@ pub fn step(
     at: usize,
 ) -> Stepped
     requires { ⌜
-        (checkModel (now store) m ≡ Pass)
+        Evaluable (now store) (now lanes) m
         × Steppable (cost m (pointsOf (now store))) (bound m (pointsOf (now store))) (now table) (now bounds) s at ⌝ }
     ensures { λ r. ⌜
         StepOutcome (cost m (pointsOf (now (store .entry)))) (bound m (pointsOf (now (store .entry))))
@@ -113,7 +119,7 @@ pub fn step(
 {
     let best = s.best;
     let b = rows::read_row(table, at);
-    let br = cut_box(store, m, b, best);
+    let br = cut_box(store, lanes, m, b, best);
     let new = br.best;
     let left = br.left;
     let right = br.right;

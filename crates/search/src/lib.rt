@@ -8,6 +8,8 @@ use codes::Check;
 use codes::Refusal;
 use codes::in_order;
 use jobs::Job;
+use lanes::Chunk;
+use lanes::Lanes;
 ghost use mathlib.Core.Path.{_≡_};
 ghost use Prim.Native.Nat.{_/_};
 ghost use lib.Dec.{leb};
@@ -111,8 +113,12 @@ pub fn search(store: &[u8], job: Job, table: &mut [i16], bounds: &mut [u64]) -> 
             let m = job.model;
             let domain = job.domain;
             let start = job.start;
-            let first = begin(store, m, table, bounds, domain, start);
-            run(store, job, table, bounds, first)
+            let column: Lanes = [0.0; 80];
+            let chunk: Chunk = [column; 5];
+            let mut lanes = [chunk; 54];
+            columns::decode(&mut lanes, store, m.d, scale::power(m.scale));
+            let first = begin(store, &lanes, m, table, bounds, domain, start);
+            run(store, &lanes, job, table, bounds, first)
         }
         Check::Refuse(why) => refusal(why),
     }

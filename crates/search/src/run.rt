@@ -8,37 +8,37 @@ use crate::branch::tested;
 use boxes::Box;
 use jobs::Job;
 use jobs::Model;
+use lanes::Chunk;
 use model::NO_CAP;
 use open_boxes::lower_bound;
 use open_boxes::put;
 ghost use mathlib.Core.Path.{_≡_};
 ghost use Prim.Native.Nat.{_≤_};
 ghost use lib.ListN.{length};
-ghost use Rattle.codes.specs.declared.Check.the-variants.{Pass};
 ghost use Rattle.boxes.specs.Boxes.{InBox};
 ghost use Rattle.points.specs.Points.{pointsOf};
 ghost use Rattle.residuals.specs.Cost.{cost, bound};
-ghost use Rattle.model.specs.Calls.{checkModel};
 ghost use Rattle.rows.specs.Rows.{rowCount};
-ghost use Rattle.search.specs.Inside.{Begun, answerWith, Ran};
+ghost use Rattle.search.specs.Inside.{Evaluable, Begun, answerWith, Ran};
 ghost use Rattle.search.specs.Search.{searched};
 
 // The best vector is the start vector. The given box is open if its bound is below the cost.
 pub fn begin(
     store: &[u8],
+    lanes: &[Chunk],
     m: Model,
     table: &mut [i16],
     bounds: &mut [u64],
     domain: Box,
     start: [i16; 8],
 ) -> State
-    requires { ⌜ (checkModel (now store) m ≡ Pass) × (1 ≤ rowCount (now table)) × (1 ≤ length (now bounds)) ⌝ }
+    requires { ⌜ Evaluable (now store) (now lanes) m × (1 ≤ rowCount (now table)) × (1 ≤ length (now bounds)) ⌝ }
     ensures { λ r. ⌜
         Begun (cost m (pointsOf (now (store .entry)))) (bound m (pointsOf (now (store .entry)))) start domain
         (now (table .entry)) (now (bounds .entry)) r (now (table .exit)) (now (bounds .exit)) ⌝ }
 {
-    let c = model::cost_up_to(store, m, start, NO_CAP);
-    let rows = put(table, bounds, 0, tested(store, m, domain, c));
+    let c = model::cost_in(store, lanes, m, start, NO_CAP);
+    let rows = put(table, bounds, 0, tested(store, lanes, m, domain, c));
     State {
         best: Best {
             vector: start,
@@ -67,9 +67,16 @@ fn answer(kind: Kind, s: State, low: u64) -> Answer
 }
 
 // Step after step, from the beginning: solved is the paper's (a), spent its (b), and `step` its (c).
-pub fn run(store: &[u8], job: Job, table: &mut [i16], bounds: &mut [u64], first: State) -> Answer
+pub fn run(
+    store: &[u8],
+    lanes: &[Chunk],
+    job: Job,
+    table: &mut [i16],
+    bounds: &mut [u64],
+    first: State,
+) -> Answer
     requires { ⌜
-        (checkModel (now store) (job .model) ≡ Pass) × (1 ≤ rowCount (now table)) × (rowCount (now table) ≤ length (now bounds))
+        Evaluable (now store) (now lanes) (job .model) × (1 ≤ rowCount (now table)) × (rowCount (now table) ≤ length (now bounds))
         × InBox (job .start) (job .domain) ⌝ }
     requires { ⌜
         Begun (cost (job .model) (pointsOf (now store))) (bound (job .model) (pointsOf (now store))) (job .start) (job .domain)
@@ -91,7 +98,7 @@ pub fn run(store: &[u8], job: Job, table: &mut [i16], bounds: &mut [u64], first:
         if spent {
             return answer(Kind::Spent, s, low.bound);
         }
-        let next = step(store, m, table, bounds, s, low.at);
+        let next = step(store, lanes, m, table, bounds, s, low.at);
         if next.full {
             return answer(Kind::Full, s, low.bound);
         }

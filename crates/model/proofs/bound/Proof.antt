@@ -1,15 +1,13 @@
--- By what the checks say: the sum is below any cap of 64 bits.
+-- By what the checks say.
 use borrow.Author.Needs.{needs}
 use mathlib.Core.Path.{_≡_, refl, sym, ap, _∙_}
-use native.Mathlib.Omega.{arith}
 use lib.ListN.{length}
 use Rattle.codes.specs.declared.Check.the-variants.{Pass, Refuse}
 use Rattle.codes.specs.declared.Outcome.the-variants.{Value}
 use Rattle.residuals.specs.Cost.{leastSize, bound}
-use Rattle.model.specs.Calls.{checkBound, boundAnswer}
 use Rattle.residuals.specs.Inside.{Ready}
+use Rattle.model.specs.Calls.{checkBound, boundAnswer}
 use Rattle.model.proofs.Passed.{ready, bound-model}
-use Rattle.residuals.proofs.Sums.{total-uncapped}
 use Rattle.model.proofs.bound.Statement.{statement}
 use Rattle.model.proofs.bound.Tie as tie
 
@@ -26,18 +24,8 @@ check-bound-requires c κs = search needs
 enum-told : tie.Need-enum-told
 enum-told c = search needs
 
-slice-aggregate-bound-sum : tie.Need-slice-aggregate-bound-sum
-slice-aggregate-bound-sum c = search needs
-
-slice-aggregate-bound-sum-2 : tie.Need-slice-aggregate-bound-sum-2
-slice-aggregate-bound-sum-2 c = search needs
-
-bound-sum-requires : tie.Need-bound-sum-requires
-bound-sum-requires c κs =
-    let box = c .before .before .before .before .before .before .before .before .args .b in
-    let low : length (box .low) ≡ 8 = search needs in
-    let high : length (box .high) ≡ 8 = search needs in
-    (was-ready (c .before .before .before .before), omega arith, omega arith)
+sum-requires : tie.Need-sum-requires
+sum-requires c κs = was-ready (c .before .before)
 
 enum-known-r : tie.Need-enum-known-r
 enum-known-r c = search needs
@@ -45,10 +33,8 @@ enum-known-r c = search needs
 returns : tie.Need-returns
 unfolding boundAnswer bound
 returns c =
-    let e = c .before .before .before .before .before in
-    let a = e .before .before .before .before .args in
-    let g = was-ready e in
-    rw (pass e) (ap Value (c .bound-sum .ensures ∙ total-uncapped (a .m) (leastSize (a .m) (a .b)) (a .store .now) (g .lines) (g .cut) (g .few)))
+    let e = c .before .before .before in
+    rw (pass e) (ap Value (c .sum .ensures))
 
 returns-2 : tie.Need-returns-2
 unfolding boundAnswer
@@ -60,12 +46,4 @@ returns-2 c =
 pub bound-spec : {M : Type 1} → statement M
 bound-spec =
     tie.close
-    (tie.spec
-    check-bound-requires
-    enum-told
-    slice-aggregate-bound-sum
-    slice-aggregate-bound-sum-2
-    bound-sum-requires
-    enum-known-r
-    returns
-    returns-2)
+    (tie.spec check-bound-requires enum-told sum-requires enum-known-r returns returns-2)

@@ -4,7 +4,9 @@ use Prim.Native.Nat.{_/_, _≤_}
 use native.Mathlib.Omega.{arith}
 use lib.ListN.{length}
 use Rattle.codes.specs.declared.Check.the-variants.{Pass}
+use Rattle.model.proofs.Passed.{decoded-for}
 use Rattle.search.specs.Search.{checkLent}
+use Rattle.search.specs.Inside.{Evaluable}
 use Rattle.search.proofs.Accepted.{Runs, runs-accepted, rows-accepted, entries-accepted, promised-pass, promised-refused}
 use borrow.Author.Needs.{needs}
 use Rattle.search.proofs.search.Statement.{statement}
@@ -33,17 +35,46 @@ module _ (c : tie.After-enum-told) where
   entries : length (begun .args .table .now) / 16 ≤ length (begun .args .bounds .now)
   entries = entries-accepted (begun .args .store .now) (begun .args .job) (length (begun .args .table .now)) (length (begun .args .bounds .now)) pass
 
+slice-aggregate-decode : tie.Need-slice-aggregate-decode
+slice-aggregate-decode c = search needs
+
+power-requires : tie.Need-power-requires
+power-requires c κs = search needs
+
+decode-requires : tie.Need-decode-requires
+decode-requires c κs = search needs
+
+slice-aggregate-begin : tie.Need-slice-aggregate-begin
+slice-aggregate-begin c = search needs
+
+slice-aggregate-run : tie.Need-slice-aggregate-run
+slice-aggregate-run c = search needs
+
+-- the store is decoded
+module _ (c : tie.After-decode) where
+  abbrev told : tie.After-enum-told
+  told = c .before .before .before .before .before .before
+
+  evaluable : Evaluable (begun told .args .store .now) (c .decode .last .0) (begun told .args .job .model)
+  evaluable =
+      let a = begun told .args in
+      record {
+        checked = (runs told) .checked;
+        decoded = decoded-for (a .store .now) (a .job .model) ((runs told) .checked) (c .before .power .ensures) refl (search needs) (c .decode .ensures);
+      }
+
 begin-requires : tie.Need-begin-requires
 begin-requires c κs =
-    let e = c .before .before .before .before .before in
-    ((runs e) .checked, omega (arith, rows e), omega (arith, rows e, entries e))
+    let q = c .before .before .before .before in
+    let e = told q in
+    (evaluable q, omega (arith, rows e), omega (arith, rows e, entries e))
 
 run-requires : tie.Need-run-requires
 run-requires c κs =
-    let q = c .before .before .before .before .before in
-    let e = q .before .before .before .before .before .before in
+    let q = c .before .before .before .before .before .before in
+    let e = told (q .before .before .before .before .before) in
     let b = q .begin .ensures in (
-      ((runs e) .checked, omega (arith, rows e, b .long), omega (arith, entries e, b .long, b .long-entries), (runs e) .inside),
+      (evaluable (q .before .before .before .before .before), omega (arith, rows e, b .long), omega (arith, entries e, b .long, b .long-entries), (runs e) .inside),
       record { best = b .best; stored = b .stored; state = b .state; long = refl; long-entries = refl; rest = refl; rest-entries = refl },
     )
 
@@ -62,11 +93,11 @@ same-length-2 c = search needs
 returns : tie.Need-returns
 returns c =
     let r = c .before .before .before in
-    let q = r .before .before .before .before .before .before in
-    let e = q .before .before .before .before .before .before in
+    let q = r .before .before .before .before .before .before .before in
+    let e = told (q .before .before .before .before .before) in
     let a = begun e .args in
-    promised-pass (a .store .now) (a .job) (a .table .now) (a .bounds .now) (pass e) (q .begin .last .1 .1 .0) (r .run .last .1 .1 .0)
-    (q .begin .last .1 .1 .1 .0) (r .run .last .1 .1 .1 .0) (q .begin .result) (r .run .result) (q .begin .ensures) (r .run .ensures)
+    promised-pass (a .store .now) (a .job) (a .table .now) (a .bounds .now) (pass e) (q .begin .last .1 .1 .1 .0) (r .run .last .1 .1 .1 .0)
+    (q .begin .last .1 .1 .1 .1 .0) (r .run .last .1 .1 .1 .1 .0) (q .begin .result) (r .run .result) (q .begin .ensures) (r .run .ensures)
 
 returns-2 : tie.Need-returns-2
 returns-2 c =
@@ -82,7 +113,12 @@ search-spec =
     (tie.spec
     check-search-requires
     enum-told
+    slice-aggregate-decode
+    power-requires
+    decode-requires
+    slice-aggregate-begin
     begin-requires
+    slice-aggregate-run
     run-requires
     enum-known-why
     refusal-requires

@@ -77,8 +77,8 @@ returns c =
       moved = λ e. one-answer e;
     }
 
-add-t21 : tie.Need-add-t21
-add-t21 c =
+add-t22 : tie.Need-add-t22
+add-t22 c =
     let r = c .before .before .before .before .before in
     omega (arith, start (cuts r) .pre .1 .countable)
 
@@ -117,7 +117,7 @@ step-spec =
     same-length
     same-length-2
     returns
-    add-t21
+    add-t22
     larger-requires
     same-length-3
     same-length-4

@@ -8,8 +8,8 @@ use borrow.Author.Needs.{needs}
 use Rattle.search.proofs.run.begin.Statement.{statement}
 use Rattle.search.proofs.run.begin.Tie as tie
 
-cost-up-to-requires : tie.Need-cost-up-to-requires
-cost-up-to-requires c κs = search needs
+cost-in-requires : tie.Need-cost-in-requires
+cost-in-requires c κs = search needs
 
 tested-requires : tie.Need-tested-requires
 tested-requires c κs = search needs
@@ -35,10 +35,10 @@ returns c =
     let a = start .args in
     let o = tests .tested .result in
     let C = cost (a .m) (pointsOf (a .store .now)) in
-    let exact : costs .cost-up-to .result ≡ C (a .start) = costs .cost-up-to .ensures ∙ whole-cost (a .store .now) (a .m) (a .start) (start .pre .0) in
+    let exact : costs .cost-in .result ≡ C (a .start) = costs .cost-in .ensures .1 (start .pre .0 .decoded) ∙ whole-cost (a .store .now) (a .m) (a .start) (start .pre .0 .checked) in
     let half-whole : Whole (o .half) = rw (tests .tested .ensures .half) (domain-whole start) in
-    begun C (bound (a .m) (pointsOf (a .store .now))) (a .start) (a .domain) (a .table .now) (a .bounds .now) (costs .cost-up-to .result) o exact
+    begun C (bound (a .m) (pointsOf (a .store .now))) (a .start) (a .domain) (a .table .now) (a .bounds .now) (costs .cost-in .result) o exact
     (tests .tested .ensures) (start .pre .1) (start .pre .2) half-whole (p .put .result) (p .put .last .0) (p .put .last .1 .0) (p .put .ensures)
 
 pub begin-spec : {M : Type 1} → statement M
-begin-spec = tie.close (tie.spec cost-up-to-requires tested-requires put-requires same-length same-length-2 returns)
+begin-spec = tie.close (tie.spec cost-in-requires tested-requires put-requires same-length same-length-2 returns)

@@ -36,10 +36,10 @@ runOf store job t d first =
     }
 
 abbrev Inv-loop : tie.InvT-loop
-Inv-loop store job table₀ bounds₀ m s₀ table bounds s = Going (runOf store job table₀ bounds₀ s₀) s table bounds
+Inv-loop store lanes job table₀ bounds₀ m s₀ table bounds s = Going (runOf store job table₀ bounds₀ s₀) s table bounds
 
 abbrev μ-loop : tie.MeasureT-loop
-μ-loop store job table₀ bounds₀ m s₀ table bounds s = job .budget - s .count
+μ-loop store lanes job table₀ bounds₀ m s₀ table bounds s = job .budget - s .count
 
 -- what is known from the start on
 module _ (s : tie.Start Inv-loop μ-loop) where
@@ -156,7 +156,7 @@ step-requires c κs =
     let l = turn o in (
       begun o .pre .0 .0,
       going-steppable (run (begun o)) (ready (begun o)) (s o) (l .loop .table) (l .loop .bounds) (l .loop .inv) (low o) (found o) (far (two .before)) (left two)
-          (search (needs, begun o .good .1 .0)),
+          (search (needs, begun o .good .1 .1 .0)),
     )
 
 answer-requires-3 : tie.Need-answer-requires-3 Inv-loop μ-loop
@@ -185,7 +185,7 @@ returns-3 c =
     let l = turn o in
     rw (c .answer3 .ensures)
     (going-full (run (begun o)) (ready (begun o)) (s o) (l .loop .table) (l .loop .bounds) (l .loop .inv) (low o) (found o) (far (two .before)) (left two)
-    (q .step .result) (q .step .last .1 .1 .0) (q .step .last .1 .1 .1 .0) (q .step .ensures) (c .before .if3 .taken))
+    (q .step .result) (q .step .last .1 .1 .1 .0) (q .step .last .1 .1 .1 .1 .0) (q .step .ensures) (c .before .if3 .taken))
 
 loop-less : tie.Need-loop-less Inv-loop μ-loop
 loop-less c =
@@ -194,7 +194,7 @@ loop-less c =
     let o = near two in
     let l = turn o in
     going-counts (run (begun o)) (ready (begun o)) (s o) (l .loop .table) (l .loop .bounds) (l .loop .inv) (low o) (found o) (far (two .before)) (left two)
-    (q .step .result) (q .step .last .1 .1 .0) (q .step .last .1 .1 .1 .0) (q .step .ensures) (c .before .if3 .left)
+    (q .step .result) (q .step .last .1 .1 .1 .0) (q .step .last .1 .1 .1 .1 .0) (q .step .ensures) (c .before .if3 .left)
 
 loop-again : tie.Need-loop-again Inv-loop μ-loop
 loop-again c =
@@ -203,7 +203,7 @@ loop-again c =
     let o = near two in
     let l = turn o in
     going-on (run (begun o)) (ready (begun o)) (s o) (l .loop .table) (l .loop .bounds) (l .loop .inv) (low o) (found o) (far (two .before)) (left two)
-    (q .step .result) (q .step .last .1 .1 .0) (q .step .last .1 .1 .1 .0) (q .step .ensures) (c .before .if3 .left)
+    (q .step .result) (q .step .last .1 .1 .1 .0) (q .step .last .1 .1 .1 .1 .0) (q .step .ensures) (c .before .if3 .left)
 
 pub run-spec : {M : Type 1} → statement M
 run-spec =

@@ -1,0 +1,20 @@
+-- Each end by what it is lessened by.
+use mathlib.Core.Path.{ap}
+use lib.Ieee.{binary64, sub}
+use borrow.Author.Needs.{needs}
+use Rattle.box_ends.proofs.narrowed.Statement.{statement}
+use Rattle.box_ends.proofs.narrowed.Tie as tie
+
+larger-requires : tie.Need-larger-requires
+larger-requires c κs = search needs
+
+smaller-requires : tie.Need-smaller-requires
+smaller-requires c κs = search needs
+
+returns : tie.Need-returns
+returns c =
+    let e = c .before .before .before .before .args .e in
+    (ap (sub binary64 (e .least)) (c .before .before .before .larger .ensures), ap (sub binary64 (e .largest)) (c .before .smaller .ensures))
+
+pub narrowed-spec : {M : Type 1} → statement M
+narrowed-spec = tie.close (tie.spec larger-requires smaller-requires returns)

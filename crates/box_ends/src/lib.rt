@@ -1,0 +1,114 @@
+// The ends of a residual over a box, and its least size.
+use whole::larger;
+use whole::smaller;
+ghost use mathlib.Core.Path.{_≡_};
+ghost use Prim.Native.Nat.{min};
+ghost use lib.Ieee.{binary64, sub, mul};
+ghost use Rattle.whole.specs.Whole.{largerOf, smallerOf};
+ghost use Rattle.lanes.specs.Lanes.{four, taken};
+ghost use Rattle.box_ends.specs.Ends.{endBy, nearest};
+
+// emin and emax.
+pub struct Ends {
+    pub least: f64,
+    pub largest: f64,
+}
+
+// One coordinate more.
+fn narrowed(e: Ends, low: f64, high: f64, x: f64) -> Ends
+    ensures least { λ r. ⌜ r .least ≡ sub binary64 (e .least) (largerOf (mul binary64 low x) (mul binary64 high x)) ⌝ }
+    ensures largest { λ r. ⌜ r .largest ≡ sub binary64 (e .largest) (smallerOf (mul binary64 low x) (mul binary64 high x)) ⌝ }
+{
+    Ends {
+        least: e.least - larger(low * x, high * x),
+        largest: e.largest - smaller(low * x, high * x),
+    }
+}
+
+// The ends of y less one product, or two.
+pub fn few_ends(
+    d: usize,
+    y: f64,
+    l1: f64,
+    h1: f64,
+    x1: f64,
+    l2: f64,
+    h2: f64,
+    x2: f64,
+    l3: f64,
+    h3: f64,
+    x3: f64,
+    l4: f64,
+    h4: f64,
+    x4: f64,
+) -> Ends
+    ensures least { λ r. ⌜ r .least ≡ endBy largerOf (four l1 l2 l3 l4) (four h1 h2 h3 h4) (four x1 x2 x3 x4) y (min (taken d) 2) ⌝ }
+    ensures largest { λ r. ⌜ r .largest ≡ endBy smallerOf (four l1 l2 l3 l4) (four h1 h2 h3 h4) (four x1 x2 x3 x4) y (min (taken d) 2) ⌝ }
+{
+    let one = narrowed(
+        Ends {
+            least: y,
+            largest: y,
+        },
+        l1,
+        h1,
+        x1,
+    );
+    if d < 2 {
+        return one;
+    }
+    narrowed(one, l2, h2, x2)
+}
+
+// Less three.
+pub fn three_ends(
+    y: f64,
+    l1: f64,
+    h1: f64,
+    x1: f64,
+    l2: f64,
+    h2: f64,
+    x2: f64,
+    l3: f64,
+    h3: f64,
+    x3: f64,
+    l4: f64,
+    h4: f64,
+    x4: f64,
+) -> Ends
+    ensures least { λ r. ⌜ r .least ≡ endBy largerOf (four l1 l2 l3 l4) (four h1 h2 h3 h4) (four x1 x2 x3 x4) y 3 ⌝ }
+    ensures largest { λ r. ⌜ r .largest ≡ endBy smallerOf (four l1 l2 l3 l4) (four h1 h2 h3 h4) (four x1 x2 x3 x4) y 3 ⌝ }
+{
+    let two = few_ends(2, y, l1, h1, x1, l2, h2, x2, l3, h3, x3, l4, h4, x4);
+    narrowed(two, l3, h3, x3)
+}
+
+// Less all four.
+pub fn all_ends(
+    y: f64,
+    l1: f64,
+    h1: f64,
+    x1: f64,
+    l2: f64,
+    h2: f64,
+    x2: f64,
+    l3: f64,
+    h3: f64,
+    x3: f64,
+    l4: f64,
+    h4: f64,
+    x4: f64,
+) -> Ends
+    ensures least { λ r. ⌜ r .least ≡ endBy largerOf (four l1 l2 l3 l4) (four h1 h2 h3 h4) (four x1 x2 x3 x4) y 4 ⌝ }
+    ensures largest { λ r. ⌜ r .largest ≡ endBy smallerOf (four l1 l2 l3 l4) (four h1 h2 h3 h4) (four x1 x2 x3 x4) y 4 ⌝ }
+{
+    let three = three_ends(y, l1, h1, x1, l2, h2, x2, l3, h3, x3, l4, h4, x4);
+    narrowed(three, l4, h4, x4)
+}
+
+// The smaller of m and the least size.
+pub fn least_of(m: f64, e: Ends) -> f64
+    ensures { λ r. ⌜ r ≡ smallerOf m (nearest (e .least) (e .largest)) ⌝ }
+{
+    smaller(m, larger(larger(e.least, -e.largest), 0.0))
+}

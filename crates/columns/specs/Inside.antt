@@ -1,0 +1,20 @@
+-- What the loops that decode a store say of a column.
+use mathlib.Core.List.{List}
+use Prim.Native.Nat.{ℕ, _+_, _*_, _-_}
+use lib.IntN.{ℤ, pos, _*ℤ_}
+use lib.Ieee.{Float}
+use Rattle.points.specs.Points.{signedAt}
+use Rattle.whole.specs.Whole.{Within}
+use Rattle.columns.specs.Columns.{slot, field}
+
+-- x is a field times a factor
+abbrev pub Times : ℤ → ℕ → Float → Type 0
+Times z factor x = Within x (z *ℤ pos factor) (32768 * factor)
+
+-- the numbers from place o on are a field of the records from record i on, where it is `at` bytes from the record's beginning
+abbrev pub FieldOfRecords : List ℕ → ℕ → ℕ → ℕ → ℕ → ℕ → Float → Float → Type 0
+FieldOfRecords store o i at factor k old x = Times (signedAt store ((i + (k - o)) * 12 + at)) factor x
+
+-- the numbers are field c of the slots of chunk t
+abbrev pub FieldOfSlots : List ℕ → ℕ → ℕ → ℕ → ℕ → Float → Float → Type 0
+FieldOfSlots store t c factor k old x = Times (field c (slot store t k)) factor x

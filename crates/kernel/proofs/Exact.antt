@@ -1,0 +1,79 @@
+-- The losses of a chunk of a store are those of the points in its slots, exactly. Assumes nothing.
+use mathlib.Core.Path.{_≡_, refl, ap, subst}
+use mathlib.Core.Bool.{Bool, true, false}
+use mathlib.Core.List.{List}
+use Prim.Native.Nat.{ℕ, zero, suc, _+_, _*_, _^_, _≤_, _<_, min}
+use native.Mathlib.Omega.{arith}
+use lib.IntN.{ℤ, pos, _*ℤ_}
+use lib.Ieee.{Float, binary64, ofInt}
+use Rattle.jobs.specs.declared.Model.{Model}
+use Rattle.loss.specs.Loss.{lossOf}
+use Rattle.points.specs.declared.Point.{Point}
+use Rattle.points.specs.Points.{xs}
+use Rattle.residuals.specs.Cost.{at, residual, sizeAt, eMin, eMax, leastSize}
+use Rattle.residuals.specs.Inside.{Ready, boxOf, leastFrom, sumOf}
+use Rattle.residuals.proofs.Least.{line-room}
+use Rattle.whole.specs.Whole.{Whole, Within}
+use Rattle.whole.proofs.Laws.{cast-whole}
+use Rattle.whole.proofs.Picks.{least-whole}
+use Rattle.lanes.specs.Lanes.{lane, xsAt, taken}
+use Rattle.columns.specs.Columns.{slot, ChunkOf}
+use Rattle.sizes.specs.Sizes.{sizeIn}
+use Rattle.sizes.proofs.Exact.{size-exact}
+use Rattle.box_ends.specs.Ends.{leastIn}
+use Rattle.box_ends.proofs.Exact.{least-exact}
+use Rattle.losses.proofs.Exact.{loss-exact, chunk-exact}
+use Rattle.kernel.specs.Kernel.{Doubles, line, sizeBy, leastBy, chunkLoss}
+
+-- the coordinates of a line, and the x of a point, by their places
+line-within : (v : List ℤ) (u : List Float) (b d : ℕ) → Doubles v u → d ≤ 4 → b + d ≤ 8 → (k : ℕ) → k < d → Within (line u b k) (at v (b + k)) 32768
+line-within v u b d w few room zero h = let e : b ≡ b + 0 = omega arith in subst (λ (i : ℕ). Within (lane u b) (at v i) 32768) e (w b (omega arith))
+line-within v u b d w few room (suc zero) h = w (b + 1) (omega arith)
+line-within v u b d w few room (suc (suc zero)) h = w (b + 2) (omega arith)
+line-within v u b d w few room (suc (suc (suc zero))) h = w (b + 3) (omega arith)
+line-within v u b d w few room (suc (suc (suc (suc k)))) h = absurd (omega arith)
+
+module _ {store : List ℕ} {t d power : ℕ} {s : List (List Float)} (chunk : ChunkOf store t d power s) (k : ℕ) (h : k < 80) where
+  point-within : d ≤ 4 → (c : ℕ) → c < d → Within (xsAt s k c) (at (xs (slot store t k)) c) 32768
+  point-within few zero i = chunk .column 0 k i (omega arith) h
+  point-within few (suc zero) i = chunk .column 1 k i (omega arith) h
+  point-within few (suc (suc zero)) i = chunk .column 2 k i (omega arith) h
+  point-within few (suc (suc (suc zero))) i = chunk .column 3 k i (omega arith) h
+  point-within few (suc (suc (suc (suc c)))) i = absurd (omega arith)
+
+-- ---- the size of one point and line
+module _ {bytes : ℕ} {m : Model} (ready : Ready bytes m) {store : List ℕ} {t : ℕ} {s : List (List Float)} (chunk : ChunkOf store t (m .d) (2 ^ m .scale) s)
+    (low high : List Float) (j k : ℕ) (lines : j < m .n) (h : k < 80) where
+  room : j * m .d + m .d ≤ 8
+  room = line-room j (m .n) (m .d) 8 lines (ready .room)
+
+  begins : min (j * m .d) 8 ≡ j * m .d
+  begins = omega (arith, room)
+
+  uses : taken (m .d) ≡ m .d
+  uses = let a = ready .some in let b = ready .used in omega arith
+
+  pub size-in : (v : List ℤ) → Doubles v low → Whole (sizeBy false s low high (m .d) (min (j * m .d) 8) k) (pos (sizeAt m v (slot store t k) j))
+  unfolding sizeAt residual
+  size-in v w =
+      rw (begins, uses)
+      (size-exact v (j * m .d) (xs (slot store t k)) (chunk .target k h) (m .d) (ready .used) (line-within v low (j * m .d) (m .d) w (ready .used) room) (point-within chunk k h (ready .used)))
+
+  pub least-in : (l u : List ℤ) → Doubles l low → Doubles u high → Whole (sizeBy true s low high (m .d) (min (j * m .d) 8) k) (pos (leastSize m (boxOf l u) (slot store t k) j))
+  unfolding leastSize eMin eMax
+  least-in l u w x =
+      rw (begins, uses)
+      (least-exact (boxOf l u) (j * m .d) (xs (slot store t k)) (chunk .target k h) (m .d) (ready .used)
+      (line-within l low (j * m .d) (m .d) w (ready .used) room) (line-within u high (j * m .d) (m .d) x (ready .used) room) (point-within chunk k h (ready .used)))
+
+-- ---- of all points, for any sizes that the lines' steps find
+module _ (over : Bool) (s : List (List Float)) (low high : List Float) (m : Model) (cut : m .eps ≤ 16777215) (point : ℕ → Point) (size : Point → ℕ → ℕ)
+    (exact : (j k : ℕ) → j < m .n → k < 80 → Whole (sizeBy over s low high (m .d) (min (j * m .d) 8) k) (pos (size (point k) j))) where
+  least-whole-by : (k : ℕ) → k < 80 → (n : ℕ) → n ≤ m .n → Whole (leastBy over s low high (m .d) (ofInt binary64 (pos (m .eps + 1))) n k) (pos (leastFrom (m .eps + 1) (size (point k)) n))
+  unfolding leastBy leastFrom
+  least-whole-by k h zero l = cast-whole (pos (m .eps + 1)) (omega arith)
+  least-whole-by k h (suc n) l = least-whole (least-whole-by k h n (omega arith)) (exact n k (omega arith) h)
+
+  pub loss-in : chunkLoss over s low high m ≡ sumOf (λ k. lossOf (m .p) (m .eps) (leastFrom (m .eps + 1) (size (point k)) (m .n))) 80
+  unfolding chunkLoss
+  loss-in = chunk-exact (λ k h. loss-exact (least-whole-by k h (m .n) (omega arith)) cut (m .p))

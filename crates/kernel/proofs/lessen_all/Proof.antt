@@ -1,0 +1,71 @@
+-- The loop's invariant: each lane is the least of what it was and of the sizes under the lines before j. The measure is what is left of the lines.
+use mathlib.Core.Path.{_≡_, refl, ap, ap₂, _∙_}
+use Prim.Native.Nat.{ℕ, suc, _-_, _≤_, _<_}
+use native.Mathlib.Numerals.{add-one}
+use native.Mathlib.Omega.{arith}
+use lib.Ieee.{Float}
+use Rattle.whole.specs.Whole.{smallerOf}
+use Rattle.lanes.specs.Lanes.{lane}
+use Rattle.kernel.specs.Kernel.{sizeBy, leastBy}
+use borrow.Author.Needs.{needs}
+use Rattle.kernel.proofs.lessen_all.Statement.{statement}
+use Rattle.kernel.proofs.lessen_all.Tie as tie
+use Rattle.kernel.proofs.lessen_all.Reads as reads
+use Rattle.kernel.proofs.lessen_all.Lts as lts
+use Rattle.kernel.proofs.lessen.Reads as lessen-reads
+use Rattle.kernel.proofs.place.Reads as place-reads
+
+abbrev Inv-loop : tie.InvT-loop
+Inv-loop least₀ s low high n d over j₀ least j =
+    (j ≤ n) × ((k : ℕ) → k < 80 → lane least k ≡ leastBy over s low high d (lane least₀ k) j k)
+
+abbrev μ-loop : tie.MeasureT-loop
+μ-loop least₀ s low high n d over j₀ least j = n - j
+
+loop-holds : tie.Need-loop-holds Inv-loop μ-loop
+unfolding leastBy
+loop-holds c = (omega arith, λ k h. refl)
+
+place-requires : tie.Need-place-requires Inv-loop μ-loop
+place-requires c κs = search needs
+
+lessen-requires : tie.Need-lessen-requires Inv-loop μ-loop
+lessen-requires c κs = search needs
+
+add-j : tie.Need-add-j Inv-loop μ-loop
+add-j c = search needs
+
+loop-less : tie.Need-loop-less Inv-loop μ-loop
+loop-less c = search needs
+
+loop-again : tie.Need-loop-again Inv-loop μ-loop
+unfolding leastBy
+loop-again c =
+    let p = c .before .before .before .before in
+    let a = p .before .args in
+    let size = sizeBy (a .over) (a .s .now) (a .low .now) (a .high .now) (a .d) in (
+      omega (arith, c .before .before .before .loop-test .taken),
+      λ k h.
+          rw (add-one (p .loop .j)) (c .lessen .ensures k h ∙ ap₂ (λ (x : Float) (b : ℕ). smallerOf x (size b k)) (p .loop .inv .1 k h) (c .before .place .ensures)),
+    )
+
+returns : tie.Need-returns Inv-loop μ-loop
+returns c =
+    let p = c .before in
+    let a = p .before .args in
+    let e : p .loop .j ≡ a .n = omega (arith, p .loop .inv .0, c .loop-test .left) in
+    λ k h. p .loop .inv .1 k h ∙ ap (λ (n : ℕ). leastBy (a .over) (a .s .now) (a .low .now) (a .high .now) (a .d) (lane (a .least .now) k) n k) e
+
+pub lessen-all-spec : {M : Type 1} → statement M
+lessen-all-spec =
+    tie.close
+    (tie.spec
+    Inv-loop
+    μ-loop
+    loop-holds
+    place-requires
+    lessen-requires
+    add-j
+    loop-less
+    loop-again
+    returns)

@@ -1,0 +1,110 @@
+// The losses of a chunk's points under a vector, or over a box.
+use jobs::Model;
+use lanes::Chunk;
+use lanes::Lanes;
+ghost use mathlib.Core.Path.{_≡_};
+ghost use Prim.Native.Nat.{_+_, _*_, _<_, min};
+ghost use lib.IntN.{pos};
+ghost use lib.Ieee.{binary64, ofInt};
+ghost use Rattle.whole.specs.Whole.{Within};
+ghost use Rattle.lanes.specs.Lanes.{Lessened};
+ghost use Rattle.kernel.specs.Kernel.{doubles, Doubles, sizeBy, LeastOf, chunkLoss};
+
+// The eight coordinates of a vector, and four zeros: a line's are read four at a time.
+pub type Coordinates = [f64; 12];
+
+fn double(w: i16) -> f64
+    ensures value { λ r. ⌜ r ≡ ofInt binary64 w ⌝ }
+    ensures whole { λ r. ⌜ Within r w 32768 ⌝ }
+{
+    w as f64
+}
+
+// The coordinates of a vector, as doubles: once for each evaluation.
+pub fn coordinates(v: [i16; 8]) -> Coordinates
+    ensures value { λ r. ⌜ r ≡ doubles v ⌝ }
+    ensures whole { λ r. ⌜ Doubles v r ⌝ }
+{
+    let mut u: Coordinates = [0.0; 12];
+    for i in 0..8 {
+        u[i] = double(v[i]);
+    }
+    u
+}
+
+// Where the coordinates of line j begin; check 2 lets no line begin behind the eighth.
+fn place(j: u8, d: u8) -> usize
+    ensures { λ r. ⌜ r ≡ min (j * d) 8 ⌝ }
+{
+    let b = (j as u16) * (d as u16);
+    if b < 8 { b as usize } else { 8 }
+}
+
+// The line whose coordinates begin at place b.
+fn lessen(
+    least: &mut Lanes,
+    s: &Chunk,
+    low: &Coordinates,
+    high: &Coordinates,
+    d: usize,
+    b: usize,
+    over: bool,
+)
+    requires { ⌜ b < 9 ⌝ }
+    ensures { λ _. ⌜ Lessened (now (least .entry)) (now (least .exit)) (sizeBy over (now (s .entry)) (now (low .entry)) (now (high .entry)) d b) ⌝ }
+{
+    if over {
+        box_sizes::over_line(
+            least,
+            s,
+            d,
+            low[b],
+            high[b],
+            low[b + 1],
+            high[b + 1],
+            low[b + 2],
+            high[b + 2],
+            low[b + 3],
+            high[b + 3],
+        );
+    } else {
+        sizes::at_line(least, s, d, low[b], low[b + 1], low[b + 2], low[b + 3]);
+    }
+}
+
+// Each lane becomes the least of itself and the sizes of its point under the n lines.
+fn lessen_all(
+    least: &mut Lanes,
+    s: &Chunk,
+    low: &Coordinates,
+    high: &Coordinates,
+    n: u8,
+    d: u8,
+    over: bool,
+)
+    ensures { λ _. ⌜ LeastOf over (now (s .entry)) (now (low .entry)) (now (high .entry)) d n (now (least .entry)) (now (least .exit)) ⌝ }
+{
+    for j in 0..n {
+        lessen(least, s, low, high, d as usize, place(j, d), over);
+    }
+}
+
+// What a least size starts from: a size past ε costs no more than ε + 1.
+fn past(eps: u32) -> f64
+    ensures { λ r. ⌜ r ≡ ofInt binary64 (pos (eps + 1)) ⌝ }
+{
+    (eps as u64 + 1) as f64
+}
+
+// The losses of a chunk's points: under the vector `low`, or over the box from `low` to `high`. The sizes lie in an array of this
+// function, so that the compiler knows that no column shares its memory.
+pub fn chunk_loss(s: &Chunk, low: &Coordinates, high: &Coordinates, m: Model, over: bool) -> u64
+    ensures value { λ r. ⌜ r ≡ chunkLoss over (now (s .entry)) (now (low .entry)) (now (high .entry)) m ⌝ }
+    ensures small { λ r. ⌜ r < 36028797018963968 ⌝ }
+{
+    let most = past(m.eps);
+    let mut sizes: Lanes = [most; 80];
+    lessen_all(&mut sizes, s, low, high, m.n, m.d, over);
+    losses::lose(&mut sizes, m.p, m.eps);
+    losses::chunk_sum(&sizes)
+}

@@ -1,0 +1,88 @@
+-- The losses of a chunk's slots are those of its records, so that chunk after chunk they add up to the store's. Assumes nothing.
+use mathlib.Core.Path.{_≡_, refl, sym, ap, _∙_, subst, subst₂}
+use mathlib.Core.List.{List}
+use mathlib.Core.Logic.{⊎-elim}
+use Prim.Native.Nat.{ℕ, zero, suc, _+_, _*_, _/_, _%_, _≤_, _<_, min}
+use native.Mathlib.Omega.{arith}
+use lib.Dec.{T, ltb, ltb→lt}
+use lib.ListN.{length}
+use Rattle.integers.proofs.Tests.{by-cond, le-or-lt}
+use Rattle.jobs.specs.declared.Model.{Model}
+use Rattle.loss.specs.Loss.{lossOf}
+use Rattle.points.specs.declared.Point.{Point}
+use Rattle.points.specs.Points.{pointAt}
+use Rattle.residuals.specs.Cost.{least}
+use Rattle.residuals.specs.Inside.{leastFrom, sumOf}
+use Rattle.residuals.proofs.Least.{loss-from}
+use Rattle.residuals.proofs.Sums.{Summed, none-summed, one-summed}
+use Rattle.columns.specs.Columns.{nowhere, number, slot}
+use Rattle.columns.proofs.Places.{slot-found, slot-full, slot-past}
+
+-- where every size is 0, so is the loss
+from-zero : (most : ℕ) (f : ℕ → ℕ) (n : ℕ) → ((j : ℕ) → f j ≡ 0) → 1 ≤ n → leastFrom most f n ≡ 0
+unfolding leastFrom
+from-zero most f zero z h = absurd (omega arith)
+from-zero most f (suc n) z h = omega (arith, z n)
+
+below-zero : (n : ℕ) → T (ltb n 0) → ⊥
+below-zero n t = let h : n < 0 = ltb→lt n 0 t in omega arith
+
+loss-zero : (p ε : ℕ) → lossOf p ε 0 ≡ 0
+unfolding lossOf
+loss-zero zero ε = by-cond (λ (n : ℕ). n ≡ 0) (ltb ε 0) (λ t. absurd (below-zero ε t)) (λ t. refl)
+loss-zero (suc zero) ε = omega arith
+loss-zero (suc (suc zero)) ε = omega arith
+loss-zero (suc (suc (suc p))) ε = refl
+
+-- ---- the slots of a chunk, one after the other
+module _ (m : Model) (size : Point → ℕ → ℕ) (s : List ℕ) (lines : 1 ≤ m .n) (cut : m .eps ≤ 16777215) (none : (j : ℕ) → size nowhere j ≡ 0) where
+  -- the loss of the point in slot k of chunk t
+  abbrev pub slotLoss : ℕ → ℕ → ℕ
+  slotLoss t k = lossOf (m .p) (m .eps) (leastFrom (m .eps + 1) (size (slot s t k)) (m .n))
+
+  -- how many records stand in the first k slots of chunk t, and in the chunks before it
+  abbrev reached : ℕ → ℕ → ℕ
+  reached t k = min (length s / 12) (t * 76 + k / 20 * 19 + min (k % 20) 19)
+
+  empty : (t k : ℕ) → slot s t k ≡ nowhere → slotLoss t k ≡ 0
+  empty t k e =
+      ap (λ (q : Point). lossOf (m .p) (m .eps) (leastFrom (m .eps + 1) (size q) (m .n))) e
+      ∙ ap (lossOf (m .p) (m .eps)) (from-zero (m .eps + 1) (size nowhere) (m .n) none lines)
+      ∙ loss-zero (m .p) (m .eps)
+
+  nothing-more : (t k sum i j : ℕ) → i ≡ j → slotLoss t k ≡ 0 → Summed m size s i (sum + sumOf (slotLoss t) k) → Summed m size s j (sum + (sumOf (slotLoss t) k + slotLoss t k))
+  nothing-more t k sum i j e z g =
+      let f : sum + sumOf (slotLoss t) k ≡ sum + (sumOf (slotLoss t) k + slotLoss t k) = omega arith in
+      subst₂ (Summed m size s) e f g
+
+  one-more : (t k sum : ℕ) → Summed m size s (reached t k) (sum + sumOf (slotLoss t) k) → Summed m size s (reached t (suc k)) (sum + (sumOf (slotLoss t) k + slotLoss t k))
+  one-more t k sum g =
+      ⊎-elim
+      (λ (h : 19 ≤ k % 20). nothing-more t k sum (reached t k) (reached t (suc k)) (omega arith) (empty t k (slot-full s t k h)) g)
+      (λ (h : k % 20 < 19).
+      ⊎-elim
+      (λ (l : length s / 12 ≤ number t k). nothing-more t k sum (reached t k) (reached t (suc k)) (omega arith) (empty t k (slot-past s t k l)) g)
+      (λ (l : number t k < length s / 12).
+      let here : reached t k ≡ number t k = omega arith in
+      let next : number t k + 1 ≡ reached t (suc k) = omega arith in
+      let f : sum + sumOf (slotLoss t) k + slotLoss t k ≡ sum + (sumOf (slotLoss t) k + slotLoss t k) = omega arith in
+      let loss : slotLoss t k ≡ lossOf (m .p) (m .eps) (least (size (pointAt s (number t k))) (m .n)) =
+      ap (λ (q : Point). lossOf (m .p) (m .eps) (leastFrom (m .eps + 1) (size q) (m .n))) (slot-found s t k h l) ∙ loss-from (m .p) (m .eps) (size (pointAt s (number t k))) (m .n) lines in
+      subst₂ (Summed m size s) next f (one-summed m size s (slotLoss t k) lines cut l loss (subst (λ (i : ℕ). Summed m size s i (sum + sumOf (slotLoss t) k)) here g)))
+      (le-or-lt (length s / 12) (number t k)))
+      (le-or-lt 19 (k % 20))
+
+  slots-summed : (t k sum : ℕ) → Summed m size s (reached t 0) sum → Summed m size s (reached t k) (sum + sumOf (slotLoss t) k)
+  unfolding sumOf
+  slots-summed t zero sum g = let e : sum ≡ sum + 0 = omega arith in subst (Summed m size s (reached t 0)) e g
+  slots-summed t (suc k) sum g = one-more t k sum (slots-summed t k sum g)
+
+  -- a chunk more
+  pub chunk-summed : (t sum r : ℕ) → r ≡ sumOf (slotLoss t) 80 → Summed m size s (min (length s / 12) (t * 76)) sum → Summed m size s (min (length s / 12) ((t + 1) * 76)) (sum + r)
+  chunk-summed t sum r e g =
+      let a : min (length s / 12) (t * 76) ≡ reached t 0 = omega arith in
+      let b : reached t 80 ≡ min (length s / 12) ((t + 1) * 76) = omega arith in
+      subst₂ (Summed m size s) b (ap (λ (n : ℕ). sum + n) (sym e)) (slots-summed t 80 sum (subst (λ (i : ℕ). Summed m size s i sum) a g))
+
+pub none-yet : (m : Model) (size : Point → ℕ → ℕ) (s : List ℕ) → Summed m size s (min (length s / 12) (0 * 76)) 0
+none-yet m size s = let e : 0 ≡ min (length s / 12) (0 * 76) = omega arith in subst (λ (i : ℕ). Summed m size s i 0) e (none-summed m size s)

@@ -1,0 +1,1 @@
+// What the slots of a chunk cost: no code, only laws.

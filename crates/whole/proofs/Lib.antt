@@ -1,0 +1,3 @@
+pub mod Laws
+pub mod Picks
+pub mod Counting
