@@ -14,7 +14,8 @@
  * lends for writing no other argument reaches. Nothing is allocated or kept, so calls on different memory may run at the same time.
  * A search takes less than 180,000 bytes of stack, every other call less than 8,000.
  *
- * store    point records of 12 bytes, 1 to 4,096 of them
+ * store    point records of 12 bytes, 1 to 4,096 of them; one whose y is -32,768 is a gap, a sample that the board didn't take: it adds 0
+ *          to every cost and bound, and is a record as any other: it counts, and its x after the d-th are 0
  * n, d     lines (1 to 4) and x used (1 to 4), n * d at most 8
  * scale    S, 0 to 15: a parameter w stands for w / 2^S
  * p, eps   the loss (0, 1 or 2) and its threshold (0 to 16,777,215, at least 1 where p is 1 or 2)
@@ -38,6 +39,10 @@ extern "C" {
 #define VENGUTARI_NUMBER(code) ((code) % 256u)
 #define VENGUTARI_RECORD(code) ((code) / 256u)
 
+/* The y of a gap, and its label. */
+#define VENGUTARI_GAP_Y (-32768)
+#define VENGUTARI_GAP_LABEL 6
+
 /* The loss of a residual e. Refusal 4. */
 uint32_t vengutari_loss(uint8_t p, uint32_t eps, int64_t e, uint64_t *value);
 
@@ -53,8 +58,8 @@ uint32_t vengutari_bound(const uint8_t *store, size_t store_len, uint8_t n, uint
  * Refusals 2 and 5; 255 where corners_len is not 16 or halves_len is below 32. */
 uint32_t vengutari_split(uint8_t n, uint8_t d, const int16_t *corners, size_t corners_len, int16_t *halves, size_t halves_len);
 
-/* One label for each point, 1 to n or 0, into the front of labels, whose rest is kept; *value is how many.
- * Refusals 1 to 4, 6, 7 and 10; 255 where vector_len is not 8. */
+/* One label for each point into the front of labels, whose rest is kept; *value is how many. A gap has 6, a sample the nearest line, 1 to
+ * n, if it lies within eps of that, and else 0. Refusals 1 to 4, 6, 7 and 10; 255 where vector_len is not 8. */
 uint32_t vengutari_labels(const uint8_t *store, size_t store_len, uint8_t n, uint8_t d, uint8_t scale, uint8_t p, uint32_t eps,
                           const int16_t *vector, size_t vector_len, uint8_t *labels, size_t labels_len, uint64_t *value);
 

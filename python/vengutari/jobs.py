@@ -9,7 +9,8 @@ costs are given and printed in those units, the units of the points; --integers 
 the records. Nothing is rounded on the way in: a number that is no multiple of 1 / 2^S is refused.
 
 The points are a CSV file, one point a line: x1 to xd, y and, if wanted, a frame number. A first line of
-column names (x1 .. x4, y, frame) may put them in another order. Fields are whole numbers of 16 bits.
+column names (x1 .. x4, y, frame) may put them in another order. Fields are whole numbers of 16 bits; where y is
+empty, or -32768, the board took no sample: a gap.
 """
 
 import csv
@@ -18,9 +19,9 @@ import struct
 import subprocess
 from fractions import Fraction
 
-from .library import ANSWER_BYTES, KINDS, LARGEST_EPSILON, LOSSES, MESSAGES, MOST_RECORDS
+from .library import ANSWER_BYTES, GAP_Y, KINDS, LARGEST_EPSILON, LOSSES, MESSAGES, MOST_RECORDS
 from .outputs import Outputs, say
-from .points import read_bytes
+from .points import NO_SAMPLE, read_bytes
 from .problems import BadUse
 from .scaling import shown
 
@@ -133,7 +134,8 @@ def column_names(row, dimensions, name):
 def read_point(row, columns, dimensions, record, place):
     field = dict(zip(columns, row))
     x = [whole(field[f"x{k}"], f"{place}, x{k}", -32768, 32767) for k in range(1, dimensions + 1)]
-    y = whole(field["y"], f"{place}, y", -32768, 32767)
+    gap = field["y"].strip().lower() in NO_SAMPLE
+    y = GAP_Y if gap else whole(field["y"], f"{place}, y", -32768, 32767)
     frame = whole(field["frame"], f"{place}, frame", 0, 65535) if "frame" in field else record
     return (*x, *[0] * (4 - dimensions), y, frame)
 

@@ -1,6 +1,6 @@
 """The library, by ctypes. The signature of every call of include/vengutari.h stands here and nowhere else.
 
-The two switches below are what this module knows of requests that are still to land; each is one line to change.
+The two switches below say which of document 02's requests the library has; each is one line to change.
 """
 
 import ctypes
@@ -15,8 +15,8 @@ from collections import namedtuple
 
 from .problems import BadInput
 
-# y = -32,768 is a gap, with label 6 (request 2). Until then the points given to a call hold no gap.
-GAPS = False
+# y = -32,768 is a gap, with label 6 (request 2). Where the library has none, the points given to a call hold none.
+GAPS = True
 # A sample within epsilon of more than one line is undecided, with label 5 (request 8). Until then its label is the nearest line's.
 CROSSINGS = False
 
@@ -32,7 +32,7 @@ LARGEST_TOLERANCE = 2**64 - 1
 GAP_Y = -32768
 
 OUTLIER, UNDECIDED = 0, 5
-# The label of a row without y, which is in no store, and has none, until there are gaps.
+# The label of a row without y; where the library has no gaps such a row is in no store, and has none.
 GAP = 6 if GAPS else None
 KINDS = {1: "solved", 2: "spent", 3: "full"}
 LOSSES = {"count": 0, "absolute": 1, "square": 2}

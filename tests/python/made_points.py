@@ -17,7 +17,7 @@ TOOL = str(ROOT / "tools" / "vengutari")
 
 @dataclass
 class Made:
-    """Lines are (coefficients .., offset). labels has what made each row: its line from 1, 0 an outlier, None without y."""
+    """Lines are (coefficients .., offset). labels has what made each row: its line from 1, 0 an outlier, None a gap."""
 
     lines: list
     ranges: list

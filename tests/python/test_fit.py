@@ -81,7 +81,7 @@ class Fits(unittest.TestCase):
         self.assertIn(found["certificate"], out)
         self.assertIn("in this box and on this grid", out)
         counts = [found["labels"]["outliers"], made.labels.count(None)]
-        self.assertIn("rows: {}, of them {} outliers, {} without y\n".format(made.count, *counts), out)
+        self.assertIn("rows: {}, of them {} outliers, {} gaps\n".format(made.count, *counts), out)
         self.assertEqual(sum(found["labels"].values()), made.count)
         self.assertLessEqual(len(out.splitlines()), 14)
 
@@ -115,7 +115,7 @@ class Fits(unittest.TestCase):
         for x, y, truth, row in zip(made.x, made.y, made.labels, rows):
             near = y is not None and sum(abs(y - made.value(j, x)) <= 2.5 * epsilon for j in range(len(made.lines))) > 1
             if not near:
-                self.assertEqual(row["label"], "" if truth is None else str(pairs[truth - 1][0] + 1 if truth else 0))
+                self.assertEqual(row["label"], "6" if truth is None else str(pairs[truth - 1][0] + 1 if truth else 0))
 
     @for_each
     def test_fitted_values_and_residuals(self, done):

@@ -61,6 +61,13 @@ class Points(unittest.TestCase):
     def test_four_dimensions_and_ends(self):
         self.assertEqual(self.read("-32768,32767,0,1,-1\n", 4), [(-32768, 32767, 0, 1, -1, 0)])
 
+    def test_a_gap_is_an_empty_y(self):
+        gap = [(1, 0, 0, 0, -32768, 0), (2, 0, 0, 0, -32767, 1)]
+        for text in ("1,\n2,-32767\n", "1, \n2,-32767\n", "1,nan\n2,-32767\n", "1,-32768\n2,-32767\n", "y,x1\n,1\n-32767,2\n"):
+            self.assertEqual(self.read(text, 1), gap)
+        self.assertEqual(vengutari.store_bytes(gap[:1]), bytes.fromhex("0001 0000 0000 0000 8000 0000"))
+        self.refused(",2\n", 1, "x1: '' is not a whole number")
+
     def test_bad_files(self):
         self.refused("", 1, "no points")
         self.refused("x1,y\n", 1, "no points")

@@ -41,7 +41,7 @@ class Later(unittest.TestCase):
         target = self.folder / "again.csv"
         status, out, _ = run("label", self.data, "--fit", self.files["json"], "--labels", target)
         self.assertEqual((status, target.read_text(encoding="utf-8")), (0, self.files["labels"].read_text(encoding="utf-8")))
-        self.assertRegex(out, "^line 1: [0-9]+, line 2: [0-9]+, [0-9]+ outliers, 2 without y\n$")
+        self.assertRegex(out, "^line 1: [0-9]+, line 2: [0-9]+, [0-9]+ outliers, 2 gaps\n$")
 
     def test_label_takes_more_points_than_a_search(self):
         many = self.folder / "many.csv"
@@ -55,7 +55,7 @@ class Later(unittest.TestCase):
         near = self.folder / "near.csv"
         near.write_text("x1,y\n470,363\n470,365.2\n470,\n", encoding="utf-8")
         status, out, _ = run("label", near, "--fit", self.files["json"])
-        self.assertEqual((status, [row.split(",")[2] for row in out.splitlines()]), (0, ["label", "1", "2", ""]))
+        self.assertEqual((status, [row.split(",")[2] for row in out.splitlines()]), (0, ["label", "1", "2", "6"]))
 
     def test_label_refuses_what_does_not_fit(self):
         far = self.folder / "far.csv"
@@ -68,7 +68,7 @@ class Later(unittest.TestCase):
         self.assertEqual((status, [row.split(",")[2] for row in out.splitlines()[1:]]), (0, ["0", "0"]))
 
     def test_spikes_do_not_take_the_digits(self):
-        """Two values far beyond the rest are outliers, an x there without y is none, and the answer is that without them."""
+        """Two values far beyond the rest are outliers, an x there without y is a gap, and the answer is that without them."""
         lines = TWO.text().splitlines()
         spiked = self.folder / "spiked.csv"
         spiked.write_text("\n".join([*lines, "60,2000,999999,spike", "61,2500,-99999.5,spike", "62,99999,,spike"]) + "\n", encoding="utf-8")
@@ -77,10 +77,24 @@ class Later(unittest.TestCase):
         found = json.loads(out)
         self.assertEqual((found["vector"], found["cost"], found["bound"]), tuple(self.found[key] for key in ("vector", "cost", "bound")))
         self.assertEqual(found["labels"]["outliers"], self.found["labels"]["outliers"] + 2)
-        self.assertEqual(found["labels"]["without y"], 3)
-        notes = " ".join(found["notes"])
-        self.assertIn("2 rows lie far beyond the others", notes)
-        self.assertIn("3 rows have no y: they are left out of the search and have no label", notes)
+        self.assertEqual(found["labels"]["gaps"], 3)
+        self.assertIn("2 rows lie far beyond the others", " ".join(found["notes"]))
+
+    def test_gaps_change_neither_cost_nor_bound(self):
+        """The rows without y taken away, and as many put in: the answer is the same, and the gaps are counted and labelled."""
+        lines = TWO.text().splitlines()
+        samples = [line for line in lines if ",," not in line]
+        more = [f"{60 + k},{400 + 50 * k},{'' if k % 2 else 'nan'},gap" for k in range(40)]
+        for kept, gaps in ((samples, 0), ([*lines, *more], 42)):
+            data, labels = self.folder / "gaps.csv", self.folder / f"gaps-{gaps}.csv"
+            data.write_text("\n".join(kept) + "\n", encoding="utf-8")
+            status, out, err = run("fit", data, *WORDS, "--json", "--labels", labels)
+            self.assertEqual((status, err), (0, ""))
+            found = json.loads(out)
+            self.assertEqual(*[[f[key] for key in ("vector", "cost", "bound", "splits", "box")] for f in (found, self.found)])
+            self.assertEqual(found["labels"], {**self.found["labels"], "gaps": gaps})
+            rows = [row.split(",") for row in labels.read_text(encoding="utf-8").splitlines()]
+            self.assertEqual([row[4:] for row in rows if row[2] in ("", "nan")], [["6", "", ""]] * gaps)
 
     def test_coefficients_of_a_fit_and_of_a_record(self):
         status, out, _ = run("coefficients", self.files["json"])
@@ -203,6 +217,12 @@ class Interface(unittest.TestCase):
         self.assertEqual(calls.bound(store, model, [0], [3]), 2)
         self.assertEqual(calls.split(1, 1, [-3], [-2]), [([-3] + [0] * 7, [-3] + [0] * 7), ([-2] + [0] * 7, [-2] + [0] * 7)])
         self.assertEqual(calls.labels(store, model, [2]), b"\1\1\0")
+        gapped, kept = scaling.store_of([([1], None), ([1], 2), None, ([1], 9), ([1], None)], range(5))
+        self.assertEqual((gapped[:12], kept), (bytes.fromhex("0001 0000 0000 0000 8000 0000"), [0, 1, 3, 4]))
+        self.assertEqual([calls.cost(gapped, model, [0]), calls.bound(gapped, model, [0], [3])], [4, 2])
+        self.assertEqual(calls.labels(gapped, model, [2]), b"\6\1\0\6")
+        alone = calls.search(gapped[:12], model, 0, 10, [0], [3], [0], 4)
+        self.assertEqual((alone.kind, alone.cost, alone.bound), ("solved", 0, 0))
         answer = calls.search(store, model, 0, 10, [0], [3], [0], 4)
         self.assertEqual(answer, ("solved", [2], 2, 2, 1, 0, 1))
         record = calls.write_answer(answer, 1, 1, 0)

@@ -88,15 +88,15 @@ class Report(unittest.TestCase):
                     self.assertIn(line["equation"], everything)
                 for note in found["notes"]:
                     self.assertIn(note, everything)
-                self.assertIn(f"{found['labels']['outliers']} outliers, {found['labels']['without y']} without y", everything)
-                self.assertNotRegex(everything, "undecided|gaps")
+                self.assertIn(f"{found['labels']['outliers']} outliers, {found['labels']['gaps']} gaps", everything)
+                self.assertNotRegex(everything, "undecided|without y")
                 if found["wide"]:
                     self.assertIn(found["wide"]["certificate"], "".join(page.text["wide"]))
                 self.assertEqual("class=\"verdict solved\"" in text, found["kind"] == "solved")
                 self.assertEqual(f"Next: {found['next']}" in everything, found["kind"] != "solved")
 
     def test_every_row_is_shown(self):
-        """Each sample in both pictures, each row without y among the residuals, by the words of a mark, and all marks in the picture."""
+        """Each sample in both pictures, each gap among the residuals, by the words of a mark, and all marks in the picture."""
         for name, (made, text, _) in self.done.items():
             with self.subTest(name):
                 titles = [title for title in Page(text).text["title"] if title.startswith("row ")]

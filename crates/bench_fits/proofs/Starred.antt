@@ -1,4 +1,4 @@
--- The starred fits hold, each by computing its definition. Assumes nothing.
+-- The starred fits hold, and those with gaps, each by computing its definition. Assumes nothing.
 use mathlib.Core.Path.{refl}
 use lib.Ieee.{size}
 use Rattle.integers.specs.Integers.{maxZ, minZ, floorHalf, allZero}
@@ -8,14 +8,14 @@ use Rattle.boxes.specs.Shape.{checkShape}
 use Rattle.boxes.specs.Boxes.{atMost, sideSize, sides, product, checkBox}
 use Rattle.boxes.specs.Split.{firstLargest, leftHalf, rightHalf, splitChecks, splitAnswer}
 use Rattle.loss.specs.Loss.{lossOf}
-use Rattle.residuals.specs.Cost.{dot, residual, sizeAt, dotMax, dotMin, eMin, eMax, nearestTo0, leastSize, least, totalLoss, cost, bound}
-use Rattle.labels.specs.Labels.{firstLeast, label}
+use Rattle.residuals.specs.Cost.{dot, residual, sizeAt, dotMax, dotMin, eMin, eMax, nearestTo0, leastSize, least, unlessGap, totalLoss, cost, bound}
+use Rattle.labels.specs.Labels.{firstLeast, sampleLabel, label}
 use Rattle.certificate.specs.Search.{keepBelow, lowerBound, firstSmallest, cheaper, begin, split, answer, ifRoom, step, follow, run, search}
 use Rattle.coefficients.specs.Coefficient.{exponentOf, fractionOf, fieldsOf, patternOf}
 use Rattle.scale.specs.Scale.{checkScale}
 use Rattle.loss.specs.Loss.{checkLoss}
 use Rattle.boxes.specs.Boxes.{checkStart}
-use Rattle.points.specs.Points.{unsignedAt, signedAt, pointAt, firstPoints, pointsOf, checkStore, strayFrom, checkStray}
+use Rattle.points.specs.Points.{unsignedAt, signedAt, pointAt, skipped, firstPoints, pointsOf, checkStore, strayFrom, checkStray}
 use Rattle.model.specs.Calls.{checkModel}
 use Rattle.fields.specs.Fields.{bigEndian, fromBigEndian, vectorBytes, vectorOf}
 use Rattle.job_records.specs.Jobs.{jobBytes, jobOf}
@@ -24,8 +24,13 @@ use Rattle.text.specs.Line.{fields, line}
 use Rattle.search.specs.Search.{checkJob, searched}
 use Rattle.report.specs.Report.{checkFit, fitAnswer, fitLine}
 use Rattle.bench_fits.specs.Starred.{StarredHold}
+use Rattle.bench_fits.specs.Gaps.{GapsHold}
 
 pub starred-hold : StarredHold
-unfolding maxZ minZ floorHalf allZero inOrder checkShape atMost sideSize sides product checkBox firstLargest leftHalf rightHalf splitChecks splitAnswer lossOf dot residual sizeAt dotMax dotMin eMin eMax nearestTo0 leastSize least firstLeast label totalLoss cost bound keepBelow lowerBound firstSmallest cheaper begin split answer ifRoom step follow run search exponentOf fractionOf fieldsOf patternOf size checkScale checkLoss checkStart unsignedAt signedAt pointAt firstPoints pointsOf checkStore strayFrom checkStray checkModel bigEndian fromBigEndian vectorBytes vectorOf jobBytes jobOf digitsOf decimal signed behindCommas joined fields line checkJob searched checkFit fitAnswer fitLine
+unfolding maxZ minZ floorHalf allZero inOrder checkShape atMost sideSize sides product checkBox firstLargest leftHalf rightHalf splitChecks splitAnswer lossOf dot residual sizeAt dotMax dotMin eMin eMax nearestTo0 leastSize least firstLeast sampleLabel label unlessGap totalLoss cost bound keepBelow lowerBound firstSmallest cheaper begin split answer ifRoom step follow run search exponentOf fractionOf fieldsOf patternOf size checkScale checkLoss checkStart unsignedAt signedAt pointAt skipped firstPoints pointsOf checkStore strayFrom checkStray checkModel bigEndian fromBigEndian vectorBytes vectorOf jobBytes jobOf digitsOf decimal signed behindCommas joined fields line checkJob searched checkFit fitAnswer fitLine
 starred-hold =
     also refl (also refl (also refl (also refl (also refl (also refl (also refl (also refl (also refl (also refl (also refl (also refl (also refl (also refl (also refl (also refl (also refl (also refl (also refl none))))))))))))))))))
+
+pub gaps-hold : GapsHold
+unfolding maxZ minZ floorHalf allZero inOrder checkShape atMost sideSize sides product checkBox firstLargest leftHalf rightHalf splitChecks splitAnswer lossOf dot residual sizeAt dotMax dotMin eMin eMax nearestTo0 leastSize least firstLeast sampleLabel label unlessGap totalLoss cost bound keepBelow lowerBound firstSmallest cheaper begin split answer ifRoom step follow run search exponentOf fractionOf fieldsOf patternOf size checkScale checkLoss checkStart unsignedAt signedAt pointAt skipped firstPoints pointsOf checkStore strayFrom checkStray checkModel bigEndian fromBigEndian vectorBytes vectorOf jobBytes jobOf digitsOf decimal signed behindCommas joined fields line checkJob searched checkFit fitAnswer fitLine
+gaps-hold = also refl (also refl (also refl (also refl none)))

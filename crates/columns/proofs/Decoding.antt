@@ -19,12 +19,12 @@ use Rattle.whole.proofs.Laws.{zero-whole}
 use Rattle.whole.proofs.Picks.{cast-within, mul-within}
 use Rattle.lanes.specs.Inside.{Filled}
 use Rattle.lanes.proofs.Filling.{also-filled, told-filled}
-use Rattle.columns.specs.Columns.{nowhere, number, slot, field}
+use Rattle.columns.specs.Columns.{nowhere, number, recordIn, field}
 use Rattle.columns.specs.Inside.{Times, FieldOfRecords, FieldOfSlots}
-use Rattle.columns.proofs.Places.{slot-found, slot-full, slot-past}
+use Rattle.columns.proofs.Places.{record-found, record-full, record-past}
 
 module _ (factor : ℕ) (h : factor < 65536) where
-  times-whole : (z : ℤ) → natAbs z ≤ 32768 → Times z factor (mul binary64 (ofInt binary64 z) (ofInt binary64 (pos factor)))
+  pub times-whole : (z : ℤ) → natAbs z ≤ 32768 → Times z factor (mul binary64 (ofInt binary64 z) (ofInt binary64 (pos factor)))
   times-whole z s = mul-within (cast-within z s (omega arith)) (cast-within (pos factor) {B = factor} (omega arith) (omega arith)) (omega arith)
 
   -- a field as the machine has it, cast and multiplied
@@ -41,7 +41,7 @@ field-at store i (suc (suc (suc zero))) h = refl
 field-at store i (suc (suc (suc (suc zero)))) h = refl
 field-at store i (suc (suc (suc (suc (suc c))))) h = absurd (omega arith)
 
-no-field : (c : ℕ) → c < 5 → field c nowhere ≡ pos 0
+pub no-field : (c : ℕ) → c < 5 → field c nowhere ≡ pos 0
 no-field zero h = refl
 no-field (suc zero) h = refl
 no-field (suc (suc zero)) h = refl
@@ -57,20 +57,20 @@ module _ (store : List ℕ) (t g c factor n : ℕ) (groups : g < 4) (five : c < 
   found : (k : ℕ) → g * 20 ≤ k → k < g * 20 + n → (a b : Float) → FieldOfRecords store (g * 20) (t * 76 + g * 19) (c * 2) factor k a b → FieldOfSlots store t c factor k a b
   found k l h a b w =
       let e : t * 76 + g * 19 + (k - g * 20) ≡ number t k = omega arith in
-      let f : signedAt store ((t * 76 + g * 19 + (k - g * 20)) * 12 + c * 2) ≡ field c (slot store t k) =
-      ap (λ (i : ℕ). signedAt store (i * 12 + c * 2)) e ∙ field-at store (number t k) c five ∙ ap (field c) (sym (slot-found store t k (omega arith) (omega arith))) in
+      let f : signedAt store ((t * 76 + g * 19 + (k - g * 20)) * 12 + c * 2) ≡ field c (recordIn store t k) =
+      ap (λ (i : ℕ). signedAt store (i * 12 + c * 2)) e ∙ field-at store (number t k) c five ∙ ap (field c) (sym (record-found store t k (omega arith) (omega arith))) in
       subst (λ (z : ℤ). Times z factor b) f w
 
-  empty : (k : ℕ) → g * 20 + n ≤ k → k < g * 20 + 20 → slot store t k ≡ nowhere
+  empty : (k : ℕ) → g * 20 + n ≤ k → k < g * 20 + 20 → recordIn store t k ≡ nowhere
   empty k l h =
       ⊎-elim
-      (λ (i : 19 ≤ k % 20). slot-full store t k i)
-      (λ (i : k % 20 < 19). slot-past store t k (omega arith))
+      (λ (i : 19 ≤ k % 20). record-full store t k i)
+      (λ (i : k % 20 < 19). record-past store t k (omega arith))
       (le-or-lt 19 (k % 20))
 
   cleared : (k : ℕ) → g * 20 + n ≤ k → k < g * 20 + 20 → (a b : Float) → b ≡ zeroth → FieldOfSlots store t c factor k a b
   cleared k l h a b e =
-      let z : field c (slot store t k) ≡ pos 0 = ap (field c) (empty k l h) ∙ no-field c five in
+      let z : field c (recordIn store t k) ≡ pos 0 = ap (field c) (empty k l h) ∙ no-field c five in
       rw e (rw z (times-zero factor))
 
   pub group-filled : {old mid xs : List Float} → Filled (g * 20) (FieldOfRecords store (g * 20) (t * 76 + g * 19) (c * 2) factor) old (g * 20 + n) mid

@@ -8,25 +8,33 @@ use native.Mathlib.Omega.{arith}
 use lib.IntN.{ℤ, pos, _*ℤ_}
 use lib.ListN.{length, getD, set, length-set}
 use lib.Seq.{getD-set-same, getD-set-other}
-use lib.Ieee.{Float, nan}
+use lib.Ieee.{Float}
 use Rattle.integers.proofs.Parts.{from-parts, mul-pos-up, mul-pos-dn}
 use Rattle.integers.proofs.Tests.{le-or-lt}
-use Rattle.whole.proofs.Picks.{wider, renamed}
+use Rattle.whole.proofs.Picks.{renamed}
 use Rattle.lanes.specs.Lanes.{lane, cell}
-use Rattle.columns.specs.Columns.{slot, field, ChunkOf}
-use Rattle.columns.specs.Inside.{Times, FieldOfSlots}
+use Rattle.points.specs.declared.Point.{Point}
+use Rattle.whole.specs.Whole.{Within}
+use Rattle.columns.specs.Columns.{recordIn, field, ChunkOf}
+use Rattle.columns.specs.Inside.{Times}
 
-module _ (store : List ℕ) (t : ℕ) (old : List (List Float)) where
-  -- the first n columns are those of chunk t, and the rest is as it was
+-- the columns of a chunk have these points
+pub record ColumnsOf (point : ℕ → Point) (d power : ℕ) (s : List (List Float)) : Type 0 where
+  pub column : (c k : ℕ) → c < d → c < 4 → k < 80 → Within (cell s c k) (field c (point k)) 32768
+  pub target : (k : ℕ) → k < 80 → Within (cell s 4 k) (point k .y *ℤ pos power) 2147483648
+
+-- columns given new numbers, one after the other, of which P says each number's column, place and value
+module _ (P : ℕ → ℕ → Float → Type 0) (old : List (List Float)) where
+  -- the first n are, and the rest is as it was
   pub record Laid (n : ℕ) (s : List (List Float)) : Type 0 where
     pub long : length s ≡ 5
-    pub done : (c k : ℕ) → c < n → k < 80 → Times (field c (slot store t k)) 1 (cell s c k)
+    pub done : (c k : ℕ) → c < n → k < 80 → P c k (cell s c k)
     pub rest : (c : ℕ) → n ≤ c → getD s c [] ≡ getD old c []
 
   pub none-laid : length old ≡ 5 → Laid 0 old
   none-laid h = record { long = h; done = λ c k l. absurd (omega arith); rest = λ c l. refl }
 
-  pub one-laid : {n : ℕ} {s : List (List Float)} (xs : List Float) → n < 5 → ((k : ℕ) → k < 80 → FieldOfSlots store t n 1 k nan (lane xs k)) → Laid n s → Laid (n + 1) (set s n xs)
+  pub one-laid : {n : ℕ} {s : List (List Float)} (xs : List Float) → n < 5 → ((k : ℕ) → k < 80 → P n k (lane xs k)) → Laid n s → Laid (n + 1) (set s n xs)
   one-laid {n} {s} xs h new g =
       let five = g .long in
       record {
@@ -35,7 +43,7 @@ module _ (store : List ℕ) (t : ℕ) (old : List (List Float)) where
         rest = λ c l. getD-set-other s n c xs [] (λ q. omega arith) ∙ g .rest c (omega arith);
       }
     where
-      by-column : (c : ℕ) → c ≤ n → (k : ℕ) → k < 80 → Times (field c (slot store t k)) 1 (cell (set s n xs) c k)
+      by-column : (c : ℕ) → c ≤ n → (k : ℕ) → k < 80 → P c k (cell (set s n xs) c k)
       by-column c l k i =
           let five = g .long in
           ⊎-elim
@@ -43,22 +51,30 @@ module _ (store : List ℕ) (t : ℕ) (old : List (List Float)) where
           (λ (q : c < n). rw (getD-set-other s n c xs [] (λ p. omega arith)) (g .done c k q i))
           (eq-or-lt-of-le l)
 
-  times-one : (z : ℤ) → z *ℤ pos 1 ≡ z
-  times-one z = from-parts (z *ℤ pos 1) z (omega (arith, mul-pos-up z 1, mul-pos-dn z 1))
-
   -- with y behind them they are the chunk
-  module _ {d n power : ℕ} {s : List (List Float)} (ys : List Float) (few : n ≡ min d 4) (h : power < 65536) (new : (k : ℕ) → k < 80 → FieldOfSlots store t 4 power k nan (lane ys k)) (g : Laid n s) where
-    pub all-laid : ChunkOf store t d power (set s 4 ys)
-    all-laid =
+  module _ {d n : ℕ} {s : List (List Float)} (ys : List Float) (few : n ≡ min d 4) (g : Laid n s) where
+    pub all-laid : {power : ℕ} (point : ℕ → Point) → ((c k : ℕ) (x : Float) → c < n → k < 80 → P c k x → Within x (field c (point k)) 32768)
+        → ((k : ℕ) → k < 80 → Within (lane ys k) (point k .y *ℤ pos power) 2147483648) → ColumnsOf point d power (set s 4 ys)
+    all-laid point told new =
         let five = g .long in
         record {
           column = λ c k a b i.
-              renamed (times-one (field c (slot store t k))) (rw (getD-set-other s 4 c ys [] (λ p. omega arith)) (g .done c k (omega arith) i));
-          target = λ k i. rw (getD-set-same s 4 ys [] (omega arith)) (wider (omega arith) (new k i));
+              rw (getD-set-other s 4 c ys [] (λ p. omega arith)) (told c k (cell s c k) (omega arith) i (g .done c k (omega arith) i));
+          target = λ k i. rw (getD-set-same s 4 ys [] (omega arith)) (new k i);
         }
 
     pub others-laid : (c : ℕ) → d ≤ c → c < 4 → getD (set s 4 ys) c [] ≡ getD old c []
     others-laid c l i = getD-set-other s 4 c ys [] (λ p. omega arith) ∙ g .rest c (omega arith)
+
+-- a field as it stands in the records
+abbrev pub AsRead : List ℕ → ℕ → ℕ → ℕ → Float → Type 0
+AsRead store t c k x = Times (field c (recordIn store t k)) 1 x
+
+pub times-one : (z : ℤ) → z *ℤ pos 1 ≡ z
+times-one z = from-parts (z *ℤ pos 1) z (omega (arith, mul-pos-up z 1, mul-pos-dn z 1))
+
+pub as-read : (store : List ℕ) (t c k : ℕ) (x : Float) → AsRead store t c k x → Within x (field c (recordIn store t k)) 32768
+as-read store t c k x w = renamed (times-one (field c (recordIn store t k))) w
 
 -- chunks of a store, one after the other
 same-or-not : (a b : ℕ) → (a ≡ b) ⊎ (a ≡ b → ⊥)

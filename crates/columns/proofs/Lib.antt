@@ -1,3 +1,4 @@
 pub mod Places
 pub mod Decoding
 pub mod Laying
+pub mod Marks

@@ -1,5 +1,5 @@
 -- Where the points of a store stand in its columns: 19 records to a group of 20 slots, whose last is empty, and four groups to a chunk. An
--- empty slot, there or behind the last record, is all zero, which costs nothing under any vector or box.
+-- empty slot, there, behind the last record or of a gap, is all zero, which costs nothing under any vector or box.
 use mathlib.Core.Bool.{_&&_, cond}
 use mathlib.Core.List.{List, [], _∷_}
 use mathlib.Core.Path.{_≡_}
@@ -9,7 +9,7 @@ use lib.IntN.{ℤ, pos, _*ℤ_}
 use lib.ListN.{length, getD}
 use lib.Ieee.{Float}
 use Rattle.points.specs.declared.Point.{Point}
-use Rattle.points.specs.Points.{pointAt}
+use Rattle.points.specs.Points.{pointAt, isGap}
 use Rattle.whole.specs.Whole.{Within}
 use Rattle.lanes.specs.Lanes.{cell}
 
@@ -21,9 +21,17 @@ nowhere = record { x1 = pos 0; x2 = pos 0; x3 = pos 0; x4 = pos 0; y = pos 0; fr
 abbrev pub number : ℕ → ℕ → ℕ
 number t k = t * 76 + k / 20 * 19 + k % 20
 
+-- the record whose slot it is
+unfoldable pub recordIn : List ℕ → ℕ → ℕ → Point
+recordIn store t k = cond (ltb (k % 20) 19 && ltb (number t k) (length store / 12)) (pointAt store (number t k)) nowhere
+
+-- a gap leaves its slot empty
+unfoldable pub placed : Point → Point
+placed q = cond (isGap q) nowhere q
+
 -- the point in slot k of chunk t
 unfoldable pub slot : List ℕ → ℕ → ℕ → Point
-slot store t k = cond (ltb (k % 20) 19 && ltb (number t k) (length store / 12)) (pointAt store (number t k)) nowhere
+slot store t k = placed (recordIn store t k)
 
 -- how many chunks the records of a store fill, the last one in part
 abbrev pub chunks : List ℕ → ℕ

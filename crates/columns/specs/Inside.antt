@@ -1,11 +1,12 @@
 -- What the loops that decode a store say of a column.
 use mathlib.Core.List.{List}
-use Prim.Native.Nat.{ℕ, _+_, _*_, _-_}
+use Prim.Native.Nat.{ℕ, _+_, _*_, _-_, _<_}
 use lib.IntN.{ℤ, pos, _*ℤ_}
 use lib.Ieee.{Float}
 use Rattle.points.specs.Points.{signedAt}
 use Rattle.whole.specs.Whole.{Within}
-use Rattle.columns.specs.Columns.{slot, field}
+use Rattle.lanes.specs.Lanes.{cell}
+use Rattle.columns.specs.Columns.{recordIn, field}
 
 -- x is a field times a factor
 abbrev pub Times : ℤ → ℕ → Float → Type 0
@@ -15,6 +16,11 @@ Times z factor x = Within x (z *ℤ pos factor) (32768 * factor)
 abbrev pub FieldOfRecords : List ℕ → ℕ → ℕ → ℕ → ℕ → ℕ → Float → Float → Type 0
 FieldOfRecords store o i at factor k old x = Times (signedAt store ((i + (k - o)) * 12 + at)) factor x
 
--- the numbers are field c of the slots of chunk t
+-- the numbers are field c of the records in the slots of chunk t
 abbrev pub FieldOfSlots : List ℕ → ℕ → ℕ → ℕ → ℕ → Float → Float → Type 0
-FieldOfSlots store t c factor k old x = Times (field c (slot store t k)) factor x
+FieldOfSlots store t c factor k old x = Times (field c (recordIn store t k)) factor x
+
+-- the columns of a chunk are the records of chunk t of a store, gaps too
+pub record RecordsOf (store : List ℕ) (t d power : ℕ) (s : List (List Float)) : Type 0 where
+  pub column : (c k : ℕ) → c < d → c < 4 → k < 80 → Within (cell s c k) (field c (recordIn store t k)) 32768
+  pub target : (k : ℕ) → k < 80 → Within (cell s 4 k) (recordIn store t k .y *ℤ pos power) 2147483648

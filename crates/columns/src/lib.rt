@@ -1,11 +1,15 @@
 // A store decoded into columns of doubles.
+mod gaps;
 mod record;
 
+use crate::gaps::all_above;
+use crate::gaps::keep_above;
 use crate::record::field;
 use lanes::Chunk;
 use lanes::Lanes;
 use lanes::known;
 use lanes::known_columns;
+use points::GAP;
 ghost use mathlib.Core.List.{[]};
 ghost use mathlib.Core.Path.{_≡_};
 ghost use Prim.Native.Nat.{ℕ, _+_, _*_, _-_, _/_, _≤_, _<_, min};
@@ -15,7 +19,7 @@ ghost use Rattle.whole.specs.Whole.{zeroth};
 ghost use Rattle.lanes.specs.Lanes.{lane};
 ghost use Rattle.lanes.specs.Inside.{Filled};
 ghost use Rattle.columns.specs.Columns.{ChunkOf, DecodedInto};
-ghost use Rattle.columns.specs.Inside.{FieldOfRecords, FieldOfSlots};
+ghost use Rattle.columns.specs.Inside.{FieldOfRecords, FieldOfSlots, RecordsOf};
 
 // How many records a group has that begins at record i, of `total`.
 fn group_of(total: usize, i: usize) -> usize
@@ -86,16 +90,46 @@ fn used(d: u8) -> usize
     if d < 4 { d as usize } else { 4 }
 }
 
-// Chunk t: the first d of the x, and y times a power of two. The other columns are as they were.
-pub fn decode_chunk(chunk: &mut Chunk, store: &[u8], t: u8, d: u8, power: u16)
-    ensures here { λ _. ⌜ ChunkOf (now (store .entry)) t d power (now (chunk .exit)) ⌝ }
+// The records of chunk t: the first d of the x, and y times a power of two. The other columns are as they were.
+fn decode_records(chunk: &mut Chunk, store: &[u8], t: usize, d: u8, power: u16)
+    requires { ⌜ t < 256 ⌝ }
+    ensures here { λ _. ⌜ RecordsOf (now (store .entry)) t d power (now (chunk .exit)) ⌝ }
     ensures rest { λ _. ⌜ ((c : ℕ) → d ≤ c → c < 4 → getD (now (chunk .exit)) c [] ≡ getD (now (chunk .entry)) c []) ⌝ }
 {
     known_columns(*chunk);
     for c in 0..used(d) {
-        decode_column(&mut chunk[c], store, t as usize, c, 1);
+        decode_column(&mut chunk[c], store, t, c, 1);
     }
-    decode_column(&mut chunk[4], store, t as usize, 4, power);
+    decode_column(&mut chunk[4], store, t, 4, power);
+}
+
+// The slots of gaps made empty.
+fn empty_gaps(chunk: &mut Chunk, store: &[u8], t: usize, d: u8, power: u16)
+    requires { ⌜ (t < 256) × RecordsOf (now store) t d power (now chunk) ⌝ }
+    ensures here { λ _. ⌜ ChunkOf (now (store .entry)) t d power (now (chunk .exit)) ⌝ }
+    ensures rest { λ _. ⌜ ((c : ℕ) → d ≤ c → c < 4 → getD (now (chunk .exit)) c [] ≡ getD (now (chunk .entry)) c []) ⌝ }
+{
+    let mut ys: Lanes = [0.0; 80];
+    decode_column(&mut ys, store, t, 4, 1);
+    known_columns(*chunk);
+    for c in 0..used(d) {
+        keep_above(&mut chunk[c], &ys, GAP as f64);
+    }
+    keep_above(&mut chunk[4], &ys, GAP as f64);
+}
+
+// Chunk t: the first d of the x, and y times a power of two. The other columns are as they were. A chunk without gaps, whose y all lie
+// above a gap's, is done with that test.
+pub fn decode_chunk(chunk: &mut Chunk, store: &[u8], t: u8, d: u8, power: u16)
+    ensures here { λ _. ⌜ ChunkOf (now (store .entry)) t d power (now (chunk .exit)) ⌝ }
+    ensures rest { λ _. ⌜ ((c : ℕ) → d ≤ c → c < 4 → getD (now (chunk .exit)) c [] ≡ getD (now (chunk .entry)) c []) ⌝ }
+{
+    decode_records(chunk, store, t as usize, d, power);
+    known_columns(*chunk);
+    if all_above(&chunk[4], (GAP as f64) * (power as f64)) {
+        return;
+    }
+    empty_gaps(chunk, store, t as usize, d, power);
 }
 
 fn least(a: usize, b: usize) -> usize

@@ -1,6 +1,7 @@
 -- The first of the lines with the least size, and the label that names it. Assumes nothing.
-use mathlib.Core.Path.{_≡_, refl, sym, subst, _∙_}
-use mathlib.Core.Bool.{cond}
+use mathlib.Core.Path.{_≡_, refl, sym, ap, subst, _∙_}
+use mathlib.Core.Bool.{Bool, true, false, cond}
+use mathlib.Core.List.{List}
 use mathlib.Core.Logic.{⊎-elim}
 use Prim.Native.Nat.{ℕ, zero, suc, _+_, _≤_, _<_}
 use native.Mathlib.Nat.{min-eq-left, min-eq-right}
@@ -8,10 +9,14 @@ use native.Mathlib.Numerals.{add-one}
 use native.Mathlib.Omega.{arith}
 use borrow.Author.Tests.{ltb-true, ltb-false, leb-true, leb-false}
 use lib.Dec.{leb, ltb}
+use lib.IntN.{ℤ}
 use Rattle.integers.proofs.Tests.{by-test, le-or-lt}
+use Rattle.jobs.specs.declared.Model.{Model}
+use Rattle.points.specs.declared.Point.{Point}
+use Rattle.points.specs.Points.{isGap}
 use Rattle.residuals.specs.Cost.{least, sizeAt}
-use Rattle.labels.specs.Labels.{firstLeast, label}
-use Rattle.labels.specs.Laws.{Nearest, AllLabelled}
+use Rattle.labels.specs.Labels.{firstLeast, sampleLabel, label}
+use Rattle.labels.specs.Laws.{Nearest, SampleLabelled, AllLabelled}
 
 -- one line more
 pub first-least-more : (f : ℕ → ℕ) (j : ℕ) → 1 ≤ j → firstLeast f (j + 1) ≡ cond (ltb (f j) (least f j)) j (firstLeast f j)
@@ -60,27 +65,48 @@ first-least f (suc (suc n)) h =
       lowest = g .lowest;
     })
 
-pub all-labelled : AllLabelled
+label-by : (m : Model) (v : List ℤ) (q : Point) {gap : Bool} → isGap q ≡ gap → label m v q ≡ cond gap 6 (sampleLabel m v q)
 unfolding label
-all-labelled m v q h =
-    let f = sizeAt m v q in
-    let k = firstLeast f (m .n) in
-    let g = first-least f (m .n) h in
-    let test = leb (least f (m .n)) (m .eps) in
-    record {
-      named = λ line. by-test test (suc k) 0 (λ (x : ℕ). x ≡ suc line → Nearest m v q line)
-          (λ t e. let same : k ≡ line = omega arith in
-          subst (Nearest m v q) same (record {
-            one-of = g .one-of;
-            none-smaller = g .none-smaller;
-            lowest = g .lowest;
-            fits = omega (arith, leb-true (least f (m .n)) (m .eps) t, g .is-least);
-          }))
-          (λ t e. absurd (omega arith));
-      none-fits = by-test test (suc k) 0 (λ (x : ℕ). x ≡ 0 → (j : ℕ) → j < m .n → m .eps < f j)
-          (λ t e. absurd (omega arith))
-          (λ t e j r. omega (arith, leb-false (least f (m .n)) (m .eps) t, g .none-smaller j r, g .is-least));
-      no-label = λ past. by-test test (suc k) 0 (λ (x : ℕ). x ≡ 0)
-          (λ t. absurd (omega (arith, leb-true (least f (m .n)) (m .eps) t, past k (g .one-of), g .is-least)))
-          (λ t. refl);
-    }
+label-by m v q e = ap (λ (gap : Bool). cond gap 6 (sampleLabel m v q)) e
+
+-- the label that a sample has
+module _ (m : Model) (v : List ℤ) (q : Point) (h : 1 ≤ m .n) (sample : isGap q ≡ false) where
+  abbrev f : ℕ → ℕ
+  f = sizeAt m v q
+
+  abbrev k : ℕ
+  k = firstLeast f (m .n)
+
+  nearest : leb (least f (m .n)) (m .eps) ≡ true → Nearest m v q k
+  nearest t =
+      let g = first-least f (m .n) h in
+      record {
+        one-of = g .one-of;
+        none-smaller = g .none-smaller;
+        lowest = g .lowest;
+        fits = omega (arith, leb-true (least f (m .n)) (m .eps) t, g .is-least);
+      }
+
+  label-is : label m v q ≡ sampleLabel m v q
+  label-is = label-by m v q sample
+
+  sample-labelled : SampleLabelled m v q
+  unfolding sampleLabel
+  sample-labelled =
+      let g = first-least f (m .n) h in
+      let test = leb (least f (m .n)) (m .eps) in
+      record {
+        few = rw label-is (by-test test (suc k) 0 (λ (x : ℕ). x ≤ m .n) (λ t. omega (arith, g .one-of)) (λ t. omega arith));
+        named = λ line. rw label-is (by-test test (suc k) 0 (λ (x : ℕ). x ≡ suc line → Nearest m v q line)
+            (λ t e. let same : k ≡ line = omega arith in subst (Nearest m v q) same (nearest t))
+            (λ t e. absurd (omega arith)));
+        none-fits = rw label-is (by-test test (suc k) 0 (λ (x : ℕ). x ≡ 0 → (j : ℕ) → j < m .n → m .eps < f j)
+            (λ t e. absurd (omega arith))
+            (λ t e j r. omega (arith, leb-false (least f (m .n)) (m .eps) t, g .none-smaller j r, g .is-least)));
+        no-label = λ past. rw label-is (by-test test (suc k) 0 (λ (x : ℕ). x ≡ 0)
+            (λ t. absurd (omega (arith, leb-true (least f (m .n)) (m .eps) t, past k (g .one-of), g .is-least)))
+            (λ t. refl));
+      }
+
+pub all-labelled : AllLabelled
+all-labelled m v q h = record { gap = label-by m v q; sample = sample-labelled m v q h }

@@ -12,7 +12,7 @@ use Rattle.codes.specs.declared.Refusal.the-variants.{Short}
 use Rattle.codes.specs.Codes.{passIf, inOrder, unlessRefused, ifPassed}
 use Rattle.jobs.specs.declared.Model.{Model}
 use Rattle.points.specs.declared.Point.{Point}
-use Rattle.points.specs.Points.{pointsOf}
+use Rattle.points.specs.Points.{isGap, pointsOf}
 use Rattle.residuals.specs.Cost.{least, sizeAt}
 use Rattle.model.specs.Calls.{checkCost}
 
@@ -23,8 +23,12 @@ firstLeast f (suc zero) = 0
 firstLeast f (suc (suc n)) = cond (ltb (f (suc n)) (least f (suc n))) (suc n) (firstLeast f (suc n))
 
 -- "A point's label is one byte: the line (1 to n) with the least |e|, lowest among equals, if that |e| ≤ ε; otherwise 0."
+unfoldable pub sampleLabel : Model → List ℤ → Point → ℕ
+sampleLabel m v q = cond (leb (least (sizeAt m v q) (m .n)) (m .eps)) (suc (firstLeast (sizeAt m v q) (m .n))) 0
+
+-- "A gap … its label is 6."
 unfoldable pub label : Model → List ℤ → Point → ℕ
-label m v q = cond (leb (least (sizeAt m v q) (m .n)) (m .eps)) (suc (firstLeast (sizeAt m v q) (m .n))) 0
+label m v q = cond (isGap q) 6 (sampleLabel m v q)
 
 -- "labelling 1 to 4, 6, 7 and 10"; 10: "output too small"
 unfoldable pub checkLabels : List ℕ → Model → List ℤ → List ℕ → Check

@@ -1,4 +1,4 @@
-// The label of each point of a store: the line that is nearest to it.
+// The label of each point of a store: the line that is nearest to it; a gap has its own.
 mod nearest;
 
 use codes::Check;

@@ -9,7 +9,7 @@ ghost use lib.ListN.{length};
 ghost use Rattle.points.specs.Points.{pointAt, xs};
 ghost use Rattle.residuals.specs.Cost.{at, dot, least};
 ghost use Rattle.residuals.specs.Inside.{Ready, sizeOf};
-ghost use Rattle.labels.specs.Labels.{firstLeast, label};
+ghost use Rattle.labels.specs.Labels.{firstLeast, sampleLabel, label};
 
 // x1 to x4, from 0.
 fn x_at(q: Point, k: usize) -> i16
@@ -81,10 +81,10 @@ fn nearest_line(q: Point, v: &[i16; 8], n: usize, d: usize, power: u16) -> Neare
     Nearest { line, size }
 }
 
-// The label of a point.
+// The label of a sample.
 fn label_of(q: Point, m: Model, v: &[i16; 8], power: u16) -> u8
     requires { ⌜ (m .n * m .d ≤ 8) × (1 ≤ m .n) × (m .n ≤ 4) × (m .d ≤ 4) × (power ≡ 2 ^ m .scale) ⌝ }
-    ensures { λ r. ⌜ r ≡ label m (now (v .entry)) q ⌝ }
+    ensures { λ r. ⌜ r ≡ sampleLabel m (now (v .entry)) q ⌝ }
 {
     let near = nearest_line(q, v, m.n as usize, m.d as usize, power);
     if near.size <= m.eps as u64 {
@@ -94,13 +94,14 @@ fn label_of(q: Point, m: Model, v: &[i16; 8], power: u16) -> u8
     }
 }
 
-// The label of record i.
+// The label of record i: 6 of a gap.
 pub fn label_at(store: &[u8], i: usize, m: Model, v: &[i16; 8], power: u16) -> u8
     requires { ⌜ Ready (length (now store)) m × (i < length (now store) / 12) × (power ≡ 2 ^ m .scale) ⌝ }
     ensures { λ r. ⌜ r ≡ label m (now (v .entry)) (pointAt (now (store .entry)) i) ⌝ }
 {
     match points::read_point(store, i) {
-        Record::Found(q) => label_of(q, m, v, power),
+        Record::Sample(q) => label_of(q, m, v, power),
+        Record::Gap(_) => 6,
         Record::Missing => 0,
     }
 }

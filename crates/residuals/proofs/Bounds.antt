@@ -1,7 +1,7 @@
 -- The bound of a box is at most the cost of each of its vectors, and equal for a box of one vector; residuals have a limit.
 -- Assumes nothing.
-use mathlib.Core.Path.{_≡_, refl, ap, _∙_}
-use mathlib.Core.List.{List, [], _∷_}
+use mathlib.Core.Path.{_≡_, refl, ap, ap₂, _∙_}
+use mathlib.Core.List.{List, [], _∷_, map}
 use Prim.Native.Nat.{ℕ, zero, suc, _+_, _*_, _^_, _≤_}
 use native.Mathlib.Nat.{mul-le-mul}
 use native.Mathlib.Omega.{arith}
@@ -20,10 +20,10 @@ use Rattle.loss.specs.Loss.{lossOf}
 use Rattle.loss.proofs.Laws.{loss-mono}
 use Rattle.points.specs.declared.Point.{Point}
 use Rattle.points.specs.Points.{xs}
-use Rattle.residuals.specs.Cost.{at, dot, dotMax, dotMin, residual, sizeAt, eMin, eMax, nearestTo0, leastSize, totalLoss, cost, bound}
-use Rattle.residuals.specs.Laws.{AllBounds, LeastLoss, Small, SmallResidual}
+use Rattle.residuals.specs.Cost.{at, dot, dotMax, dotMin, least, residual, sizeAt, eMin, eMax, nearestTo0, leastSize, unlessGap, totalLoss, leastAt, cost, leastOver, bound}
+use Rattle.residuals.specs.Laws.{AllBounds, PointBounds, lossSum, LeastLoss, Small, SmallResidual}
 use Rattle.residuals.specs.Inside.{boxOf}
-use Rattle.residuals.proofs.Least.{least-mono, loss-of-least}
+use Rattle.residuals.proofs.Least.{least-mono, loss-of-point, unless-mono}
 
 -- the least size between two ends is at most the size of each number between them
 nearest-le : (a b e : ℤ) → a ≤ℤ e → e ≤ℤ b → nearestTo0 a b ≤ natAbs e
@@ -97,7 +97,7 @@ total-mono m f g h (q ∷ qs) =
     omega (
       arith,
       total-mono m f g h qs,
-      least-mono (λ j. loss (f q j)) (λ j. loss (g q j)) (λ j. loss-mono (m .p) (m .eps) (h q j)) (m .n),
+      unless-mono q (least-mono (λ j. loss (f q j)) (λ j. loss (g q j)) (λ j. loss-mono (m .p) (m .eps) (h q j)) (m .n)),
     )
 
 total-same : (m : Model) (f g : Point → ℕ → ℕ) → ((q : Point) (j : ℕ) → f q j ≡ g q j) →
@@ -115,8 +115,26 @@ bound-laws m qs =
           ∙ total-same m (leastSize m (boxOf v v)) (sizeAt m v) (size-one m v) qs;
     }
 
-pub least-loss : (p ε : ℕ) → LeastLoss p ε
-least-loss p ε = record { of-least = loss-of-least p ε }
+pub point-bounds : PointBounds
+unfolding leastOver leastAt
+point-bounds m q =
+    record {
+      sound = λ B v inside. unless-mono q (least-mono (leastSize m B q) (sizeAt m v q) (size-below m B v inside q) (m .n));
+      tight = λ B e.
+          let v = B .low in
+          ap (λ (h : List ℤ). unlessGap q (least (leastSize m (boxOf v h) q) (m .n))) (high-low B e)
+          ∙ ap (λ (f : ℕ → ℕ). unlessGap q (least f (m .n))) (λ i j. size-one m v q j i);
+    }
+
+total-of-least : (m : Model) (f : Point → ℕ → ℕ) (qs : List Point) →
+    totalLoss m f qs ≡ lossSum (m .p) (m .eps) (map (λ q. unlessGap q (least (f q) (m .n))) qs)
+unfolding totalLoss lossSum
+total-of-least m f [] = refl
+total-of-least m f (q ∷ qs) = ap₂ _+_ (loss-of-point (m .p) (m .eps) q (f q) (m .n)) (total-of-least m f qs)
+
+pub least-loss : (m : Model) (qs : List Point) → LeastLoss m qs
+unfolding cost bound leastAt leastOver
+least-loss m qs = record { of-cost = λ v. total-of-least m (sizeAt m v) qs; of-bound = λ B. total-of-least m (leastSize m B) qs }
 
 dot-small : (v : List ℤ) (b : ℕ) (x : List ℤ) → Small v → Small x → (k : ℕ) → natAbs (dot v b x k) ≤ k * 1073741824
 unfolding dot

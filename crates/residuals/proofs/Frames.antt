@@ -1,20 +1,23 @@
 -- No cost and no bound uses a frame number. Assumes nothing.
 use mathlib.Core.Path.{_≡_, refl}
+use mathlib.Core.Bool.{cond}
 use mathlib.Core.List.{List, [], _∷_, map}
 use Prim.Native.Nat.{ℕ, _+_}
 use Rattle.jobs.specs.declared.Model.{Model}
 use Rattle.loss.specs.Loss.{lossOf}
 use Rattle.points.specs.declared.Point.{Point}
-use Rattle.residuals.specs.Cost.{residual, least, totalLoss, sizeAt, cost, eMin, eMax, leastSize, bound}
+use Rattle.points.specs.Points.{isGap}
+use Rattle.residuals.specs.Cost.{residual, least, unlessGap, totalLoss, sizeAt, cost, eMin, eMax, leastSize, bound}
 use Rattle.residuals.specs.Laws.{framed, NoFrame}
 
 module _ (m : Model) (f : Point → ℕ) where
   -- a sum over sizes that are the same with another frame number
   same-total : (size : Point → ℕ → ℕ) → ((q : Point) → _≡_ {A = ℕ → ℕ} (size (framed f q)) (size q)) → (qs : List Point) →
       totalLoss m size (map (framed f) qs) ≡ totalLoss m size qs
-  unfolding totalLoss
+  unfolding totalLoss unlessGap
   same-total size same [] = refl
-  same-total size same (q ∷ qs) = λ i. least (λ j. lossOf (m .p) (m .eps) (same q i j)) (m .n) + same-total size same qs i
+  same-total size same (q ∷ qs) =
+      λ i. cond (isGap q) 0 (least (λ j. lossOf (m .p) (m .eps) (same q i j)) (m .n)) + same-total size same qs i
 
   pub no-frame : (qs : List Point) → NoFrame m qs f
   unfolding cost bound sizeAt residual leastSize eMin eMax

@@ -1,13 +1,18 @@
 -- The least of values over the lines, and the loss of the least size. Assumes nothing.
-use mathlib.Core.Path.{_≡_, refl, ap, _∙_}
+use mathlib.Core.Path.{_≡_, refl, sym, ap, _∙_}
+use mathlib.Core.Bool.{Bool, true, false, cond}
 use Prim.Native.Nat.{ℕ, zero, suc, _+_, _*_, _≤_, _<_, min}
 use native.Mathlib.Nat.{mul-le-mul, mul-le-mul-right, add-mul, min-eq-left, min-eq-right}
 use native.Mathlib.Numerals.{add-one}
 use native.Mathlib.Omega.{arith, min-cases}
 use borrow.Author.Tests.{lt-ltb}
+use lib.Dec.{T, ltb, ltb→lt}
+use Rattle.integers.proofs.Tests.{by-cond}
 use Rattle.loss.specs.Loss.{lossOf}
 use Rattle.loss.proofs.Laws.{loss-mono}
-use Rattle.residuals.specs.Cost.{least}
+use Rattle.points.specs.declared.Point.{Point}
+use Rattle.points.specs.Points.{isGap}
+use Rattle.residuals.specs.Cost.{least, unlessGap}
 use Rattle.residuals.specs.Inside.{leastFrom}
 
 -- one line more
@@ -23,17 +28,46 @@ least-mono f g h zero = omega arith
 least-mono f g h (suc zero) = h 0
 least-mono f g h (suc (suc n)) = omega (arith, least-mono f g h (suc n), h (suc n))
 
+-- a size of 0 costs nothing
+below-zero : (n : ℕ) → T (ltb n 0) → ⊥
+below-zero n t = let h : n < 0 = ltb→lt n 0 t in omega arith
+
+pub loss-zero : (p ε : ℕ) → lossOf p ε 0 ≡ 0
+unfolding lossOf
+loss-zero zero ε = by-cond (λ (n : ℕ). n ≡ 0) (ltb ε 0) (λ t. absurd (below-zero ε t)) (λ t. refl)
+loss-zero (suc zero) ε = omega arith
+loss-zero (suc (suc zero)) ε = omega arith
+loss-zero (suc (suc (suc p))) ε = refl
+
 -- "the least loss among the lines is the loss of the least |e|": one loss for each point is enough
-pub loss-of-least : (p ε : ℕ) (f : ℕ → ℕ) (n : ℕ) → 1 ≤ n → least (λ j. lossOf p ε (f j)) n ≡ lossOf p ε (least f n)
+loss-of-least : (p ε : ℕ) (f : ℕ → ℕ) (n : ℕ) → least (λ j. lossOf p ε (f j)) n ≡ lossOf p ε (least f n)
 unfolding least
-loss-of-least p ε f zero h = absurd (omega arith)
-loss-of-least p ε f (suc zero) h = refl
-loss-of-least p ε f (suc (suc n)) h =
-    ap (λ (m : ℕ). min m (lossOf p ε (f (suc n)))) (loss-of-least p ε f (suc n) (omega arith))
+loss-of-least p ε f zero = sym (loss-zero p ε)
+loss-of-least p ε f (suc zero) = refl
+loss-of-least p ε f (suc (suc n)) =
+    ap (λ (m : ℕ). min m (lossOf p ε (f (suc n)))) (loss-of-least p ε f (suc n))
     ∙ min-cases (least f (suc n)) (f (suc n))
     (min (lossOf p ε (least f (suc n))) (lossOf p ε (f (suc n))) ≡ lossOf p ε (min (least f (suc n)) (f (suc n))))
     (λ k e. rw e (min-eq-left (loss-mono p ε k)))
     (λ k e. rw e (min-eq-right (loss-mono p ε k)))
+
+-- so it is with a gap, where both are 0
+pub loss-of-point : (p ε : ℕ) (q : Point) (f : ℕ → ℕ) (n : ℕ) →
+    unlessGap q (least (λ j. lossOf p ε (f j)) n) ≡ lossOf p ε (unlessGap q (least f n))
+unfolding unlessGap
+loss-of-point p ε q f n = by-gap (isGap q)
+  where
+    by-gap : (gap : Bool) → cond gap 0 (least (λ j. lossOf p ε (f j)) n) ≡ lossOf p ε (cond gap 0 (least f n))
+    by-gap true = sym (loss-zero p ε)
+    by-gap false = loss-of-least p ε f n
+
+pub unless-mono : (q : Point) {a b : ℕ} → a ≤ b → unlessGap q a ≤ unlessGap q b
+unfolding unlessGap
+unless-mono q {a} {b} h = by-gap (isGap q)
+  where
+    by-gap : (gap : Bool) → cond gap 0 a ≤ cond gap 0 b
+    by-gap true = omega arith
+    by-gap false = h
 
 -- the least with a first value to start from
 pub from-more : (most : ℕ) (f : ℕ → ℕ) (j : ℕ) → leastFrom most f (j + 1) ≡ min (leastFrom most f j) (f j)

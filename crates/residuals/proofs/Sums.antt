@@ -12,9 +12,9 @@ use Rattle.jobs.specs.declared.Model.{Model}
 use Rattle.points.specs.declared.Point.{Point}
 use Rattle.points.specs.Points.{pointAt, firstPoints, pointsOf}
 use Rattle.points.proofs.Laws.{points-more, points-length}
-use Rattle.residuals.specs.Cost.{least, totalLoss}
+use Rattle.residuals.specs.Cost.{least, unlessGap, totalLoss}
 use Rattle.residuals.specs.Inside.{sumOf}
-use Rattle.residuals.proofs.Least.{loss-of-least}
+use Rattle.residuals.proofs.Least.{loss-of-point}
 
 pub sum-more : (f : ℕ → ℕ) (n : ℕ) → sumOf f (n + 1) ≡ sumOf f n + f n
 unfolding sumOf
@@ -26,25 +26,28 @@ sum-same f g zero h = refl
 sum-same f g (suc n) h = omega (arith, sum-same f g n (λ k p. h k (omega arith)), h n (omega arith))
 
 module _ (m : Model) (size : Point → ℕ → ℕ) where
-  total-snoc : (qs : List Point) (q : Point) →
-      totalLoss m size (qs ++ (q ∷ [])) ≡ totalLoss m size qs + least (λ j. lossOf (m .p) (m .eps) (size q j)) (m .n)
-  unfolding totalLoss
+  -- what a point adds
+  added : Point → ℕ
+  added q = unlessGap q (least (λ j. lossOf (m .p) (m .eps) (size q j)) (m .n))
+
+  total-snoc : (qs : List Point) (q : Point) → totalLoss m size (qs ++ (q ∷ [])) ≡ totalLoss m size qs + added q
+  unfolding totalLoss added
   total-snoc [] q = omega arith
   total-snoc (p ∷ qs) q = omega (arith, total-snoc qs q)
 
   -- the largest total under a threshold that check 4 lets through
-  total-le : 1 ≤ m .n → m .eps ≤ 16777215 → (qs : List Point) → totalLoss m size qs ≤ length qs * 281474943156225
+  total-le : m .eps ≤ 16777215 → (qs : List Point) → totalLoss m size qs ≤ length qs * 281474943156225
   unfolding totalLoss
-  total-le lines cut [] = omega arith
-  total-le lines cut (q ∷ qs) =
-      let of-least = loss-of-least (m .p) (m .eps) (size q) (m .n) lines in
-      omega (arith, total-le lines cut qs, of-least, loss-le (m .p) (m .eps) (least (size q) (m .n)) cut)
+  total-le cut [] = omega arith
+  total-le cut (q ∷ qs) =
+      let of-least = loss-of-point (m .p) (m .eps) q (size q) (m .n) in
+      omega (arith, total-le cut qs, of-least, loss-le (m .p) (m .eps) (unlessGap q (least (size q) (m .n))) cut)
 
   module _ (s : List ℕ) where
     -- the largest total of a store that check 1 lets through
     pub total-most : 1 ≤ m .n → m .eps ≤ 16777215 → length s ≤ 49152 → totalLoss m size (pointsOf s) ≤ 1152921367167897600
     unfolding pointsOf
-    total-most lines cut few = omega (arith, total-le lines cut (firstPoints s (length s / 12)), points-length s (length s / 12))
+    total-most lines cut few = omega (arith, total-le cut (firstPoints s (length s / 12)), points-length s (length s / 12))
 
     -- so that no cap of 64 bits is needed
     pub total-uncapped : 1 ≤ m .n → m .eps ≤ 16777215 → length s ≤ 49152 →
@@ -53,7 +56,7 @@ module _ (m : Model) (size : Point → ℕ → ℕ) where
 
     total-more : (i : ℕ) →
         totalLoss m size (firstPoints s (i + 1))
-        ≡ totalLoss m size (firstPoints s i) + least (λ j. lossOf (m .p) (m .eps) (size (pointAt s i) j)) (m .n)
+        ≡ totalLoss m size (firstPoints s i) + added (pointAt s i)
     total-more i = ap (totalLoss m size) (points-more s i) ∙ total-snoc (firstPoints s i) (pointAt s i)
 
     -- the sum over the first i records of a store, as a loop has it
@@ -67,13 +70,15 @@ module _ (m : Model) (size : Point → ℕ → ℕ) where
     none-summed = record { few = omega arith; total = refl; small = omega arith }
 
     -- one record more: the loss of its least size
-    pub one-summed : {i sum : ℕ} (loss : ℕ) → 1 ≤ m .n → m .eps ≤ 16777215 → i < length s / 12 →
-        loss ≡ lossOf (m .p) (m .eps) (least (size (pointAt s i)) (m .n)) → Summed i sum → Summed (i + 1) (sum + loss)
-    one-summed {i} {sum} loss lines cut h e g =
-        let a = least (size (pointAt s i)) (m .n) in
+    pub one-summed : {i sum : ℕ} (loss : ℕ) → m .eps ≤ 16777215 → i < length s / 12 →
+        loss ≡ lossOf (m .p) (m .eps) (unlessGap (pointAt s i) (least (size (pointAt s i)) (m .n))) → Summed i sum → Summed (i + 1) (sum + loss)
+    unfolding added
+    one-summed {i} {sum} loss cut h e g =
+        let q = pointAt s i in
+        let a = unlessGap q (least (size q) (m .n)) in
         record {
           few = omega arith;
-          total = omega (arith, g .total, e, total-more i, loss-of-least (m .p) (m .eps) (size (pointAt s i)) (m .n) lines);
+          total = omega (arith, g .total, e, total-more i, loss-of-point (m .p) (m .eps) q (size q) (m .n));
           small = omega (arith, g .small, e, loss-le (m .p) (m .eps) a cut);
         }
 

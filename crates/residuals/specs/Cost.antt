@@ -9,7 +9,7 @@ use Rattle.integers.specs.Integers.{maxZ, minZ}
 use Rattle.boxes.specs.declared.Box.{Box}
 use Rattle.jobs.specs.declared.Model.{Model}
 use Rattle.points.specs.declared.Point.{Point}
-use Rattle.points.specs.Points.{xs}
+use Rattle.points.specs.Points.{isGap, xs}
 use Rattle.loss.specs.Loss.{lossOf}
 
 -- coordinate k of a list, counted from 0
@@ -31,14 +31,22 @@ least f zero = 0
 least f (suc zero) = f 0
 least f (suc (suc n)) = min (least f (suc n)) (f (suc n))
 
--- The sum over the points of the least loss among the lines, where `size q j` stands for |e| of point q and line j.
+-- "A gap has loss 0 for every vector and box": a value found over a point's lines, and 0 for a gap.
+unfoldable pub unlessGap : Point → ℕ → ℕ
+unlessGap q value = cond (isGap q) 0 value
+
+-- The sum over the points of the least loss among the lines, where `size q j` stands for |e| of point q and line j; a gap adds 0.
 unfoldable pub totalLoss : Model → (Point → ℕ → ℕ) → List Point → ℕ
 totalLoss m size [] = 0
-totalLoss m size (q ∷ qs) = least (λ j. lossOf (m .p) (m .eps) (size q j)) (m .n) + totalLoss m size qs
+totalLoss m size (q ∷ qs) = unlessGap q (least (λ j. lossOf (m .p) (m .eps) (size q j)) (m .n)) + totalLoss m size qs
 
 -- |e| of point q and line j
 unfoldable pub sizeAt : Model → List ℤ → Point → ℕ → ℕ
 sizeAt m v q j = natAbs (residual m v q j)
+
+-- a point's least |e| over the lines, 0 for a gap
+unfoldable pub leastAt : Model → List ℤ → Point → ℕ
+leastAt m v q = unlessGap q (least (sizeAt m v q) (m .n))
 
 -- "The cost of a vector is the sum over the points of the least loss among its lines."
 unfoldable pub cost : Model → List Point → List ℤ → ℕ
@@ -69,6 +77,10 @@ nearestTo0 emin emax = cond (ltZ (pos 0) emin) (natAbs emin) (cond (ltZ emax (po
 -- "its least size over the box", of point q and line j
 unfoldable pub leastSize : Model → Box → Point → ℕ → ℕ
 leastSize m B q j = nearestTo0 (eMin m B q j) (eMax m B q j)
+
+-- a point's least size over a box, of all lines, 0 for a gap
+unfoldable pub leastOver : Model → Box → Point → ℕ
+leastOver m B q = unlessGap q (least (leastSize m B q) (m .n))
 
 -- "The bound of a box is the same sum with |e| replaced by its least size over the box."
 unfoldable pub bound : Model → List Point → Box → ℕ

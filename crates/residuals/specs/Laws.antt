@@ -1,7 +1,7 @@
 -- What is shown of costs and bounds. The proofs stand in proofs/Bounds.antt, and of frame numbers in proofs/Frames.antt.
-use mathlib.Core.List.{List, _∷_, map}
+use mathlib.Core.List.{List, [], _∷_, map}
 use mathlib.Core.Path.{_≡_}
-use Prim.Native.Nat.{ℕ, _≤_}
+use Prim.Native.Nat.{ℕ, _+_, _≤_}
 use lib.IntN.{ℤ, natAbs}
 use Rattle.boxes.specs.declared.Box.{Box}
 use Rattle.boxes.specs.Laws.{Bounds}
@@ -9,16 +9,26 @@ use Rattle.jobs.specs.declared.Model.{Model}
 use Rattle.loss.specs.Loss.{lossOf}
 use Rattle.points.specs.declared.Point.{Point}
 use Rattle.points.specs.Points.{xs}
-use Rattle.residuals.specs.Cost.{at, least, residual, cost, bound}
+use Rattle.residuals.specs.Cost.{at, residual, leastAt, cost, leastOver, bound}
 
 -- "This is Lemma 2 of source document 000 under the saturated losses. A box of one vector has that vector's cost as its bound.": the two
 -- laws of boxes/specs/Laws.antt, of any model and points
 abbrev pub AllBounds : Type 0
 AllBounds = (m : Model) (qs : List Point) → Bounds (cost m qs) (bound m qs)
 
--- The least loss among the lines is the loss of the least |e|.
-pub record LeastLoss (p ε : ℕ) : Type 0 where
-  pub of-least : (size : ℕ → ℕ) (n : ℕ) → 1 ≤ n → least (λ j. lossOf p ε (size j)) n ≡ lossOf p ε (least size n)
+-- The same two laws of one point's least size over a box and its least |e| under a vector, sample or gap.
+abbrev pub PointBounds : Type 0
+PointBounds = (m : Model) (q : Point) → Bounds (λ v. leastAt m v q) (λ B. leastOver m B q)
+
+-- the sum of the losses of sizes
+unfoldable pub lossSum : ℕ → ℕ → List ℕ → ℕ
+lossSum p ε [] = 0
+lossSum p ε (a ∷ sizes) = lossOf p ε a + lossSum p ε sizes
+
+-- The least loss among the lines is the loss of the least |e|: cost and bound are made of the points' least sizes alone.
+pub record LeastLoss (m : Model) (qs : List Point) : Type 0 where
+  pub of-cost : (v : List ℤ) → cost m qs v ≡ lossSum (m .p) (m .eps) (map (leastAt m v) qs)
+  pub of-bound : (B : Box) → bound m qs B ≡ lossSum (m .p) (m .eps) (map (leastOver m B) qs)
 
 -- a point with the frame number that f gives it
 abbrev pub framed : (Point → ℕ) → Point → Point

@@ -1,5 +1,6 @@
--- An all-zero point has size 0. Assumes nothing.
+-- An all-zero point has size 0, as a gap has. Assumes nothing.
 use mathlib.Core.Path.{_≡_, refl, ap, _∙_}
+use mathlib.Core.Bool.{Bool, true, false, cond}
 use mathlib.Core.List.{List}
 use Prim.Native.Nat.{ℕ, zero, suc, _+_, _*_, _^_, _≤_, _<_}
 use native.Mathlib.Nat.{mul-zero}
@@ -12,10 +13,11 @@ use Rattle.integers.proofs.Parts.{abs-add, abs-sub, abs-mul}
 use Rattle.integers.proofs.Tests.{by-cond}
 use Rattle.boxes.specs.declared.Box.{Box}
 use Rattle.jobs.specs.declared.Model.{Model}
-use Rattle.points.specs.Points.{xs}
-use Rattle.residuals.specs.Cost.{at, dot, dotMax, dotMin, residual, sizeAt, eMin, eMax, leastSize, nearestTo0}
-use Rattle.columns.specs.Columns.{nowhere}
-use Rattle.slots.specs.Laws.{EmptySlot}
+use Rattle.points.specs.declared.Point.{Point}
+use Rattle.points.specs.Points.{isGap, xs}
+use Rattle.residuals.specs.Cost.{at, dot, dotMax, dotMin, residual, least, unlessGap, sizeAt, leastAt, eMin, eMax, leastSize, leastOver, nearestTo0}
+use Rattle.columns.specs.Columns.{nowhere, placed}
+use Rattle.slots.specs.Laws.{EmptySlot, PlacedPoint}
 
 no-x : (k : ℕ) → natAbs (at (xs nowhere) k) ≡ 0
 no-x zero = refl
@@ -72,3 +74,27 @@ no-least m B j =
 
 pub empty-slot : (m : Model) → EmptySlot m
 empty-slot m = record { at-vector = no-size m; over-box = no-least m }
+
+-- where every size is 0, so is the least
+pub least-zero : (f : ℕ → ℕ) (n : ℕ) → ((j : ℕ) → f j ≡ 0) → least f n ≡ 0
+unfolding least
+least-zero f zero z = refl
+least-zero f (suc zero) z = z 0
+least-zero f (suc (suc n)) z = omega (arith, z (suc n))
+
+-- what is placed in a slot has its point's least size
+pub placed-least : (size : Point → ℕ → ℕ) → ((j : ℕ) → size nowhere j ≡ 0) → (q : Point) (n : ℕ) → least (size (placed q)) n ≡ unlessGap q (least (size q) n)
+unfolding placed unlessGap
+placed-least size none q n = by-gap (isGap q)
+  where
+    by-gap : (gap : Bool) → least (size (cond gap nowhere q)) n ≡ cond gap 0 (least (size q) n)
+    by-gap true = least-zero (size nowhere) n none
+    by-gap false = refl
+
+pub placed-point : (m : Model) (q : Point) → PlacedPoint m q
+unfolding leastAt leastOver
+placed-point m q =
+    record {
+      at-vector = λ v. placed-least (sizeAt m v) (no-size m v) q (m .n);
+      over-box = λ B. placed-least (leastSize m B) (no-least m B) q (m .n);
+    }

@@ -4,35 +4,19 @@ use mathlib.Core.List.{List}
 use mathlib.Core.Logic.{⊎-elim}
 use Prim.Native.Nat.{ℕ, zero, suc, _+_, _*_, _/_, _%_, _≤_, _<_, min}
 use native.Mathlib.Omega.{arith}
-use lib.Dec.{T, ltb, ltb→lt}
 use lib.ListN.{length}
-use Rattle.integers.proofs.Tests.{by-cond, le-or-lt}
+use Rattle.integers.proofs.Tests.{le-or-lt}
 use Rattle.jobs.specs.declared.Model.{Model}
 use Rattle.loss.specs.Loss.{lossOf}
 use Rattle.points.specs.declared.Point.{Point}
 use Rattle.points.specs.Points.{pointAt}
-use Rattle.residuals.specs.Cost.{least}
+use Rattle.residuals.specs.Cost.{least, unlessGap}
 use Rattle.residuals.specs.Inside.{leastFrom, sumOf}
-use Rattle.residuals.proofs.Least.{loss-from}
+use Rattle.residuals.proofs.Least.{loss-zero, loss-from}
 use Rattle.residuals.proofs.Sums.{Summed, none-summed, one-summed}
-use Rattle.columns.specs.Columns.{nowhere, number, slot}
+use Rattle.columns.specs.Columns.{nowhere, number, placed, slot}
 use Rattle.columns.proofs.Places.{slot-found, slot-full, slot-past}
-
--- where every size is 0, so is the loss
-from-zero : (most : ℕ) (f : ℕ → ℕ) (n : ℕ) → ((j : ℕ) → f j ≡ 0) → 1 ≤ n → leastFrom most f n ≡ 0
-unfolding leastFrom
-from-zero most f zero z h = absurd (omega arith)
-from-zero most f (suc n) z h = omega (arith, z n)
-
-below-zero : (n : ℕ) → T (ltb n 0) → ⊥
-below-zero n t = let h : n < 0 = ltb→lt n 0 t in omega arith
-
-loss-zero : (p ε : ℕ) → lossOf p ε 0 ≡ 0
-unfolding lossOf
-loss-zero zero ε = by-cond (λ (n : ℕ). n ≡ 0) (ltb ε 0) (λ t. absurd (below-zero ε t)) (λ t. refl)
-loss-zero (suc zero) ε = omega arith
-loss-zero (suc (suc zero)) ε = omega arith
-loss-zero (suc (suc (suc p))) ε = refl
+use Rattle.slots.proofs.Empty.{least-zero, placed-least}
 
 -- ---- the slots of a chunk, one after the other
 module _ (m : Model) (size : Point → ℕ → ℕ) (s : List ℕ) (lines : 1 ≤ m .n) (cut : m .eps ≤ 16777215) (none : (j : ℕ) → size nowhere j ≡ 0) where
@@ -40,15 +24,17 @@ module _ (m : Model) (size : Point → ℕ → ℕ) (s : List ℕ) (lines : 1 �
   abbrev pub slotLoss : ℕ → ℕ → ℕ
   slotLoss t k = lossOf (m .p) (m .eps) (leastFrom (m .eps + 1) (size (slot s t k)) (m .n))
 
+  loss-in : (t k : ℕ) (q : Point) → slot s t k ≡ q → slotLoss t k ≡ lossOf (m .p) (m .eps) (least (size q) (m .n))
+  loss-in t k q e =
+      ap (λ (q : Point). lossOf (m .p) (m .eps) (leastFrom (m .eps + 1) (size q) (m .n))) e ∙ loss-from (m .p) (m .eps) (size q) (m .n) lines
+
   -- how many records stand in the first k slots of chunk t, and in the chunks before it
   abbrev reached : ℕ → ℕ → ℕ
   reached t k = min (length s / 12) (t * 76 + k / 20 * 19 + min (k % 20) 19)
 
   empty : (t k : ℕ) → slot s t k ≡ nowhere → slotLoss t k ≡ 0
   empty t k e =
-      ap (λ (q : Point). lossOf (m .p) (m .eps) (leastFrom (m .eps + 1) (size q) (m .n))) e
-      ∙ ap (lossOf (m .p) (m .eps)) (from-zero (m .eps + 1) (size nowhere) (m .n) none lines)
-      ∙ loss-zero (m .p) (m .eps)
+      loss-in t k nowhere e ∙ ap (lossOf (m .p) (m .eps)) (least-zero (size nowhere) (m .n) none) ∙ loss-zero (m .p) (m .eps)
 
   nothing-more : (t k sum i j : ℕ) → i ≡ j → slotLoss t k ≡ 0 → Summed m size s i (sum + sumOf (slotLoss t) k) → Summed m size s j (sum + (sumOf (slotLoss t) k + slotLoss t k))
   nothing-more t k sum i j e z g =
@@ -66,9 +52,10 @@ module _ (m : Model) (size : Point → ℕ → ℕ) (s : List ℕ) (lines : 1 �
       let here : reached t k ≡ number t k = omega arith in
       let next : number t k + 1 ≡ reached t (suc k) = omega arith in
       let f : sum + sumOf (slotLoss t) k + slotLoss t k ≡ sum + (sumOf (slotLoss t) k + slotLoss t k) = omega arith in
-      let loss : slotLoss t k ≡ lossOf (m .p) (m .eps) (least (size (pointAt s (number t k))) (m .n)) =
-      ap (λ (q : Point). lossOf (m .p) (m .eps) (leastFrom (m .eps + 1) (size q) (m .n))) (slot-found s t k h l) ∙ loss-from (m .p) (m .eps) (size (pointAt s (number t k))) (m .n) lines in
-      subst₂ (Summed m size s) next f (one-summed m size s (slotLoss t k) lines cut l loss (subst (λ (i : ℕ). Summed m size s i (sum + sumOf (slotLoss t) k)) here g)))
+      let q = pointAt s (number t k) in
+      let loss : slotLoss t k ≡ lossOf (m .p) (m .eps) (unlessGap q (least (size q) (m .n))) =
+      loss-in t k (placed q) (slot-found s t k h l) ∙ ap (lossOf (m .p) (m .eps)) (placed-least size none q (m .n)) in
+      subst₂ (Summed m size s) next f (one-summed m size s (slotLoss t k) cut l loss (subst (λ (i : ℕ). Summed m size s i (sum + sumOf (slotLoss t) k)) here g)))
       (le-or-lt (length s / 12) (number t k)))
       (le-or-lt 19 (k % 20))
 

@@ -1,7 +1,7 @@
 //! Random jobs and stores, sound ones and damaged ones.
 
 use crate::random::Random;
-use oracle::points::{store_of, Point};
+use oracle::points::{store_of, Point, GAP_Y, RECORD};
 use oracle::{Box8, Job, Model, Vector};
 
 /// The shapes that check 2 accepts.
@@ -72,6 +72,28 @@ pub fn points(random: &mut Random, d: u8, count: usize, size: Size) -> Vec<Point
     (0..count).map(|_| point()).collect()
 }
 
+/// In one store of four, gaps: a few of the records, about half of them or all; the rest now and then at the ends of y's
+/// range. A record's x and frame stay, so that a gap may have any.
+fn put_gaps(random: &mut Random, points: &mut [Point]) {
+    if random.once_in(4) {
+        let eighths = random.pick(&[1, 4, 8]);
+        for point in points {
+            if random.below(8) < eighths {
+                point.y = GAP_Y;
+            } else if random.once_in(6) {
+                point.y = random.pick(&[GAP_Y + 1, i16::MAX]);
+            }
+        }
+    }
+}
+
+/// Every record of the store becomes a gap.
+pub fn make_gaps(store: &mut [u8]) {
+    for record in store.chunks_exact_mut(RECORD) {
+        record[8..10].copy_from_slice(&GAP_Y.to_be_bytes());
+    }
+}
+
 /// Mostly a few records, now and then the largest stores.
 fn record_count(random: &mut Random) -> usize {
     match random.below(60) {
@@ -119,7 +141,8 @@ pub fn sound(random: &mut Random) -> Input {
     let domain = domain_around(random, &model, reach);
     let start = inside(random, &domain);
     let count = record_count(random);
-    let points = points(random, model.d, count, size);
+    let mut points = points(random, model.d, count, size);
+    put_gaps(random, &mut points);
     meet_a_residual(random, &mut model, &points, &start);
     let t = random.pick(&[0, 1, 5, u64::MAX]);
     let job = Job { model, t, budget: random.below(40) as u32, rows: random.below(40) as u32, domain, start };
@@ -150,7 +173,8 @@ pub fn small(random: &mut Random, limit: u64) -> Input {
     let hidden = inside(random, &domain);
     let start = if random.once_in(8) { hidden } else { inside(random, &domain) };
     let count = random.size(1, 14);
-    let points = near_lines(random, &model, &hidden, count);
+    let mut points = near_lines(random, &model, &hidden, count);
+    put_gaps(random, &mut points);
     meet_a_residual(random, &mut model, &points, &start);
     let rows = random.below(20) as u32;
     Input { job: Job { model, t: 0, budget: 0, rows, domain, start }, store: store_of(&points) }

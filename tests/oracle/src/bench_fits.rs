@@ -111,6 +111,18 @@ fn j_solved_with_more_rows() {
     assert_eq!(fit_of(&job(0, 0, 7, 10, 4), &[1, 6, 6]), line);
 }
 
+/// Gaps change nothing of fit G but the records, and a store of nothing but gaps is solved before any split.
+#[test]
+fn searches_over_gaps() {
+    let line = "solved cost=2 bound=2 splits=1 open=0 peak=1 w=2\n";
+    assert_eq!(fit_of(&job(1, 2, 3, 10, 4), &[-32768, 2, -32768, 2, 9, -32768]), line);
+    for p in 0..3 {
+        let line = "solved cost=0 bound=0 splits=0 open=0 peak=0 w=0\n";
+        assert_eq!(fit_of(&job(p, 2, 3, 10, 4), &[-32768; 5]), line);
+        assert_eq!(fit_of(&job(p, 2, 3, 0, 1), &[-32768]), line);
+    }
+}
+
 #[test]
 fn k_patterns() {
     assert_eq!(write_line(1, 1, &[-3, 0, 0, 0]), Ok([0xBFC0_0000, 0, 0, 0]));

@@ -6,6 +6,8 @@ use crate::refusal::{refuse_if, Refusal};
 
 /// A vector: line after line, d coordinates each, then zeros.
 pub type Vector = [i16; 8];
+/// The label of a gap, request 2 of document 02.
+pub const GAP_LABEL: u8 = 6;
 
 /// What a cost is made with: n lines in d dimensions, the scale S, the loss p and its threshold ε.
 #[derive(Clone, Copy, Debug, PartialEq, Eq)]
@@ -92,22 +94,33 @@ impl Model {
         }
     }
 
-    /// The cost of a vector over points, without checks.
+    /// The least |e| of a point over the lines of a vector, 0 for a gap.
+    pub fn least_at(&self, point: &Point, vector: &Vector) -> i64 {
+        if point.is_gap() {
+            0
+        } else {
+            self.lines().map(|j| self.residual(point, vector, j).abs()).min().unwrap()
+        }
+    }
+
+    /// The least size of a point over the lines and the box, 0 for a gap.
+    pub fn least_over(&self, point: &Point, domain: &Box8) -> i64 {
+        if point.is_gap() {
+            0
+        } else {
+            self.lines().map(|j| self.least_size(point, domain, j)).min().unwrap()
+        }
+    }
+
+    /// The cost of a vector over points, without checks. No loss falls where |e| grows, so that the least loss among
+    /// the lines is that of the least |e|.
     pub fn cost_of(&self, points: &[Point], vector: &Vector) -> u64 {
-        let least = |point: &Point| {
-            let loss_of_line = |j| self.loss_of(self.residual(point, vector, j));
-            self.lines().map(loss_of_line).min().unwrap()
-        };
-        points.iter().map(least).sum()
+        points.iter().map(|point| self.loss_of(self.least_at(point, vector))).sum()
     }
 
     /// The bound of a box over points, without checks.
     pub fn bound_of(&self, points: &[Point], domain: &Box8) -> u64 {
-        let least = |point: &Point| {
-            let loss_of_line = |j| self.loss_of(self.least_size(point, domain, j));
-            self.lines().map(loss_of_line).min().unwrap()
-        };
-        points.iter().map(least).sum()
+        points.iter().map(|point| self.loss_of(self.least_over(point, domain))).sum()
     }
 
     /// The loss of e, without checks.
@@ -124,8 +137,11 @@ impl Model {
         }
     }
 
-    /// A point's label: the line (1 to n) with the least |e|, lowest among equals, if that |e| ≤ ε; else 0.
+    /// A point's label: 6 for a gap; the line (1 to n) with the least |e|, lowest among equals, if that |e| ≤ ε; else 0.
     pub fn label_of(&self, point: &Point, vector: &Vector) -> u8 {
+        if point.is_gap() {
+            return GAP_LABEL;
+        }
         let size = |j: usize| self.residual(point, vector, j).unsigned_abs();
         let nearest = self.lines().min_by_key(|&j| (size(j), j)).unwrap();
         if size(nearest) <= self.epsilon as u64 {
@@ -212,11 +228,66 @@ mod tests {
     #[test]
     fn largest_residual_and_cost() {
         let model = Model { n: 1, d: 4, s: 15, p: 2, epsilon: 16_777_215 };
-        let point = Point { x: [-32768; 4], y: -32768, frame: 0 };
+        let gap = Point { x: [-32768; 4], y: -32768, frame: 0 };
         let vector = [-32768, -32768, -32768, -32768, 0, 0, 0, 0];
-        assert_eq!(model.residual(&point, &vector, 0), -5_368_709_120);
-        let store = store_of(&vec![point; 4096]);
-        assert_eq!(cost(&model, &store, &vector), Ok(1_152_921_367_167_897_600));
+        assert_eq!(model.residual(&gap, &vector, 0), -5_368_709_120);
+        assert_eq!(cost(&model, &store_of(&[gap]), &vector), Ok(0));
+        let least = Point { y: -32767, ..gap };
+        assert_eq!(model.residual(&least, &vector, 0), -5_368_676_352);
+        assert_eq!(cost(&model, &store_of(&vec![least; 4096]), &vector), Ok(1_152_921_367_167_897_600));
+    }
+
+    /// One line, d = 1, S = 0; line 3 at x = 1 and the box 2..5.
+    #[test]
+    fn a_gap_has_loss_0_for_every_vector_and_box() {
+        let vector = [3, 0, 0, 0, 0, 0, 0, 0];
+        let domain = Box8 { low: [2, 0, 0, 0, 0, 0, 0, 0], high: [5, 0, 0, 0, 0, 0, 0, 0] };
+        let store =
+            |y: &[i16]| store_of(&y.iter().map(|&y| Point { x: [1, 0, 0, 0], y, frame: 0 }).collect::<Vec<_>>());
+        let square = Model { n: 1, d: 1, s: 0, p: 2, epsilon: 16_777_215 };
+        for (y, at, over) in [
+            (&[-32768][..], 0, 0),
+            (&[-32768; 9], 0, 0),
+            (&[-32767], 32770 * 32770, 32769 * 32769),
+            (&[32767], 32764 * 32764, 32762 * 32762),
+            (&[-32768, 1, -32768, 8], 4 + 25, 1 + 9),
+        ] {
+            assert_eq!(cost(&square, &store(y), &vector), Ok(at));
+            assert_eq!(bound(&square, &store(y), &domain), Ok(over));
+        }
+        for (p, of_sample) in [(0, 1), (1, 2)] {
+            let model = Model { p, epsilon: 2, ..square };
+            assert_eq!(cost(&model, &store(&[-32768, -32768]), &vector), Ok(0));
+            assert_eq!(cost(&model, &store(&[-32767, -32768]), &vector), Ok(of_sample));
+            assert_eq!(bound(&model, &store(&[-32768, -32768]), &domain), Ok(0));
+            assert_eq!(bound(&model, &store(&[32767, -32768]), &domain), Ok(of_sample));
+        }
+    }
+
+    /// S = 15 and x = 32,767: line 1 at w = -32,768 has e = -32,768 for y = -32,768, and e = 0 for y = -32,767.
+    #[test]
+    fn a_gap_is_labelled_6_even_on_a_line() {
+        let model = Model { n: 1, d: 1, s: 15, p: 0, epsilon: 32_768 };
+        let point = |y| Point { x: [32767, 0, 0, 0], y, frame: 0 };
+        let vector = [-32768, 0, 0, 0, 0, 0, 0, 0];
+        let mut out = [9; 4];
+        assert_eq!(labels(&model, &store_of(&[-32768, -32767, 32767].map(point)), &vector, &mut out), Ok(3));
+        assert_eq!(out, [6, 1, 0, 9]);
+        assert_eq!(model.residual(&point(-32768), &vector, 0), -32_768);
+    }
+
+    #[test]
+    fn gaps_are_records() {
+        let model = Model { n: 1, d: 1, s: 0, p: 1, epsilon: 5 };
+        let gap = Point { x: [1, 0, 0, 0], y: -32768, frame: 0 };
+        let store = store_of(&[gap, gap, gap]);
+        assert_eq!(labels(&model, &store, &[0; 8], &mut [0; 2]), Err(Refusal::Short));
+        assert_eq!(labels(&model, &store, &[0; 8], &mut [0; 3]), Ok(3));
+        let stray = store_of(&[gap, gap, Point { x: [1, 0, 0, 7], ..gap }]);
+        assert_eq!(cost(&model, &stray, &[0; 8]), Err(Refusal::Stray(2)));
+        assert_eq!(bound(&model, &stray, &Box8 { low: [0; 8], high: [0; 8] }), Err(Refusal::Stray(2)));
+        assert_eq!(labels(&model, &stray, &[0; 8], &mut [0; 3]), Err(Refusal::Stray(2)));
+        assert_eq!(cost(&model, &store_of(&vec![gap; 4097]), &[0; 8]), Err(Refusal::Length));
     }
 
     #[test]

@@ -8,6 +8,8 @@ pub const RECORD: usize = 12;
 pub const STORE_LIMIT: usize = 49_152;
 /// Bytes of the longest beacon body.
 pub const BEACON_LIMIT: usize = 236;
+/// The y of a sample that the board didn't take, request 2 of document 02.
+pub const GAP_Y: i16 = -32_768;
 
 /// A point record: x1 to x4, y and the frame number, which no cost uses.
 #[derive(Clone, Copy, Debug, PartialEq, Eq)]
@@ -18,6 +20,11 @@ pub struct Point {
 }
 
 impl Point {
+    /// Whether this record is a gap: y says so alone.
+    pub fn is_gap(&self) -> bool {
+        self.y == GAP_Y
+    }
+
     pub fn read(record: &[u8]) -> Point {
         let field = |k: usize| i16::from_be_bytes([record[2 * k], record[2 * k + 1]]);
         Point {
@@ -85,6 +92,15 @@ mod tests {
     }
 
     #[test]
+    fn a_gap_is_told_by_y_alone() {
+        let record = |y: [u8; 2]| Point::read(&[0x80, 0x00, 0, 0, 0, 0, 0, 0, y[0], y[1], 0x80, 0x00]);
+        assert!(record([0x80, 0x00]).is_gap());
+        for y in [[0x80, 0x01], [0x00, 0x80], [0x7F, 0xFF], [0x00, 0x00]] {
+            assert!(!record(y).is_gap());
+        }
+    }
+
+    #[test]
     fn lengths() {
         for bytes in [12, 24, 49_140, 49_152] {
             assert_eq!(check_length(bytes), Ok(()));
@@ -102,6 +118,14 @@ mod tests {
         assert_eq!(check_stray(&[clean, stray, stray], 3), Err(Refusal::Stray(1)));
         assert_eq!(check_stray(&[clean, stray, stray], 4), Ok(()));
         assert_eq!(check_stray(&[clean, clean], 1), Ok(()));
+    }
+
+    #[test]
+    fn gaps_are_records_and_their_x_are_checked() {
+        let gap = Point { x: [5, 0, 0, 0], y: GAP_Y, frame: 9 };
+        let stray = Point { x: [5, 0, 1, 0], ..gap };
+        assert_eq!(check_stray(&[gap, gap, stray], 1), Err(Refusal::Stray(2)));
+        assert_eq!(check_stray(&[gap, gap, stray], 3), Ok(()));
     }
 
     #[test]

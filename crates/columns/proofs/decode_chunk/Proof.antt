@@ -1,84 +1,57 @@
--- The loop's invariant: the columns before c are laid. The measure is what is left of those that d uses.
+-- By whether all y lie above a gap's.
 use mathlib.Core.Path.{_≡_, _∙_}
-use Prim.Native.Nat.{ℕ, _-_, _≤_, _<_, min}
 use native.Mathlib.Omega.{arith}
-use Rattle.columns.proofs.Laying.{Laid, none-laid, one-laid, all-laid, others-laid}
+use Rattle.columns.proofs.Decoding.{times-whole}
+use Rattle.columns.proofs.Marks.{mark, all-samples}
 use borrow.Author.Needs.{needs}
 use Rattle.columns.proofs.decode_chunk.Statement.{statement}
 use Rattle.columns.proofs.decode_chunk.Tie as tie
-use Rattle.columns.proofs.decode_chunk.Reads as reads
-use Rattle.columns.proofs.decode_chunk.Lts as lts
-use Rattle.columns.proofs.decode_column.Reads as decode-column-reads
-use Rattle.columns.proofs.used.Reads as used-reads
-use Rattle.lanes.proofs.known_columns.Reads as known-columns-reads
 
-abbrev Inv-loop : tie.InvT-loop
-Inv-loop chunk₀ store t d power c₀ c-end chunk c = Laid store t chunk₀ c chunk × (c ≤ c-end) × (c-end ≡ min d 4)
+decode-records-requires : tie.Need-decode-records-requires
+decode-records-requires c κs = search needs
 
-abbrev μ-loop : tie.MeasureT-loop
-μ-loop chunk₀ store t d power c₀ c-end chunk c = c-end - c
-
-known-columns-requires : tie.Need-known-columns-requires Inv-loop μ-loop
+known-columns-requires : tie.Need-known-columns-requires
 known-columns-requires c κs = search needs
 
-used-requires : tie.Need-used-requires Inv-loop μ-loop
-used-requires c κs = search needs
+index-1-all-above : tie.Need-index-1-all-above
+index-1-all-above c = search needs
 
-loop-holds : tie.Need-loop-holds Inv-loop μ-loop
-loop-holds c = (none-laid _ _ _ (c .before .known-columns .ensures), omega arith, c .used .ensures)
+int-to-float-all-above : tie.Need-int-to-float-all-above
+int-to-float-all-above c = tt
 
-mul-decode-column : tie.Need-mul-decode-column Inv-loop μ-loop
-mul-decode-column c = search needs
+int-to-float-all-above-2 : tie.Need-int-to-float-all-above-2
+int-to-float-all-above-2 c = tt
 
-index-1-decode-column : tie.Need-index-1-decode-column Inv-loop μ-loop
-index-1-decode-column c = search needs
+all-above-requires : tie.Need-all-above-requires
+all-above-requires c κs = search needs
 
-decode-column-requires : tie.Need-decode-column-requires Inv-loop μ-loop
-decode-column-requires c κs = search needs
-
-add-c : tie.Need-add-c Inv-loop μ-loop
-add-c c = search needs
-
-loop-less : tie.Need-loop-less Inv-loop μ-loop
-loop-less c = search needs
-
-loop-again : tie.Need-loop-again Inv-loop μ-loop
-loop-again c =
-    let p = c .before .before .before in
-    let v = p .loop .inv in
-    let i = c .before .before .loop-test .taken in
-    (one-laid _ _ _ (c .decode-column .last .0) (omega (arith, v .2)) (c .decode-column .ensures) (v .0), omega arith, v .2)
-
-index-1-decode-column-2 : tie.Need-index-1-decode-column-2 Inv-loop μ-loop
-index-1-decode-column-2 c = search needs
-
-decode-column-requires-2 : tie.Need-decode-column-requires-2 Inv-loop μ-loop
-decode-column-requires-2 c κs = search needs
-
-returns : tie.Need-returns Inv-loop μ-loop
+returns : tie.Need-returns
 returns c =
-    let p = c .before .before .before in
-    let s = p .before .before .before .before .before in
-    let v = p .loop .inv in
-    let few : p .loop .c ≡ min (s .args .d) 4 = omega (arith, v .2, c .before .before .loop-test .left) in
-    let power = s .fits .power .fits in
-    (all-laid _ _ _ (c .decode-column2 .last .0) few power (c .decode-column2 .ensures) (v .0), others-laid _ _ _ (c .decode-column2 .last .0) few power (c .decode-column2 .ensures) (v .0))
+    let b = c .before in
+    let d = b .before .before .before .before .before .decode-records in
+    let s = b .before .before .before .before .before .before .before .before in
+    let m = times-whole (s .args .power) (s .fits .power .fits) mark (omega arith) in
+    (all-samples (d .ensures .0) (m .whole) (b .all-above .ensures (c .if1 .taken)), d .ensures .1)
+
+empty-gaps-requires : tie.Need-empty-gaps-requires
+empty-gaps-requires c κs = search needs
+
+returns-2 : tie.Need-returns-2
+returns-2 c =
+    let d = c .before .before .before .before .before .before .before .before .decode-records in
+    let e = c .empty-gaps .ensures in
+    (e .0, λ n l h. e .1 n l h ∙ d .ensures .1 n l h)
 
 pub decode-chunk-spec : {M : Type 1} → statement M
 decode-chunk-spec =
     tie.close
     (tie.spec
-    Inv-loop
-    μ-loop
+    decode-records-requires
     known-columns-requires
-    used-requires
-    loop-holds
-    mul-decode-column
-    index-1-decode-column
-    decode-column-requires
-    add-c
-    loop-less
-    loop-again
-    index-1-decode-column-2
-    decode-column-requires-2
-    returns)
+    index-1-all-above
+    int-to-float-all-above
+    int-to-float-all-above-2
+    all-above-requires
+    returns
+    empty-gaps-requires
+    returns-2)

@@ -8,20 +8,20 @@ use oracle::points::{store_of, Point};
 use oracle::{write_job, Box8, Job, Model};
 
 /// Points of x1 and y.
-fn store(points: &[(i16, i16)]) -> Vec<u8> {
+pub(super) fn store(points: &[(i16, i16)]) -> Vec<u8> {
     let point = |&(x, y): &(i16, i16)| Point { x: [x, 0, 0, 0], y, frame: 0 };
     store_of(&points.iter().map(point).collect::<Vec<_>>())
 }
 
-fn vector(used: &[i16]) -> [i16; 8] {
+pub(super) fn vector(used: &[i16]) -> [i16; 8] {
     std::array::from_fn(|k| used.get(k).copied().unwrap_or(0))
 }
 
-fn row(low: &[i16], high: &[i16]) -> Vec<i16> {
+pub(super) fn row(low: &[i16], high: &[i16]) -> Vec<i16> {
     [vector(low), vector(high)].concat()
 }
 
-fn one_line(s: u8, p: u8, epsilon: u32) -> Model {
+pub(super) fn one_line(s: u8, p: u8, epsilon: u32) -> Model {
     Model { n: 1, d: 1, s, p, epsilon }
 }
 
@@ -78,12 +78,12 @@ pub fn f(calls: &dyn Calls, _: &mut Random) -> Outcome {
     same("fit F", (code, &halves[..]), (0, &expected[..]))
 }
 
-fn interval(high: i16, p: u8, epsilon: u32, budget: u32, rows: u32) -> Job {
+pub(super) fn interval(high: i16, p: u8, epsilon: u32, budget: u32, rows: u32) -> Job {
     let domain = Box8 { low: [0; 8], high: vector(&[high]) };
     Job { model: one_line(0, p, epsilon), t: 0, budget, rows, domain, start: [0; 8] }
 }
 
-fn fit_of(calls: &dyn Calls, job: &Job, y: &[i16], line: &str) -> Outcome {
+pub(super) fn fit_of(calls: &dyn Calls, job: &Job, y: &[i16], line: &str) -> Outcome {
     let mut input = write_job(job).to_vec();
     input.extend(store(&y.iter().map(|&y| (1, y)).collect::<Vec<_>>()));
     same("output", String::from_utf8_lossy(&calls.fit(&input)).as_ref(), line)

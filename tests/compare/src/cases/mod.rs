@@ -3,6 +3,7 @@
 mod beacon;
 mod bench;
 mod fit;
+mod gaps;
 mod lines;
 mod merge;
 mod model;
@@ -48,6 +49,10 @@ pub const GROUPS: &[Group] = &[
     group("bench-K-written", "write_line", 1, bench::k_written),
     group("bench-K-read", "read_line", 1, bench::k_read),
     group("bench-L", "take_in", 1, bench::l),
+    group("gaps-cost", "cost", 1, gaps::cost),
+    group("gaps-bound", "bound", 1, gaps::bound),
+    group("gaps-labels", "labels", 1, gaps::labels),
+    group("gaps-fit", "fit", 1, gaps::fit),
     group("loss", "loss", 3000, model::loss),
     group("cost", "cost", 4000, model::cost),
     group("bound", "bound", 4000, model::bound),
@@ -58,6 +63,7 @@ pub const GROUPS: &[Group] = &[
     group("merge-large", "merge", 60, merge::large),
     group("search-exhaustive", "search", 4000, search::exhaustive),
     group("search-wide", "search", 1000, search::wide),
+    group("search-gaps-alone", "search", 500, search::gaps_alone),
     group("search-damaged", "search", 2000, search::damaged),
     group("read_job", "read_job", 500, records::read_job),
     group("write_job", "write_job", 500, records::write_job),

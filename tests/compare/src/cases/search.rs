@@ -44,6 +44,24 @@ pub fn wide(calls: &dyn Calls, random: &mut Random) -> Outcome {
     with_case(run.compare(), || run.to_string())
 }
 
+/// Stores of nothing but gaps: every vector costs 0, and 0 is certified for any box, start, budget and table.
+pub fn gaps_alone(calls: &dyn Calls, random: &mut Random) -> Outcome {
+    let limit = random.pick(&[1, 2, 30, 300]);
+    let mut input = inputs::small(random, limit);
+    inputs::make_gaps(&mut input.store);
+    let volume = input.job.domain.volume().unwrap() as u64;
+    input.job.budget = random.pick(&[0, 1, 10, u32::MAX]);
+    input.job.t = random.pick(&[0, 1, u64::MAX]);
+    let rows = random.pick(&[1, 2, 200]);
+    let mut run = Run::new(random, input, 16 * rows, rows);
+    run.call(calls);
+    let outcome = run.promises(volume, rows).and_then(|()| {
+        same("C and L", &run.found.numbers.now()[..2], &[0, 0])?;
+        run.compare()
+    });
+    with_case(outcome, || run.to_string())
+}
+
 /// Damaged jobs, tables and lists of bounds that are too short and buffers of other lengths.
 pub fn damaged(calls: &dyn Calls, random: &mut Random) -> Outcome {
     let mut input = if random.once_in(2) { inputs::small(random, 50) } else { inputs::sound(random) };

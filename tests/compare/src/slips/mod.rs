@@ -1,6 +1,8 @@
 //! Do the cases notice a wrong product? Stand-ins made from the oracle, each with one slip, the paper's own
 //! "slips to expect" among them; every one must fail some case, and the one without a slip none.
 
+mod gaps;
+mod labels;
 mod merge;
 mod search;
 mod stand_in;
@@ -26,6 +28,16 @@ enum Slip {
     LabelsWithoutThreshold,
     LabelsHighestAmongEquals,
     LabelsClearTheRest,
+    // Gaps.
+    GapCosts,
+    GapBoundedAsASample,
+    GapMarkOneOff,
+    GapLabelledByNearestLine,
+    GapLabelledOutlier,
+    GapsUncountedInLabels,
+    GapsUncountedInStray,
+    GapStrayTaken,
+    GapsAloneRefused,
     // Checks.
     StrayFieldByField,
     StrayRecordAsValue,
@@ -100,12 +112,41 @@ enum Slip {
 /// Each call with the slips that its cases must notice.
 const SLIPS: &[(&str, &[Slip])] = &[
     ("split", &[HalvesTowardZero, CutsHighestCoordinate, OneVectorIsSplit]),
-    ("bound", &[PairsLowWithLow, WrongLengthTaken]),
+    (
+        "bound",
+        &[PairsLowWithLow, GapBoundedAsASample, GapMarkOneOff, GapStrayTaken, GapsUncountedInStray, WrongLengthTaken],
+    ),
     ("loss", &[SquaresBeforeTheCut, EpsilonItselfIsOut, LeastI64]),
-    ("cost", &[CostAtRefusal, StrayFieldByField, StrayRecordAsValue, StrayWithoutRecord, WrongLengthTaken]),
+    (
+        "cost",
+        &[
+            CostAtRefusal,
+            StrayFieldByField,
+            StrayRecordAsValue,
+            StrayWithoutRecord,
+            GapCosts,
+            GapMarkOneOff,
+            GapsUncountedInStray,
+            GapStrayTaken,
+            GapsAloneRefused,
+            WrongLengthTaken,
+        ],
+    ),
     (
         "labels",
-        &[EpsilonItselfIsOut, LabelsWithoutThreshold, LabelsHighestAmongEquals, LabelsClearTheRest, WrongLengthTaken],
+        &[
+            EpsilonItselfIsOut,
+            LabelsWithoutThreshold,
+            LabelsHighestAmongEquals,
+            LabelsClearTheRest,
+            GapMarkOneOff,
+            GapLabelledByNearestLine,
+            GapLabelledOutlier,
+            GapsUncountedInLabels,
+            GapsUncountedInStray,
+            GapStrayTaken,
+            WrongLengthTaken,
+        ],
     ),
     ("take_in", &[Beacon250, BeaconBeforeShort, MarkUnchecked, StorePastItsLimit]),
     (
@@ -158,6 +199,12 @@ const SLIPS: &[(&str, &[Slip])] = &[
             EntriesZero,
             EntriesReversed,
             EntriesPastPeakWritten,
+            GapCosts,
+            GapBoundedAsASample,
+            GapMarkOneOff,
+            GapsAloneRefused,
+            GapsUncountedInStray,
+            GapStrayTaken,
             WrongLengthTaken,
         ],
     ),
@@ -170,7 +217,7 @@ const SLIPS: &[(&str, &[Slip])] = &[
     ("read_answer", &[AnswerUnusedKept, WrongLengthTaken]),
     ("read_line", &[NegativeZeroRead, OffGridRounded, LastWUnread, OneWOff, UnusedPatternRead, WrongLengthTaken]),
     ("write_line", &[OneWOff, UnusedCoordinateWritten, WrongLengthTaken]),
-    ("fit", &[FitWithoutLineEnd, FitWithRecord, FitAllCoordinates]),
+    ("fit", &[FitWithoutLineEnd, FitWithRecord, FitAllCoordinates, GapMarkOneOff, GapStrayTaken]),
 ];
 
 /// Whether some case of the call's groups fails for the stand-in.

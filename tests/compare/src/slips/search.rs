@@ -38,9 +38,12 @@ impl StandIn {
 
     pub fn bound_of(&self, model: &Model, points: &[Point], domain: &Box8) -> u64 {
         if !self.slips(PairsLowWithLow) {
-            return model.bound_of(points, domain);
+            return self.bound_over(model, points, domain);
         }
         let least = |point: &Point| {
+            if point.is_gap() {
+                return 0;
+            }
             let ends = |j| [model.residual(point, &domain.high, j), model.residual(point, &domain.low, j)];
             let size = |[emin, emax]: [i64; 2]| if emin > 0 { emin } else { (-emax).max(0) };
             (0..model.n as usize).map(|j| model.loss_of(size(ends(j)))).min().unwrap()
@@ -59,7 +62,7 @@ impl StandIn {
     }
 
     fn begin(&self, job: &Job, points: &[Point]) -> State {
-        let c = job.model.cost_of(points, &job.start);
+        let c = self.cost_of(&job.model, points, &job.start);
         let mut list = vec![job.domain];
         self.keep_below(job, points, c, &mut list);
         State { best: job.start, c, count: 0, peak: list.len(), list }
@@ -87,7 +90,7 @@ impl StandIn {
         let (mut best, mut c) = (state.best, state.c);
         let children = if self.slips(RightChildUncosted) { vec![left] } else { vec![left, right] };
         for child in children {
-            let cost = job.model.cost_of(points, &child.low);
+            let cost = self.cost_of(&job.model, points, &child.low);
             if cost < c || self.slips(EqualCostBecomesBest) && cost == c {
                 (best, c) = (child.low, cost);
             }

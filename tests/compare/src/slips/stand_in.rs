@@ -5,8 +5,8 @@ use crate::calls::{refusal_code, Calls, Found, WRONG_LENGTH};
 use oracle::boxes::check_box;
 use oracle::coefficients::{coordinate_of, pattern};
 use oracle::model::check_shape;
-use oracle::points::{check_length, points_of, Point, STORE_LIMIT};
-use oracle::records::{answer_fields, check_answer};
+use oracle::points::{check_length, points_of, STORE_LIMIT};
+use oracle::records::{answer_fields, check_answer, JOB};
 use oracle::{AnswerRecord, Box8, Job, Model, Refusal, Vector};
 
 pub struct StandIn {
@@ -83,7 +83,9 @@ impl Calls for StandIn {
         let Some(vector) = self.eight(vector) else {
             return WRONG_LENGTH;
         };
-        let code = settle(oracle::cost(model, store, &vector), value);
+        let store = &self.read(store, model.d);
+        let checked = self.counted(store, oracle::cost(model, store, &vector));
+        let code = settle(checked.map(|_| self.cost_of(model, &points_of(store), &vector)), value);
         let stray = code % 256 == 7;
         match self.slip {
             CostAtRefusal if code != 0 => *value = 0,
@@ -104,7 +106,8 @@ impl Calls for StandIn {
         let Some(domain) = self.row(corners) else {
             return WRONG_LENGTH;
         };
-        let checked = oracle::bound(model, store, &domain);
+        let store = &self.read(store, model.d);
+        let checked = self.counted(store, oracle::bound(model, store, &domain));
         settle(checked.map(|_| self.bound_of(model, &points_of(store), &domain)), value)
     }
 
@@ -130,24 +133,8 @@ impl Calls for StandIn {
         let Some(vector) = self.eight(vector) else {
             return WRONG_LENGTH;
         };
-        let code = settle(oracle::labels(model, store, &vector, labels).map(|count| count as u64), value);
-        if code == 0 {
-            let points = points_of(store);
-            let size = |point: &Point, j: usize| model.residual(point, &vector, j).unsigned_abs();
-            for (label, point) in labels.iter_mut().zip(&points) {
-                let last = (0..model.n as usize).rev().min_by_key(|&j| size(point, j)).unwrap();
-                match self.slip {
-                    LabelsWithoutThreshold => *label = (*label).max(1),
-                    LabelsHighestAmongEquals if *label > 0 => *label = last as u8 + 1,
-                    EpsilonItselfIsOut if size(point, last) == model.epsilon as u64 => *label = 0,
-                    _ => {}
-                }
-            }
-            if self.slips(LabelsClearTheRest) {
-                labels[points.len()..].fill(0);
-            }
-        }
-        code
+        let store = &self.read(store, model.d);
+        settle(self.put_labels(model, store, &vector, labels), value)
     }
 
     fn take_in(&self, store: &mut [u8], mark: usize, beacon: &[u8], value: &mut u64) -> u32 {
@@ -198,7 +185,8 @@ impl Calls for StandIn {
             return WRONG_LENGTH;
         };
         let job = &Job { domain, start, ..*job };
-        match self.check_search(job, store, table.len(), bounds.len()) {
+        let store = &self.read(store, job.model.d);
+        match self.counted(store, self.check_search(job, store, table.len(), bounds.len())) {
             Ok(points) => {
                 let told = self.run(job, &points, table, bounds);
                 put(vector, &told.vector);
@@ -344,7 +332,9 @@ impl Calls for StandIn {
     }
 
     fn fit(&self, input: &[u8]) -> Vec<u8> {
-        let mut line = oracle::fit(input).into_bytes();
+        let (job, store) = input.split_at(input.len().min(JOB));
+        let d = job.get(1).copied().unwrap_or(0);
+        let mut line = oracle::fit(&[job, &self.read(store, d)].concat()).into_bytes();
         match self.slip {
             FitWithoutLineEnd => drop(line.pop()),
             FitWithRecord if line.starts_with(b"refused 7") => line = b"refused 7 0\n".to_vec(),

@@ -6,7 +6,7 @@ use Prim.Native.Nat.{ℕ, suc, _*_, _≤_, _<_}
 use native.Mathlib.Numerals.{add-one}
 use native.Mathlib.Omega.{arith}
 use Rattle.residuals.specs.Cost.{least, sizeAt}
-use Rattle.labels.specs.Labels.{firstLeast, label}
+use Rattle.labels.specs.Labels.{firstLeast, sampleLabel}
 use Rattle.residuals.specs.Inside.{sizeOf}
 use Rattle.labels.proofs.Labelling.{first-least}
 use Rattle.residuals.proofs.Sizes.{sizes-at}
@@ -56,14 +56,14 @@ cast-result : tie.Need-cast-result
 cast-result c = record { fits = omega (arith, line-small (c .before .before .before .before)) }
 
 returns : tie.Need-returns
-unfolding label
+unfolding sampleLabel
 returns c =
     let e = c .before .before .before .before in
     let h : least (sizes e) (start e .args .m .n) ≤ start e .args .m .eps = omega (arith, size-is e, c .before .if1 .taken) in
     simp (le-leb _ _ h) (add-one (e .nearest-line .result .line) ∙ ap suc (line-is e))
 
 returns-2 : tie.Need-returns-2
-unfolding label
+unfolding sampleLabel
 returns-2 c =
     let e = c .before .before .before in
     let h : start e .args .m .eps < least (sizes e) (start e .args .m .n) = omega (arith, size-is e, c .if1 .left) in
