@@ -63,12 +63,14 @@ uint32_t vengutari_split(uint8_t n, uint8_t d, const int16_t *corners, size_t co
 uint32_t vengutari_labels(const uint8_t *store, size_t store_len, uint8_t n, uint8_t d, uint8_t scale, uint8_t p, uint32_t eps,
                           const int16_t *vector, size_t vector_len, uint8_t *labels, size_t labels_len, uint64_t *value);
 
-/* Searches a box for the cheapest vector, splitting boxes at most budget times, until C - L is at most t. The rows of 16 numbers that
- * table has hold the open boxes, and the entries of bounds beside them their bounds. *value is the kind of the answer: 1 solved,
- * 2 spent, 3 full. vector takes the best vector, and numbers takes its cost C, the lower bound L for every vector of the box, the splits
- * counted, the open boxes and the peak of their number. The first rows of table are then the open boxes, and the first entries of bounds
- * their bounds; those from there up to the peak may hold leftovers; everything behind keeps what it held. Refusals 1 to 8, and 14 where
- * bounds has fewer entries than table has rows; 255 where corners_len is not 16, start_len or vector_len not 8, or numbers_len not 5. */
+/* Searches a box for the cheapest vector, splitting boxes at most budget times, until C - L is at most t; with t = 0 until no box is open,
+ * where the vector is the first of all vectors of least cost, comparing coordinate 1 first. The rows of 16 numbers that table has hold the
+ * open boxes, and the entries of bounds beside them their bounds. *value is the kind of the answer: 1 solved, 2 spent, 3 full; with t = 0
+ * a spent or full answer may have C = L. vector takes the best vector, and numbers takes its cost C, the lower bound L for every vector of
+ * the box, the splits counted, the open boxes and the peak of their number. The first rows of table are then the open boxes, and the first
+ * entries of bounds their bounds; those from there up to the peak may hold leftovers; everything behind keeps what it held. Refusals 1 to
+ * 8, and 14 where bounds has fewer entries than table has rows; 255 where corners_len is not 16, start_len or vector_len not 8, or
+ * numbers_len not 5. */
 uint32_t vengutari_search(const uint8_t *store, size_t store_len, uint8_t n, uint8_t d, uint8_t scale, uint8_t p, uint32_t eps,
                           uint64_t t, uint32_t budget, const int16_t *corners, size_t corners_len, const int16_t *start, size_t start_len,
                           int16_t *table, size_t table_len, uint64_t *bounds, size_t bounds_len, int16_t *vector, size_t vector_len,

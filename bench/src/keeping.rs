@@ -1,5 +1,5 @@
 //! A search in plain Rust that keeps the bounds beside its open boxes, so that each is found once: the measure that the proved one is held to.
-use crate::search::{Answer, Domain, Job, Kind, Progress};
+use crate::search::{Answer, Best, Domain, Job, Kind, Progress};
 
 /// The open boxes in list order, and their bounds.
 #[derive(Default)]
@@ -25,20 +25,37 @@ impl Open {
         (at, least)
     }
 
-    /// How many boxes but the one at `at` have bounds below `cost`.
-    fn kept(&self, at: usize, cost: u64) -> usize {
+    /// How many boxes but the one at `at` are kept.
+    fn kept(&self, at: usize, t: u64, best: &Best) -> usize {
         let others = self.bounds[..at].iter().chain(&self.bounds[at + 1..]);
-        others.filter(|b| **b < cost).count()
+        let below = others.filter(|bound| **bound < best.cost).count();
+        if t > 0 {
+            return below;
+        }
+        let all = self.bounds.iter().zip(&self.domains).enumerate();
+        let tied = all.filter(|(i, (bound, domain))| {
+            **bound == best.cost && *i != at && domain.low < best.vector
+        });
+        below + tied.count()
     }
 
-    /// Takes out the box at `at`, and those with bounds not below `cost`.
-    fn close_up(&mut self, at: usize, cost: u64) {
+    /// Takes out the box at `at`, and those that are not kept: `kept` of the others are.
+    fn close_up(&mut self, at: usize, kept: usize, t: u64, best: &Best) {
         self.domains.remove(at);
         self.bounds.remove(at);
-        let mut bounds = self.bounds.iter();
-        self.domains
-            .retain(|_| bounds.next().is_some_and(|b| *b < cost));
-        self.bounds.retain(|b| *b < cost);
+        if kept == self.bounds.len() {
+            return;
+        }
+        let mut stay = 0;
+        for i in 0..self.bounds.len() {
+            if best.is_behind(t, self.bounds[i], &self.domains[i].low) {
+                self.domains[stay] = self.domains[i];
+                self.bounds[stay] = self.bounds[i];
+                stay += 1;
+            }
+        }
+        self.domains.truncate(stay);
+        self.bounds.truncate(stay);
     }
 }
 
@@ -46,8 +63,8 @@ impl Open {
 #[inline(never)]
 pub fn search(job: &Job, open: &mut Open) -> Answer {
     let best = job.start();
-    let first = job.bound_up_to(&job.domain, best.cost);
-    if first < best.cost {
+    let first = job.bound_up_to(&job.domain, best.cost + 1);
+    if best.is_behind(job.t, first, &job.domain.low) {
         open.push(job.domain, first);
     }
     let peak = open.bounds.len();
@@ -58,18 +75,21 @@ pub fn search(job: &Job, open: &mut Open) -> Answer {
     };
     loop {
         let (at, bound) = open.smallest(progress.best.cost);
-        if let Some(kind) = progress.ended(job, bound) {
+        if let Some(kind) = progress.ended(job, bound, open.bounds.len()) {
             return progress.answer(kind, bound, open.bounds.len());
         }
         let (left, right) = open.domains[at].cut();
         let new = job.tried(job.tried(progress.best, left.low), right.low);
-        let halves = [left, right].map(|half| (half, job.bound_up_to(&half, new.cost)));
-        let below = halves.iter().filter(|(_, bound)| *bound < new.cost);
-        if open.kept(at, new.cost) + below.clone().count() > job.rows {
+        let halves = [left, right].map(|half| (half, job.bound_up_to(&half, new.cost + 1)));
+        let kept = halves
+            .iter()
+            .filter(|(half, bound)| new.is_behind(job.t, *bound, &half.low));
+        let stay = open.kept(at, job.t, &new);
+        if stay + kept.clone().count() > job.rows {
             return progress.answer(Kind::Full, bound, open.bounds.len());
         }
-        open.close_up(at, new.cost);
-        below.for_each(|(half, bound)| open.push(*half, *bound));
+        open.close_up(at, stay, job.t, &new);
+        kept.for_each(|(half, bound)| open.push(*half, *bound));
         progress.split(new, open.bounds.len());
     }
 }

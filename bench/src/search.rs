@@ -43,6 +43,14 @@ pub struct Best {
     pub cost: u64,
 }
 
+impl Best {
+    /// Whether a cost, or the bound of a box with this low vector, is below C; for t = 0 also whether it is C and the vector
+    /// comes before best.
+    pub fn is_behind(&self, t: u64, number: u64, vector: &[i16; 8]) -> bool {
+        number < self.cost || (t == 0 && number == self.cost && *vector < self.vector)
+    }
+}
+
 impl Job {
     /// The start vector is the first best one.
     pub fn start(&self) -> Best {
@@ -52,10 +60,10 @@ impl Job {
         }
     }
 
-    /// A vector becomes best only if it is cheaper.
+    /// A vector becomes best only if it is cheaper or, for t = 0, as cheap and earlier.
     pub fn tried(&self, best: Best, vector: [i16; 8]) -> Best {
-        let cost = cost_up_to(&self.store, self.model, &vector, best.cost);
-        if cost < best.cost {
+        let cost = cost_up_to(&self.store, self.model, &vector, best.cost + 1);
+        if best.is_behind(self.t, cost, &vector) {
             Best { vector, cost }
         } else {
             best
@@ -76,8 +84,12 @@ pub struct Progress {
 
 impl Progress {
     /// Solved or spent, where the search ends before the next split.
-    pub fn ended(&self, job: &Job, bound: u64) -> Option<Kind> {
-        if self.best.cost - bound <= job.t {
+    pub fn ended(&self, job: &Job, bound: u64, open: usize) -> Option<Kind> {
+        let solved = match job.t {
+            0 => open == 0,
+            t => self.best.cost - bound <= t,
+        };
+        if solved {
             Some(Kind::Solved)
         } else if self.count == job.budget {
             Some(Kind::Spent)

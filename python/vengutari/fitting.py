@@ -12,6 +12,8 @@ from .problems import BadInput, BadUse
 MARGIN = Fraction(4)
 # A wide box holds the lines that stay within the range of y, widened by this much of its span on either side.
 WIDENED = 1
+# The least gap: it allows no distance of cost and bound, and any of the lines of least cost.
+ANY_OF_THE_BEST = Fraction(1, 2**64)
 
 
 @dataclass
@@ -254,7 +256,7 @@ def wide_search(library, made, samples, store, progress):
     job = run.Job(store, model, *scaling.outward(low, high, scale), [])
     found = [scaling.rounded(Fraction(w, 2 ** (made.scaling.scale - scale)), Fraction(1)) for w in made.answer.vector]
     job.start = proposal.start_in(library, store, model, job.low, job.high, [found])
-    limits = dataclasses.replace(settings.limits, gap=Fraction(0))
+    limits = dataclasses.replace(settings.limits, gap=ANY_OF_THE_BEST)
     outcome = run.search(library, job, limits, progress and progress(Fraction(1)))
     fitted = sum(label not in (calls.OUTLIER, calls.GAP) for label in made.labels)
     return Wide(scales, job.low, job.high, outcome, fitted, len(samples))

@@ -32,11 +32,9 @@ LARGEST_COST = 1_152_921_367_167_897_600
 COLUMNS = ("x1", "x2", "x3", "x4", "y", "frame")
 # A loss by its name or its number.
 NAMED_LOSSES = {**LOSSES, **{str(p): p for p in LOSSES.values()}}
-MEANINGS = {
-    "solved": "no vector of the box costs less than the bound, and the cost is within the tolerance of it",
-    "spent": "the split budget is used up; the bound holds for the whole box",
-    "full": "the table has no row left; the bound holds for the whole box",
-}
+SOLVED = "no vector of the box costs less than the bound, and the cost is within the tolerance of it"
+# Why a search ended before it was solved.
+ENDS = {"spent": "the split budget is used up", "full": "the table has no row left"}
 
 
 class BadInput(BadUse):
@@ -263,7 +261,7 @@ def parse_line(line):
         if words[0] == "refused" and len(words) == 2:
             return {"refused": int(words[1])}
         fields = dict(word.split("=") for word in words[1:])
-        if words[0] not in MEANINGS or list(fields) != ["cost", "bound", "splits", "open", "peak", "w"]:
+        if words[0] not in KINDS.values() or list(fields) != ["cost", "bound", "splits", "open", "peak", "w"]:
             raise ValueError
         answer = {name: int(fields[name]) for name in ("cost", "bound", "splits", "open", "peak")}
         return {"kind": words[0], "w": [int(w) for w in fields["w"].split(",")], **answer}
@@ -290,9 +288,18 @@ def decode_answer(data):
     return {**fields, "n": n, "d": d, "S": scale}
 
 
+def meaning(answer):
+    """What an answer's kind says. With the tolerance 0 a search goes on where the bound equals the cost, to the first of equal vectors."""
+    if answer["kind"] == "solved":
+        return SOLVED
+    equal = answer["cost"] == answer["bound"]
+    known = "no vector of the box costs less, but an earlier one may cost the same" if equal else "the bound holds for the whole box"
+    return f"{ENDS[answer['kind']]}; {known}"
+
+
 def report(answer, d, scale, loss):
     """The answer in the user's units; costs too where the loss is known."""
-    lines = [f"{answer['kind']}: {MEANINGS[answer['kind']]}"]
+    lines = [f"{answer['kind']}: {meaning(answer)}"]
     for name, letter in (("cost", "C"), ("bound", "L")):
         unit = Fraction(1) if loss is None else cost_unit(scale, loss)
         lines.append(f"{name:<7}{shown(answer[name] * unit)}  ({letter} = {answer[name]})")
@@ -360,7 +367,8 @@ def add_commands(commands):
         help="range of the coefficients: one for all, or one each, line after line; write --box=-1:1 where it begins with -",
     )
     job.add_argument("--start", metavar="W[,..]", help="start vector: one value for all, or one each (default: the box's middle)")
-    job.add_argument("--tolerance", default="0", metavar="T", help="solved when cost - bound is at most T, in the cost's units (default 0)")
+    job.add_argument("--tolerance", default="0", metavar="T",
+                     help="solved when cost - bound is at most T, in the cost's units; 0 (default) asks for the first vector of least cost")
     job.add_argument("--budget", default="1000000", metavar="B", help="number of splits allowed (default 1000000)")
     job.add_argument("--rows", default=str(MOST_ROWS), metavar="R", help=f"rows of the table, 1 to {MOST_ROWS} (default {MOST_ROWS})")
     job.add_argument("--integers", action="store_true", help="epsilon, box, start and tolerance are the whole numbers of the records")

@@ -72,7 +72,8 @@ def add_fit(commands):
     box.add_argument("--wide", action="store_true", help="also search a wide box and say whether other lines there fit more points")
     limits = fit.add_argument_group("limits")
     limits.add_argument("--time-limit", default="60", metavar="SECONDS", help="for each search (default 60; 0 for none)")
-    limits.add_argument("--gap", default="0", metavar="PERCENT", help="solved when the bound is at most so much below the cost (default 0)")
+    limits.add_argument("--gap", default="0", metavar="PERCENT",
+                        help="solved when the bound is at most so much below the cost; 0 (default) asks for the first of the best lines")
     limits.add_argument("--rows", metavar="R", help="open boxes kept at most (default: as many as needed, up to half of the free memory)")
     limits.add_argument("--splits", metavar="B", help="splits at most (default: as many as needed)")
     add_outputs(fit)

@@ -143,10 +143,14 @@ def advice(fit):
     """What to do where the search is not solved."""
     if settled(fit):
         return None
-    found = f"these are the best lines found and the bound holds; the gap is {gap_text(fit.answer)}"
     more = {"time": "a longer --time-limit", "interrupt": "a longer run", "splits": "more --splits", "rows": "more --rows"}
     smaller = "a narrower --box" if fit.settings.box is not None else "a smaller --margin"
-    return f"{found}; to close it: {more[fit.outcome.stopped]}, {smaller} or a smaller --scale; or accept it with --gap"
+    remedies = f"{more[fit.outcome.stopped]}, {smaller} or a smaller --scale"
+    if fit.answer.cost == fit.answer.bound:
+        return ("no other lines cost less, but whether these are the first of those that cost the same is not decided; "
+                f"to find the first: {remedies}; or accept any of them with a --gap above 0")
+    found = f"these are the best lines found and the bound holds; the gap is {gap_text(fit.answer)}"
+    return f"{found}; to close it: {remedies}; or accept it with --gap"
 
 
 # The summary

@@ -46,7 +46,8 @@ class Outcome:
     """answer is that of one run of the library; stopped says why no more were made: solved, time, splits, rows or interrupt.
 
     t is the tolerance that the gap allows at this answer's cost. A run's own tolerance goes by the cost that it starts from, which may be
-    higher: an answer that is solved by that one and not by t is given as spent, as the library says of t and so many splits.
+    higher: an answer that is solved by that one and not by t is given as spent, as the library says of t and so many splits. One that is
+    solved by t is given as solved, also of a run with the tolerance 0, in which the library goes on to the first of equally good lines.
     """
 
     answer: object
@@ -137,9 +138,18 @@ class Runs:
         if self.best is None or answer.cost - answer.bound <= self.best.cost - self.best.bound:
             self.best = answer
 
-    def tolerance(self, cost):
+    def allowed(self, cost):
         """How far the bound may lie below a cost, by the gap."""
         return min(LARGEST_TOLERANCE, int(self.limits.gap * cost))
+
+    def tolerance(self, cost):
+        """What the gap allows at a cost. 0 asks the library for the first of equally good lines, so that with a gap it is 1 at least."""
+        return max(1, self.allowed(cost)) if self.limits.gap else 0
+
+    def next_tolerance(self, answer):
+        """That of the answer's cost; 0 where one of 1 would end with this answer again, which is outside the gap."""
+        again = self.allowed(answer.cost) == 0 and answer.cost - answer.bound <= 1
+        return 0 if again else self.tolerance(answer.cost)
 
     def next_splits(self, splits):
         """Twice the splits, or as many as the time left allows by the runs before, or None where that is hardly more than before."""
@@ -156,7 +166,7 @@ class Runs:
 
     def stopped(self, answer, splits):
         """Why the runs are over after this answer to so many splits, or None."""
-        if answer.kind == "solved" and answer.cost - answer.bound <= self.tolerance(answer.cost):
+        if answer.cost - answer.bound <= self.allowed(answer.cost) and (self.limits.gap or answer.kind == "solved"):
             return "solved"
         if answer.kind == "full":
             return "rows"
@@ -176,14 +186,15 @@ class Runs:
                 self.take(answer)
                 why = self.stopped(answer, splits)
                 if why is None:
-                    self.t = self.tolerance(answer.cost)
+                    self.t = self.next_tolerance(answer)
                     splits = self.next_splits(splits)
                     why = "time" if splits is None else None
         except KeyboardInterrupt:
             if self.best is None:
                 raise
             why = "interrupt"
-        answer = self.best._replace(kind="spent") if self.best.kind == "solved" and why != "solved" else self.best
+        kind = "solved" if why == "solved" else "spent" if self.best.kind == "solved" else self.best.kind
+        answer = self.best._replace(kind=kind)
         return Outcome(answer, why, self.seconds(), self.tolerance(answer.cost))
 
 

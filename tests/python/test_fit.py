@@ -23,7 +23,7 @@ CASES = {
         ["--epsilon=1.5", "--lines=2", "--loss=absolute", "--gap=2"]),
     "three lines": (
         Made([(0.9, -20.0), (0.4, 100.0), (-0.3, 300.0)], [(0, 1000)], 75, noise=0.5, outliers=0.05, seed=5),
-        ["--epsilon=4", "--lines=3", "--loss=count"]),
+        ["--epsilon=4", "--lines=3", "--loss=count", "--gap=0.1"]),
     "two columns and an offset": (
         Made([(0.9, -2.0, 10.0)], [(0, 1000), (-20, 60)], 60, noise=0.5, x_decimals=1, delimiter="\t", seed=6),
         ["--epsilon=3", "--offset"]),

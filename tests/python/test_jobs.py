@@ -177,6 +177,14 @@ class Answers(unittest.TestCase):
         self.assertIn("line 1 -1.5  0.5  (w = -3, 1)", text)
         self.assertIn("cost   9  (C = 9)", text)
         self.assertIn("cost   2.25  (C = 9)", vengutari.report(answer, 2, 1, 2))
+        self.assertIn("spent: the split budget is used up; the bound holds for the whole box", text)
+
+    def test_record_whose_bound_equals_its_cost(self):
+        """Spent with C = L: an earlier vector may cost the same. Solved says nothing of that kind."""
+        said = {kind: vengutari.meaning({"kind": kind, "cost": 9, "bound": 9}) for kind in ("solved", "spent", "full")}
+        self.assertNotIn("earlier", said["solved"])
+        for kind, why in (("spent", "the split budget is used up"), ("full", "the table has no row left")):
+            self.assertEqual(said[kind], f"{why}; no vector of the box costs less, but an earlier one may cost the same")
 
     def test_bad_records(self):
         self.refused(b"", "40 bytes")

@@ -146,6 +146,18 @@ class Limits(unittest.TestCase):
             self.assertIn("the bound holds", made["next"])
             self.assertGreater(made["gap_percent"], 0)
 
+    def test_first_of_equals(self):
+        """Many lines hold as many points. Without a gap the first of them is sought, from whatever start; with one any of them will do."""
+        spent = self.fitted(3, "--loss=count", "--splits=50")
+        self.assertEqual((spent["kind"], spent["cost"]), ("spent", spent["bound"]))
+        self.assertIn("no other lines cost less", spent["next"])
+        self.assertIn("a --gap above 0", spent["next"])
+        self.assertEqual(self.fitted(0, "--loss=count", "--splits=50", "--gap=0.1")["cost"], spent["cost"])
+        box = ["--loss=count", "--box=0.79:0.81,-20:-5,0.3:0.32,210:230"]
+        starts = ("0.8,-13,0.31,220", "0.79,-20,0.3,210", "0.81,-5,0.32,230")
+        found = [self.fitted(0, *box, f"--start={start}")["lines"] for start in starts]
+        self.assertEqual(found, [found[0]] * len(starts))
+
     def test_gap(self):
         made = self.fitted(0, "--gap=30", "--margin=8")
         self.assertEqual(made["kind"], "solved")

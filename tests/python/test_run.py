@@ -60,6 +60,22 @@ class Runs(unittest.TestCase):
         outcome = self.outcome(played, gap=Fraction(1, 10), seconds=1e-9)
         self.assertEqual((outcome.stopped, outcome.answer.kind, played.given), ("solved", "solved", [(10, 0)]))
 
+    def test_without_a_gap_the_first_of_equals_is_sought(self):
+        """The bound equals the cost in a spent answer: the library is asked again, until it says solved or a limit is reached."""
+        played = Played(9, answer("spent", 9, 0), answer("spent", 8, 8, 512), answer("solved", 8, 8, 700))
+        outcome = self.outcome(played)
+        self.assertEqual((outcome.stopped, outcome.answer, outcome.t), ("solved", answer("solved", 8, 8, 700), 0))
+        self.assertEqual(played.given, [(0, 0), (0, 512), (0, 1024)])
+        outcome = self.outcome(Played(9, answer("spent", 9, 0), answer("spent", 8, 8, 512)), splits=512)
+        self.assertEqual((outcome.stopped, outcome.answer), ("splits", answer("spent", 8, 8, 512)))
+
+    def test_with_a_gap_any_of_equals_is_taken(self):
+        """Ten percent of 5 allow no distance: first the tolerance is 1, and where that ends one below the cost, 0 up to the cost itself."""
+        played = Played(5, answer("spent", 5, 0), answer("solved", 5, 4, 30), answer("spent", 5, 5, 1024))
+        outcome = self.outcome(played, gap=Fraction(1, 10))
+        self.assertEqual((outcome.stopped, outcome.answer, outcome.t), ("solved", answer("solved", 5, 5, 1024), 1))
+        self.assertEqual(played.given, [(1, 0), (1, 512), (0, 1024)])
+
     def test_ends(self):
         """The answer with the least distance of cost and bound is kept, with the reason why there is no better one."""
         first, nearer, farther = answer("spent", 9, 0), answer("spent", 8, 4, 512), answer("spent", 8, 3, 600)

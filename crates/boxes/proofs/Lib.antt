@@ -1,5 +1,6 @@
 pub mod Sides
 pub mod Volume
+pub mod Earlier
 pub mod Coordinates
 pub mod LongestSide
 pub mod Halving

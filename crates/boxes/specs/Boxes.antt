@@ -3,7 +3,7 @@ use mathlib.Core.Bool.{Bool, true, false, _&&_, cond}
 use mathlib.Core.List.{List, [], _∷_, _++_, map}
 use Prim.Native.Nat.{ℕ, zero, suc, _*_}
 use lib.IntN.{ℤ, pos, natAbs, _+ℤ_, _-ℤ_}
-use lib.Signed.{_≤ℤ_, leZ}
+use lib.Signed.{_≤ℤ_, leZ, ltZ}
 use lib.ListN.{getD}
 use Rattle.codes.specs.declared.Check.{Check}
 use Rattle.codes.specs.declared.Refusal.{Refusal}
@@ -26,6 +26,13 @@ pub data Between : List ℤ → List ℤ → List ℤ → Type 0 where
 -- v is a grid vector of b
 pub record InBox (v : List ℤ) (b : Box) : Type 0 where
   pub between : Between v (b .low) (b .high)
+
+-- Document 02, request 6: "comparing coordinate 1 first". Of two vectors the one comes before the other that is smaller in the first
+-- coordinate in which they differ.
+unfoldable pub before : List ℤ → List ℤ → Bool
+before [] ws = false
+before (v ∷ vs) [] = false
+before (v ∷ vs) (w ∷ ws) = cond (ltZ v w) true (cond (ltZ w v) false (before vs ws))
 
 -- how many whole numbers there are from l to h, ends included
 unfoldable pub sideSize : ℤ → ℤ → ℕ

@@ -5,11 +5,12 @@ use mathlib.Core.Bool.{true}
 use mathlib.Core.List.{List, List·Memᴰ}
 use mathlib.Core.Logic.{_⊎_}
 use Prim.Native.Nat.{ℕ, _+_, _≤_, _<_}
+use lib.Dec.{T}
 use lib.IntN.{ℤ}
 use lib.ListN.{length}
 use Rattle.integers.specs.Lists.{All, Distinct}
 use Rattle.boxes.specs.declared.Box.{Box}
-use Rattle.boxes.specs.Boxes.{InBox, atMost, sideAt, volume, grid}
+use Rattle.boxes.specs.Boxes.{InBox, atMost, before, sideAt, volume, grid}
 use Rattle.boxes.specs.Split.{longestSide, leftHalf, rightHalf}
 
 -- "V is their number": `grid` lists the vectors of the box and no others, each once, and V is its length.
@@ -18,6 +19,13 @@ pub record Counted (b : Box) : Type 0 where
   pub every : (v : List ℤ) → InBox v b → List·Memᴰ v (grid b)
   pub once : Distinct (grid b)
   pub number : length (grid b) ≡ volume b
+
+-- `before` is a strict order, which leaves no two vectors of one length unordered. The low vector of a box is the first in it.
+pub record Ordered : Type 0 where
+  pub strict : (v : List ℤ) → T (before v v) → ⊥
+  pub along : (u v w : List ℤ) → T (before u v) → T (before v w) → T (before u w)
+  pub total : (u v : List ℤ) → length u ≡ length v → (T (before u v) → ⊥) → (T (before v u) → ⊥) → u ≡ v
+  pub low-first : (b : Box) (v : List ℤ) → InBox v b → T (before v (b .low)) → ⊥
 
 -- "its longest side, the lowest coordinate among equals": no side is longer, and those before it are shorter.
 pub record Longest (b : Box) : Type 0 where

@@ -18,8 +18,9 @@ use Rattle.boxes.specs.Boxes.{InBox, volume}
 use Rattle.boxes.specs.Split.{leftHalf, rightHalf}
 use Rattle.boxes.proofs.Volume.{low-in}
 use Rattle.boxes.proofs.Halving.{halved}
+use Rattle.certificate.specs.Search.{keepIf}
 use Rattle.certificate.specs.Laws.{Open}
-use Rattle.certificate.proofs.Lists.{sum, keepIf, Takes, sum-append, sum-each, all-kept, kept-all, sum-kept, takes-all, all-takes, takes-sum}
+use Rattle.certificate.proofs.Lists.{sum, Takes, sum-append, sum-each, all-kept, kept-all, sum-kept, takes-all, all-takes, takes-sum}
 
 pub record Cover (root : Box) (Settled : List ℤ → Type 0) (list : List Box) (count : ℕ) : Type 1 where
   pub boxes : All (Open root) list
@@ -107,6 +108,10 @@ module _ (root : Box) (Settled : List ℤ → Type 0) (keep : Box → Bool) (rul
       (arith, c .splits, sum-append less rest (l ∷ r ∷ []), takes-sum less takes, h .adds, h .left-some, h .right-some))
 
 module _ {root : Box} {Settled : List ℤ → Type 0} {list : List Box} {count : ℕ} (c : Cover root Settled list count) where
+  -- where no box is open every vector is settled
+  pub nothing-open : list ≡ [] → (v : List ℤ) → InBox v root → Settled v
+  nothing-open e v i = c .covered v i (Settled v) (λ k. k) (rw e none)
+
   pub count-few : count < volume root
   count-few = omega (arith, c .splits)
 

@@ -1,8 +1,10 @@
 pub mod Lists
-pub mod Kept
+pub mod Ahead
 pub mod Smallest
 pub mod Cover
 pub mod Steps
 pub mod Reached
 pub mod Certified
 pub mod Running
+pub mod First
+pub mod Examples

@@ -1,23 +1,20 @@
 -- Sums over a list, the elements that pass a test, and a list with one element taken out. Assumes nothing.
 use mathlib.Core.Path.{_≡_, refl}
-use mathlib.Core.Bool.{Bool, not, cond}
+use mathlib.Core.Bool.{Bool, not}
 use mathlib.Core.List.{List, [], _∷_, _++_}
 use Prim.Native.Nat.{ℕ, zero, suc, _+_, _*_, _≤_, _<_}
 use native.Mathlib.Omega.{arith}
 use lib.Dec.{T}
 use lib.ListN.{length, getD, take, drop}
 use Rattle.integers.specs.Lists.{All, none, also}
-use Rattle.integers.proofs.Lists.{all-head, all-tail}
-use Rattle.integers.proofs.Tests.{by-cond}
+use Rattle.integers.proofs.Lists.{all-head, all-tail, all-map, all-of}
+use Rattle.integers.proofs.Tests.{by-cond, is-true, is-false}
+use Rattle.certificate.specs.Search.{keepIf}
 
 module _ {A : Type 0} where
   abbrev pub sum : (A → ℕ) → List A → ℕ
   sum f [] = 0
   sum f (x ∷ xs) = f x + sum f xs
-
-  abbrev pub keepIf : (A → Bool) → List A → List A
-  keepIf p [] = []
-  keepIf p (x ∷ xs) = cond (p x) (x ∷ keepIf p xs) (keepIf p xs)
 
   -- `Takes x ys zs`: ys with one x taken out is zs
   pub data Takes (x : A) : List A → List A → Type 0 where
@@ -40,6 +37,9 @@ module _ {A : Type 0} where
       let kept = all-kept p hs in
       by-cond (All (λ x. T (p x) × P x)) (p x) (λ t. also (t, h) kept) (λ t. kept)
 
+  pub passed-kept : (p : A → Bool) (xs : List A) → All (λ x. T (p x)) (keepIf p xs)
+  passed-kept p xs = all-map (λ x h. h .0) (all-kept {P = λ x. Unit {0}} p (all-of (λ x. tt) xs))
+
   -- what holds of the kept ones and of whatever fails holds of all
   pub kept-all {ℓ ℓ′} :
       {P : A → Type ℓ} {R : A → Type ℓ′} {xs : List A} (p : A → Bool) →
@@ -59,6 +59,20 @@ module _ {A : Type 0} where
   sum-kept f p (x ∷ xs) =
       let kept = sum-kept f p xs in
       by-cond (λ ys. sum f ys ≤ f x + sum f xs) (p x) (λ t. omega arith) (λ t. omega arith)
+
+  -- one part of the list after the other
+  pub append-kept : (p : A → Bool) (xs ys : List A) → keepIf p (xs ++ ys) ≡ keepIf p xs ++ keepIf p ys
+  append-kept p [] ys = refl
+  append-kept p (x ∷ xs) ys =
+      by-cond (λ kept. keepIf p (x ∷ (xs ++ ys)) ≡ kept ++ keepIf p ys) (p x)
+      (λ t. rw (is-true (p x) t, append-kept p xs ys))
+      (λ t. rw (is-false (p x) t, append-kept p xs ys))
+
+  pub length-kept : (p : A → Bool) (xs : List A) → length (keepIf p xs) ≤ length xs
+  length-kept p [] = omega arith
+  length-kept p (x ∷ xs) =
+      let rest = length-kept p xs in
+      by-cond (λ (kept : List A). length kept ≤ suc (length xs)) (p x) (λ t. omega arith) (λ t. omega arith)
 
   -- the element at a place is taken out by what stands before and after it
   pub takes-at : (d : A) (xs : List A) (k : ℕ) → k < length xs → Takes (getD xs k d) xs (take k xs ++ drop (suc k) xs)

@@ -1,11 +1,13 @@
--- "The search", in the paper's words and order, over any cost of a vector and any bound of a box.
-use mathlib.Core.Bool.{cond}
+-- "The search", in the paper's words and order, over any cost of a vector and any bound of a box. For t = 0 three of its steps are as
+-- request 6 of document 02 says, quoted behind "02:". "For larger t the answer remains as it was": `AllLater` in Laws.antt.
+use mathlib.Core.Bool.{Bool, cond, _&&_, _||_}
 use mathlib.Core.List.{List, [], _∷_, _++_}
 use Prim.Native.Nat.{ℕ, zero, suc, _-_, min, max}
 use lib.Dec.{leb, ltb, eqb}
 use lib.IntN.{ℤ}
 use lib.ListN.{length, getD, take, drop}
 use Rattle.boxes.specs.declared.Box.{Box}
+use Rattle.boxes.specs.Boxes.{before}
 use Rattle.boxes.specs.Split.{leftHalf, rightHalf, zeroBox}
 
 -- "State: the best vector and C, a list of open boxes, the split count, and peak (the longest that the list has been)."
@@ -35,11 +37,21 @@ pub data Next : Type 0 where
   stop : Kind → Next
   go : State → Next
 
+-- Asked of a vector v that costs a, and of a box with the bound a and the low vector v, beside the best vector, which costs c: whether a
+-- is below c. 02: or, for t = 0, equals c, and v "comes before best".
+unfoldable pub ahead : ℕ → ℕ → List ℤ → ℕ → List ℤ → Bool
+ahead t c best a v = ltb a c || (eqb t 0 && eqb a c && before v best)
+
+-- "keep in order" what passes a test
+abbrev pub keepIf : {A : Type 0} → (A → Bool) → List A → List A
+keepIf p [] = []
+keepIf p (x ∷ xs) = cond (p x) (x ∷ keepIf p xs) (keepIf p xs)
+
 module _ (bound : Box → ℕ) where
-  -- "keep in order the boxes with bounds below" c
-  unfoldable pub keepBelow : ℕ → List Box → List Box
-  keepBelow c [] = []
-  keepBelow c (b ∷ bs) = cond (ltb (bound b) c) (b ∷ keepBelow c bs) (keepBelow c bs)
+  -- "keep in order the boxes with bounds below the new C." 02: for t = 0 a box "is kept also when its bound equals C and its low vector
+  -- comes before best"
+  abbrev pub keeps : ℕ → ℕ → List ℤ → Box → Bool
+  keeps t c best b = ahead t c best (bound b) (b .low)
 
   -- "L is C if the list is empty, else the smallest bound in it."
   unfoldable pub lowerBound : ℕ → List Box → ℕ
@@ -58,15 +70,16 @@ boxAt list k = getD list k zeroBox
 abbrev pub without : List Box → ℕ → List Box
 without list k = take k list ++ drop (suc k) list
 
--- "becomes best only if cheaper"
-unfoldable pub cheaper : (List ℤ → ℕ) → List ℤ → List ℤ → List ℤ
-cheaper cost best v = cond (ltb (cost v) (cost best)) v best
+-- "becomes best only if cheaper". 02: for t = 0 "a vector of equal cost that comes earlier becomes best"
+unfoldable pub better : (List ℤ → ℕ) → ℕ → List ℤ → List ℤ → List ℤ
+better cost t best v = cond (ahead t (cost best) best (cost v) v) v best
 
 module _ (cost : List ℤ → ℕ) (bound : Box → ℕ) where
-  -- "Beginning: best is the start vector. The list holds the given box if its bound is below C, else nothing. Count is 0."
-  unfoldable pub begin : List ℤ → Box → State
-  begin start box =
-      let held = keepBelow bound (cost start) (box ∷ []) in
+  -- "Beginning: best is the start vector. The list holds the given box if its bound is below C, else nothing. Count is 0." 02: for t = 0
+  -- the changed rule is for "a box, the given one at the beginning included".
+  unfoldable pub begin : ℕ → List ℤ → Box → State
+  begin t start box =
+      let held = keepIf (keeps bound t (cost start) start) (box ∷ []) in
       record { best = start; list = held; count = 0; peak = length held }
 
   -- L of a state
@@ -76,14 +89,18 @@ module _ (cost : List ℤ → ℕ) (bound : Box → ℕ) where
   -- (c) "Take out the first box with the smallest bound. Cut its longest side": its halves are as boxes/specs/Split.antt says.
   -- "Cost the left child's low vector, then the right child's; either becomes best only if cheaper. From the remaining list, then
   -- left, then right, keep in order the boxes with bounds below the new C." The count is the one after "count one split".
-  unfoldable pub split : State → State
-  split s =
+  unfoldable pub split : ℕ → State → State
+  split t s =
       let k = firstSmallest bound (s .list) in
       let left = leftHalf (boxAt (s .list) k) in
       let right = rightHalf (boxAt (s .list) k) in
-      let best = cheaper cost (cheaper cost (s .best) (left .low)) (right .low) in
-      let kept = keepBelow bound (cost best) (without (s .list) k ++ (left ∷ right ∷ [])) in
+      let best = better cost t (better cost t (s .best) (left .low)) (right .low) in
+      let kept = keepIf (keeps bound t (cost best) best) (without (s .list) k ++ (left ∷ right ∷ [])) in
       record { best = best; list = kept; count = suc (s .count); peak = max (s .peak) (length kept) }
+
+  -- (a) "C − L ≤ t". 02: for t = 0 "solved means that no box is open"
+  unfoldable pub isSolved : ℕ → State → Bool
+  isSolved t s = cond (eqb t 0) (eqb (length (s .list)) 0) (leb (cost (s .best) - lowest s) t)
 
   -- an answer with a state
   unfoldable pub answer : Kind → State → Answer
@@ -106,9 +123,9 @@ module _ (cost : List ℤ → ℕ) (bound : Box → ℕ) where
     -- "Step: (a) if C − L ≤ t, answer solved. (b) If the count equals the budget, answer spent. (c) .."
     unfoldable pub step : State → Next
     step s =
-        cond (leb (cost (s .best) - lowest s) t) (stop solved)
+        cond (isSolved t s) (stop solved)
         (cond (eqb (s .count) budget) (stop spent)
-        (ifRoom (split s)))
+        (ifRoom (split t s)))
 
     -- what follows a step at s, where `on` goes on from the state after a split
     unfoldable pub follow : (State → Answer) → State → Next → Answer
@@ -123,4 +140,4 @@ module _ (cost : List ℤ → ℕ) (bound : Box → ℕ) where
 
     -- from the beginning to an answer
     unfoldable pub search : List ℤ → Box → Answer
-    search start box = run (suc budget) (begin start box)
+    search start box = run (suc budget) (begin t start box)

@@ -6,8 +6,11 @@ use Prim.Native.Nat.{ℕ, zero, suc, _+_, _≤_, _<_}
 use native.Mathlib.Numerals.{add-one}
 use native.Mathlib.Omega.{arith}
 use borrow.Author.Tests.{ne-eqb}
-use lib.Dec.{ltb}
+use lib.IntN.{ℤ}
 use lib.ListN.{length, length-append}
+use Rattle.rows.specs.Rows.{rowAt}
+use Rattle.certificate.specs.Search.{ahead}
+use Rattle.open_boxes.specs.declared.Mark.{Mark}
 use Rattle.open_boxes.specs.OpenBoxes.{entryAt, picked, number, staysAt}
 
 pub one-at-most : (k : Bool) → cond k 1 0 ≤ 1
@@ -54,6 +57,8 @@ unfolding picked
 picked-all f q zero all = refl
 picked-all f q (suc n) all = rw (picked-all f q n (λ k h. all k (omega arith)), all n (omega arith))
 
--- a box before the one taken out stays if its number is below c
-pub stays-before : (d : List ℕ) (at c k : ℕ) → k < at → ltb (entryAt d k) c ≡ true → staysAt d at c k ≡ true
-stays-before d at c k h e = rw (ne-eqb k at (λ same. absurd (omega arith))) e
+-- a box before the one taken out stays if it is kept
+pub stays-before :
+    (t : List ℤ) (d : List ℕ) (at : ℕ) (mark : Mark) (k : ℕ) → k < at →
+    ahead (mark .t) (mark .cost) (mark .best) (entryAt d k) ((rowAt t k) .low) ≡ true → staysAt t d at mark k ≡ true
+stays-before t d at mark k h e = rw (ne-eqb k at (λ same. absurd (omega arith))) e

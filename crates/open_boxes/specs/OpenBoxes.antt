@@ -10,8 +10,10 @@ use lib.IntN.{ℤ}
 use lib.ListN.{length, getD, take, drop}
 use Rattle.boxes.specs.declared.Box.{Box}
 use Rattle.rows.specs.Rows.{rowCount, rowAt, rowsOf}
+use Rattle.certificate.specs.Search.{ahead}
 use Rattle.open_boxes.specs.declared.Child.{Child}
 use Rattle.open_boxes.specs.declared.Lowest.{Lowest}
+use Rattle.open_boxes.specs.declared.Mark.{Mark}
 use Rattle.open_boxes.specs.declared.Replaced.{Replaced}
 
 -- how many boxes table and list have room for: "fewer entries than rows" leave less
@@ -33,9 +35,9 @@ pub record LowestOf (d : List ℕ) (n c : ℕ) (r : Lowest) : Type 0 where
   pub place : 1 ≤ n → FirstLeast d n (r .at)
   pub lowest : 1 ≤ n → r .bound ≡ entryAt d (r .at)
 
--- whether the box in row k stays where the one in row `at` is taken out: "keep .. the boxes with bounds below" c
-abbrev pub staysAt : List ℕ → ℕ → ℕ → ℕ → Bool
-staysAt d at c k = cond (eqb k at) false (ltb (entryAt d k) c)
+-- whether the box in row k stays where the one in row `at` is taken out: "keep .. the boxes", by the number beside it and its low vector
+abbrev pub staysAt : List ℤ → List ℕ → ℕ → Mark → ℕ → Bool
+staysAt t d at mark k = cond (eqb k at) false (ahead (mark .t) (mark .cost) (mark .best) (entryAt d k) ((rowAt t k) .low))
 
 -- Of the things at the places below n those whose places pass a test, in order, and how many they are.
 unfoldable pub picked : {A : Type 0} → (ℕ → A) → (ℕ → Bool) → ℕ → List A
@@ -51,12 +53,12 @@ abbrev pub ifKept : {A : Type 0} → Child → A → List A
 ifKept child x = cond (child .kept) (x ∷ []) []
 
 -- "From the remaining list, then left, then right, keep in order": the boxes, and the numbers beside them
-module _ (t : List ℤ) (d : List ℕ) (n at c : ℕ) (left right : Child) where
+module _ (t : List ℤ) (d : List ℕ) (n at : ℕ) (mark : Mark) (left right : Child) where
   abbrev pub boxesLeft : List Box
-  boxesLeft = (picked (rowAt t) (staysAt d at c) n ++ ifKept left (left .half)) ++ ifKept right (right .half)
+  boxesLeft = (picked (rowAt t) (staysAt t d at mark) n ++ ifKept left (left .half)) ++ ifKept right (right .half)
 
   abbrev pub boundsLeft : List ℕ
-  boundsLeft = (picked (entryAt d) (staysAt d at c) n ++ ifKept left (left .bound)) ++ ifKept right (right .bound)
+  boundsLeft = (picked (entryAt d) (staysAt t d at mark) n ++ ifKept left (left .bound)) ++ ifKept right (right .bound)
 
 -- The first n rows of u hold a list of boxes and the first n entries of e a list of numbers, where they were t and d. From row and entry k
 -- on nothing changed. Those from n up to k are free: any boxes and any numbers may stand there.
@@ -76,14 +78,14 @@ fits t d n child = child .kept && ltb n (roomIn t d)
 
 -- The box in row `at` of the first n was replaced by its halves. If more boxes would remain than there is room for, nothing changed. Of n
 -- boxes as many are meant as there is room for.
-pub record ReplacedBy (t : List ℤ) (d : List ℕ) (n at c : ℕ) (left right : Child) (r : Replaced) (u : List ℤ) (e : List ℕ) : Type 0 where
-  pub told : r .full ≡ ltb (roomIn t d) (length (boxesLeft t d (min n (roomIn t d)) at c left right))
+pub record ReplacedBy (t : List ℤ) (d : List ℕ) (n at : ℕ) (mark : Mark) (left right : Child) (r : Replaced) (u : List ℤ) (e : List ℕ) : Type 0 where
+  pub told : r .full ≡ ltb (roomIn t d) (length (boxesLeft t d (min n (roomIn t d)) at mark left right))
   pub same : r .full ≡ true → r .rows ≡ min n (roomIn t d)
   pub kept : r .full ≡ true → u ≡ t
   pub kept-entries : r .full ≡ true → e ≡ d
   pub held :
       r .full ≡ false →
       Held t d (max (min n (roomIn t d)) (r .rows))
-      (boxesLeft t d (min n (roomIn t d)) at c left right)
-      (boundsLeft t d (min n (roomIn t d)) at c left right)
+      (boxesLeft t d (min n (roomIn t d)) at mark left right)
+      (boundsLeft t d (min n (roomIn t d)) at mark left right)
       (r .rows) u e

@@ -5,6 +5,7 @@ ghost use mathlib.Core.Bool.{cond};
 ghost use Prim.Native.Nat.{_+_, _≤_, _<_, min};
 ghost use lib.Dec.{ltb};
 ghost use lib.ListN.{length, getD, set};
+ghost use Rattle.certificate.specs.Search.{ahead};
 ghost use Rattle.rows.specs.Rows.{rowCount, rowAt, withRow};
 ghost use Rattle.open_boxes.specs.OpenBoxes.{LowestOf, Held, ReplacedBy, entryAt, fits, number, picked, roomIn, staysAt, FirstLeast};
 ghost use Rattle.open_boxes.specs.Inside.{NextSmaller, Unmoved};
@@ -76,33 +77,66 @@ pub fn lower_bound(bounds: &[u64], n: usize, cost: u64) -> Lowest
     Lowest { at, bound }
 }
 
-// Whether a box with this bound is kept: no other code decides it.
-pub fn keeps(bound: u64, cost: u64) -> bool
-    ensures { λ r. ⌜ r ≡ ltb bound cost ⌝ }
+// What a vector with its cost, or a box with its bound and its low vector, is held against: the best vector, its cost C, and t.
+pub struct Mark {
+    pub t: u64,
+    pub cost: u64,
+    pub best: [i16; 8],
+}
+
+// Whether a number is below C or, for t = 0, equals C and belongs to a vector that comes before best. What becomes best and what is kept
+// goes by this test.
+pub fn ahead(mark: Mark, number: u64, v: [i16; 8]) -> bool
+    ensures { λ r. ⌜ r ≡ ahead (mark .t) (mark .cost) (mark .best) number v ⌝ }
 {
-    bound < cost
+    if number < mark.cost {
+        return true;
+    }
+    if 0 < mark.t {
+        return false;
+    }
+    if mark.cost < number {
+        return false;
+    }
+    let best = mark.best;
+    boxes::before(v, best)
+}
+
+// Whether the box in row i, with this bound, is kept. Its low vector is read only where the bound does not decide.
+fn keeps(table: &[i16], i: usize, bound: u64, mark: Mark) -> bool
+    ensures { λ r. ⌜ r ≡ ahead (mark .t) (mark .cost) (mark .best) bound ((rowAt (now (table .entry)) i) .low) ⌝ }
+{
+    if bound < mark.cost {
+        return true;
+    }
+    if mark.cost < bound {
+        return false;
+    }
+    let b = rows::read_row(table, i);
+    let low = b.low;
+    ahead(mark, bound, low)
 }
 
 // Whether the box in row i stays where the one in row `at` is taken out.
-fn stays(bounds: &[u64], at: usize, i: usize, cost: u64) -> bool
+fn stays(table: &[i16], bounds: &[u64], at: usize, i: usize, mark: Mark) -> bool
     requires { ⌜ i < length (now bounds) ⌝ }
-    ensures { λ r. ⌜ r ≡ staysAt (now (bounds .entry)) at cost i ⌝ }
+    ensures { λ r. ⌜ r ≡ staysAt (now (table .entry)) (now (bounds .entry)) at mark i ⌝ }
 {
     if i == at {
         return false;
     }
-    keeps(bounds[i], cost)
+    keeps(table, i, bounds[i], mark)
 }
 
 // How many of the first n boxes stay.
-fn staying(bounds: &[u64], n: usize, at: usize, cost: u64) -> usize
+fn staying(table: &[i16], bounds: &[u64], n: usize, at: usize, mark: Mark) -> usize
     requires { ⌜ n ≤ length (now bounds) ⌝ }
-    ensures { λ r. ⌜ r ≡ number (staysAt (now (bounds .entry)) at cost) n ⌝ }
+    ensures { λ r. ⌜ r ≡ number (staysAt (now (table .entry)) (now (bounds .entry)) at mark) n ⌝ }
 {
     let mut stay = 0;
     let mut i = 0;
     while i < n {
-        if stays(bounds, at, i, cost) {
+        if stays(table, bounds, at, i, mark) {
             stay += 1;
         }
         i += 1;
@@ -123,14 +157,14 @@ fn move_box(table: &mut [i16], bounds: &mut [u64], i: usize, to: usize)
 }
 
 // How many of the first n boxes stay before one that does not: these do not move.
-fn unmoved(bounds: &[u64], n: usize, at: usize, cost: u64) -> usize
+fn unmoved(table: &[i16], bounds: &[u64], n: usize, at: usize, mark: Mark) -> usize
     requires { ⌜ n ≤ length (now bounds) ⌝ }
-    ensures { λ r. ⌜ Unmoved (staysAt (now (bounds .entry)) at cost) n r ⌝ }
+    ensures { λ r. ⌜ Unmoved (staysAt (now (table .entry)) (now (bounds .entry)) at mark) n r ⌝ }
 {
     let end = smaller(at, n);
     let mut i = 0;
     while i < end {
-        if !keeps(bounds[i], cost) {
+        if !keeps(table, i, bounds[i], mark) {
             return i;
         }
         i += 1;
@@ -139,18 +173,18 @@ fn unmoved(bounds: &[u64], n: usize, at: usize, cost: u64) -> usize
 }
 
 // Of the first n boxes those that stay become the first, in order.
-fn close_up(table: &mut [i16], bounds: &mut [u64], n: usize, at: usize, cost: u64) -> usize
+fn close_up(table: &mut [i16], bounds: &mut [u64], n: usize, at: usize, mark: Mark) -> usize
     requires { ⌜ n ≤ roomIn (now table) (now bounds) ⌝ }
     ensures { λ r. ⌜
         Held (now (table .entry)) (now (bounds .entry)) n
-        (picked (rowAt (now (table .entry))) (staysAt (now (bounds .entry)) at cost) n)
-        (picked (entryAt (now (bounds .entry))) (staysAt (now (bounds .entry)) at cost) n)
+        (picked (rowAt (now (table .entry))) (staysAt (now (table .entry)) (now (bounds .entry)) at mark) n)
+        (picked (entryAt (now (bounds .entry))) (staysAt (now (table .entry)) (now (bounds .entry)) at mark) n)
         r (now (table .exit)) (now (bounds .exit)) ⌝ }
 {
-    let mut stay = unmoved(bounds, n, at, cost);
+    let mut stay = unmoved(table, bounds, n, at, mark);
     let mut i = stay;
     while i < n {
-        if stays(bounds, at, i, cost) {
+        if stays(table, bounds, at, i, mark) {
             move_box(table, bounds, i, stay);
             stay += 1;
         }
@@ -187,14 +221,22 @@ pub fn put(table: &mut [i16], bounds: &mut [u64], n: usize, child: Child) -> usi
 }
 
 // Whether more than `room` boxes would remain. They are counted only where there may be too many.
-fn too_many(bounds: &[u64], n: usize, at: usize, cost: u64, more: usize, room: usize) -> bool
+fn too_many(
+    table: &[i16],
+    bounds: &[u64],
+    n: usize,
+    at: usize,
+    mark: Mark,
+    more: usize,
+    room: usize,
+) -> bool
     requires { ⌜ (n ≤ length (now bounds)) × (more ≤ 2) × (n ≤ room) × (room < 1152921504606846976) ⌝ }
-    ensures { λ r. ⌜ r ≡ ltb room (number (staysAt (now (bounds .entry)) at cost) n + more) ⌝ }
+    ensures { λ r. ⌜ r ≡ ltb room (number (staysAt (now (table .entry)) (now (bounds .entry)) at mark) n + more) ⌝ }
 {
     if more <= room - n {
         return false;
     }
-    room < staying(bounds, n, at, cost) + more
+    room < staying(table, bounds, n, at, mark) + more
 }
 
 // Takes out the box in row `at` of the first n and those that are not kept, and puts its halves behind the others. Where more boxes would
@@ -204,22 +246,30 @@ pub fn replace(
     bounds: &mut [u64],
     n: usize,
     at: usize,
-    cost: u64,
+    mark: Mark,
     left: Child,
     right: Child,
 ) -> Replaced
     ensures { λ r. ⌜
-        ReplacedBy (now (table .entry)) (now (bounds .entry)) n at cost left right r (now (table .exit)) (now (bounds .exit)) ⌝ }
+        ReplacedBy (now (table .entry)) (now (bounds .entry)) n at mark left right r (now (table .exit)) (now (bounds .exit)) ⌝ }
 {
     let room = smaller(table.len() / 16, bounds.len());
     let listed = smaller(n, room);
-    if too_many(bounds, listed, at, cost, added(left) + added(right), room) {
+    if too_many(
+        table,
+        bounds,
+        listed,
+        at,
+        mark,
+        added(left) + added(right),
+        room,
+    ) {
         return Replaced {
             full: true,
             rows: listed,
         };
     }
-    let stay = close_up(table, bounds, listed, at, cost);
+    let stay = close_up(table, bounds, listed, at, mark);
     let with_left = put(table, bounds, stay, left);
     Replaced {
         full: false,

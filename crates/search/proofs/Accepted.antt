@@ -141,7 +141,7 @@ module _ (store : List ℕ) (job : Job) (t : List ℤ) (d : List ℕ) where
 
     pub promised-pass :
         (u v : List ℤ) (e f : List ℕ) (first : State) (r : Answer) →
-        Begun (cost (job .model) (pointsOf store)) B (job .start) (job .domain) t d first u e →
+        Begun (cost (job .model) (pointsOf store)) B (job .t) (job .start) (job .domain) t d first u e →
         Ran B (searched store job (rowCount u)) u e first r v f →
         Promised r v f
     unfolding searchAnswer

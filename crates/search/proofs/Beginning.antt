@@ -19,9 +19,8 @@ use Rattle.open_boxes.specs.declared.Child.{Child}
 use Rattle.open_boxes.specs.OpenBoxes.{ifKept}
 use Rattle.open_boxes.proofs.Picking.{one-at-most}
 use Rattle.open_boxes.proofs.Listing.{Put, none-held, one-put}
-use Rattle.certificate.specs.Search.{begin, keepBelow}
-use Rattle.certificate.proofs.Kept.{keeps-if}
-use Rattle.search.specs.Inside.{below, Tested, Begun}
+use Rattle.certificate.specs.Search.{begin, keeps, keepIf}
+use Rattle.search.specs.Inside.{keptBy, markOf, Tested, Begun}
 use Rattle.search.proofs.UpTo.{cost-up-to}
 use Rattle.search.proofs.Stepping.{half-box, half-bound}
 
@@ -34,23 +33,24 @@ whole-cost store m v ok =
 
 -- the given box, if it is kept
 pub begun :
-    (cost : List ℤ → ℕ) (bound : Box → ℕ) (start : List ℤ) (domain : Box) (t : List ℤ) (d : List ℕ) (c : ℕ) (child : Child) →
+    (cost : List ℤ → ℕ) (bound : Box → ℕ) (tol : ℕ) (start : List ℤ) (domain : Box) (t : List ℤ) (d : List ℕ) (c : ℕ) (child : Child) →
     c ≡ cost start →
-    Tested bound (below bound c) domain child →
+    Tested bound (keptBy bound (markOf tol (record { vector = start; cost = c }))) domain child →
     1 ≤ rowCount t →
     1 ≤ length d →
     Whole (child .half) →
     (n : ℕ) (u : List ℤ) (e : List ℕ) →
     Put t d t d 0 child n u e →
-    Begun cost bound start domain t d (record { best = record { vector = start; cost = c }; rows = n; count = 0; peak = n }) u e
+    Begun cost bound tol start domain t d (record { best = record { vector = start; cost = c }; rows = n; count = 0; peak = n }) u e
 unfolding begin
-begun cost bound start domain t d c child exact tested rows entries w n u e placed =
+begun cost bound tol start domain t d c child exact tested rows entries w n u e placed =
+    let keep = keptBy bound (markOf tol (record { vector = start; cost = c })) in
     let h = one-put t d 0 [] [] 0 t d (none-held t d) child w (omega (arith, one-at-most (child .kept))) n u e placed n (omega arith) (omega arith) in
-    let list : ifKept child (child .half) ≡ keepBelow bound (cost start) (domain ∷ []) =
-    rw (← exact) (half-box bound (below bound c) domain child tested ∙ sym (keeps-if bound c (domain ∷ []))) in
+    let list : ifKept child (child .half) ≡ keepIf (keeps bound tol (cost start) start) (domain ∷ []) =
+    rw (← exact) (half-box bound keep domain child tested) in
     record {
       best = rw exact;
-      stored = h .entries ∙ half-bound bound (below bound c) domain child tested ∙ ap (map bound) (sym (h .rows));
+      stored = h .entries ∙ half-bound bound keep domain child tested ∙ ap (map bound) (sym (h .rows));
       state = rw (h .rows, ← list, h .told);
       long = h .long;
       long-entries = h .long-entries;

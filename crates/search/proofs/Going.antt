@@ -2,16 +2,18 @@
 -- keeps it up, and where it stops the answer is the definition's. Assumes nothing.
 use borrow.Author.Tests.{ltb-true, ltb-false}
 use mathlib.Core.Path.{_≡_, refl, sym, ap, _∙_}
-use mathlib.Core.Bool.{true, false}
+use mathlib.Core.Bool.{Bool, true, false, cond}
 use mathlib.Core.Logic.{⊎-elim}
 use Rattle.integers.proofs.Tests.{le-or-lt}
 use mathlib.Core.List.{List}
 use Prim.Native.Nat.{ℕ, _*_, _-_, _≤_, _<_}
 use native.Mathlib.Omega.{arith}
 use native.Mathlib.Nat.{le-refl}
+use lib.Dec.{leb, eqb}
 use lib.IntN.{ℤ}
 use lib.ListN.{length, drop}
 use Rattle.integers.specs.Lists.{All}
+use Rattle.integers.proofs.Lists.{all-map}
 use Rattle.boxes.specs.declared.Box.{Box}
 use Rattle.boxes.specs.Boxes.{InBox}
 use Rattle.boxes.specs.Split.{zeroBox}
@@ -21,11 +23,12 @@ use Rattle.rows.proofs.Rows.{rest-later, rows-at, rows-length}
 use Rattle.open_boxes.specs.declared.Lowest.{Lowest}
 use Rattle.open_boxes.specs.OpenBoxes.{LowestOf}
 use Rattle.certificate.specs.Search as Search
-use Rattle.certificate.specs.Search.{solved, spent, full, lowerBound, split, answer, search}
+use Rattle.certificate.specs.Search.{solved, spent, full, lowerBound, isSolved, split, answer, search}
 use Rattle.certificate.specs.Laws.{Sound}
 use Rattle.certificate.proofs.Lists.{all-at}
-use Rattle.certificate.proofs.Smallest.{lower-le, lower-open}
-use Rattle.certificate.proofs.Steps.{gap}
+use Rattle.certificate.proofs.Ahead.{ahead-le}
+use Rattle.certificate.proofs.Smallest.{lower-le}
+use Rattle.certificate.proofs.Steps.{unsolved-open}
 use Rattle.certificate.proofs.Running.{Running, running-begins, running-sound, running-solved, running-spent, running-full, running-goes}
 use Rattle.search.specs.declared.Answer.{Answer}
 use Rattle.search.specs.declared.branch.Best.{Best}
@@ -69,7 +72,7 @@ pub record Going (r : Run) (s : State) (u : List ℤ) (e : List ℕ) : Type 0 wh
   pub rest : drop (16 * s .peak) u ≡ drop (16 * s .peak) (r .t)
   pub rest-entries : drop (s .peak) e ≡ drop (s .peak) (r .d)
 
-pub going-begins : (r : Run) → Begun (r .cost) (r .bound) (r .start) (r .domain) (r .t) (r .d) (r .first) (r .t) (r .d) → Going r (r .first) (r .t) (r .d)
+pub going-begins : (r : Run) → Begun (r .cost) (r .bound) (r .tol) (r .start) (r .domain) (r .t) (r .d) (r .first) (r .t) (r .d) → Going r (r .first) (r .t) (r .d)
 going-begins r b =
     record {
       running = rw (b .state) (running-begins (r .cost) (r .bound) (r .budget) (rowCount (r .t)) (r .tol) (r .start) (r .domain));
@@ -102,20 +105,20 @@ module _ (r : Run) (ready : Ready r) (s : State) (u : List ℤ) (e : List ℕ) (
   abbrev list : List Box
   list = rowsOf u (s .rows)
 
-  sound : Sound cost bound budget rows (r .domain) (stateIn u s)
+  sound : Sound cost bound budget rows (r .tol) (r .domain) (stateIn u s)
   sound = running-sound cost bound budget rows (r .tol) (r .start) (r .domain) (stateIn u s) (g .running) (ready .laws) (ready .inside)
 
   exact : s .best .cost ≡ cost (s .best .vector)
   exact = ap (λ (b : Best). b .cost) (g .best)
 
   -- peak never falls
-  grows : (after : State) (v : List ℤ) (f : List ℕ) → Moved cost bound u e s after v f → s .peak ≤ after .peak
+  grows : (after : State) (v : List ℤ) (f : List ℕ) → Moved cost bound (r .tol) u e s after v f → s .peak ≤ after .peak
   unfolding split
   grows after v f m = omega (arith, ap (λ (x : Search.State). x .peak) (m .state))
 
-  -- every open box has a bound below C
-  going-below : All (λ b. bound b < s .best .cost) list
-  going-below = rw exact (sound .below)
+  -- every open box has a bound that is at most C
+  going-most : All (λ b. bound b ≤ s .best .cost) list
+  going-most = rw exact (all-map (λ b h. ahead-le (r .tol) (cost (s .best .vector)) (s .best .vector) (bound b) (b .low) h) (sound .kept))
 
   open-few : s .rows ≤ s .peak
   open-few = omega (arith, sound .longest, rows-length u (s .rows))
@@ -144,13 +147,18 @@ module _ (r : Run) (ready : Ready r) (s : State) (u : List ℤ) (e : List ℕ) (
         (le-or-lt (s .rows) 0)
 
     pub low-le : low ≤ s .best .cost
-    low-le = rw lowest (lower-le bound (s .best .cost) list going-below)
+    low-le = rw lowest (lower-le bound (s .best .cost) list going-most)
 
     low-is : low ≡ lowerBound bound (cost (s .best .vector)) list
     low-is = lowest ∙ ap (λ (c : ℕ). lowerBound bound c list) exact
 
-    gap-is : gap cost bound (stateIn u s) ≡ s .best .cost - low
-    gap-is = omega (arith, exact, low-is)
+    -- the test for solved, as the code makes it
+    abbrev test : Bool
+    test = cond (eqb (r .tol) 0) (eqb (s .rows) 0) (leb (s .best .cost - low) (r .tol))
+
+    test-is : isSolved cost bound (r .tol) (stateIn u s) ≡ test
+    unfolding isSolved
+    test-is = rw (rows-length u (s .rows), ← low-is, ← exact)
 
     answers : (kind : Search.Kind) → def r ≡ answer cost bound kind (stateIn u s) → Answers r (answerWith (kindOf kind) s low) u e
     unfolding answer
@@ -169,18 +177,18 @@ module _ (r : Run) (ready : Ready r) (s : State) (u : List ℤ) (e : List ℕ) (
         })
 
     -- (a)
-    pub going-solved : s .best .cost - low ≤ r .tol → Answers r (answerWith (kindOf solved) s low) u e
-    going-solved near =
-        answers solved (running-solved cost bound budget rows (r .tol) (r .start) (r .domain) (stateIn u s) (g .running) (omega (arith, gap-is)))
+    pub going-solved : test ≡ true → Answers r (answerWith (kindOf solved) s low) u e
+    going-solved yet =
+        answers solved (running-solved cost bound budget rows (r .tol) (r .start) (r .domain) (stateIn u s) (g .running) (test-is ∙ yet))
 
-    module _ (far : r .tol < s .best .cost - low) where
-      far-gap : r .tol < gap cost bound (stateIn u s)
-      far-gap = omega (arith, gap-is)
+    module _ (not-yet : test ≡ false) where
+      unsolved : isSolved cost bound (r .tol) (stateIn u s) ≡ false
+      unsolved = test-is ∙ not-yet
 
       -- (b)
       pub going-spent : s .count ≡ budget → Answers r (answerWith (kindOf spent) s low) u e
       going-spent all =
-          answers spent (running-spent cost bound budget rows (r .tol) (r .start) (r .domain) (stateIn u s) (g .running) far-gap all)
+          answers spent (running-spent cost bound budget rows (r .tol) (r .start) (r .domain) (stateIn u s) (g .running) unsolved all)
 
       -- (c)
       module _ (left : s .count ≡ budget → ⊥) where
@@ -188,7 +196,7 @@ module _ (r : Run) (ready : Ready r) (s : State) (u : List ℤ) (e : List ℕ) (
         less = omega (arith, g .running .within)
 
         many : 1 ≤ s .rows
-        many = omega (arith, lower-open bound (cost (s .best .vector)) list (omega (arith, far-gap)), rows-length u (s .rows))
+        many = omega (arith, unsolved-open cost bound (r .tol) (stateIn u s) unsolved, rows-length u (s .rows))
 
         pub going-steppable : budget < 4294967296 → Steppable cost bound u e s at
         going-steppable few =
@@ -205,13 +213,13 @@ module _ (r : Run) (ready : Ready r) (s : State) (u : List ℤ) (e : List ℕ) (
               countable = omega (arith, less);
             }
 
-        module _ (q : Stepped) (v : List ℤ) (f : List ℕ) (out : StepOutcome cost bound u e s q v f) where
+        module _ (q : Stepped) (v : List ℤ) (f : List ℕ) (out : StepOutcome cost bound (r .tol) u e s q v f) where
           pub going-full : q .full ≡ true → Answers r (answerWith (kindOf full) s low) v f
           going-full is =
-              let more = ltb-true (rowCount u) (length ((split cost bound (stateIn u s)) .list)) (sym (out .told) ∙ is) in
+              let more = ltb-true (rowCount u) (length ((split cost bound (r .tol) (stateIn u s)) .list)) (sym (out .told) ∙ is) in
               rw (out .kept is, out .kept-entries is)
               (answers full
-              (running-full cost bound budget rows (r .tol) (r .start) (r .domain) (stateIn u s) (g .running) far-gap less (omega (arith, g .long))))
+              (running-full cost bound budget rows (r .tol) (r .start) (r .domain) (stateIn u s) (g .running) unsolved less (omega (arith, g .long))))
 
           -- one split less is left
           pub going-counts : q .full ≡ false → budget - q .state .count < budget - s .count
@@ -220,13 +228,13 @@ module _ (r : Run) (ready : Ready r) (s : State) (u : List ℤ) (e : List ℕ) (
 
           pub going-on : q .full ≡ false → Going r (q .state) v f
           going-on is =
-              let few = ltb-false (rowCount u) (length ((split cost bound (stateIn u s)) .list)) (sym (out .told) ∙ is) in
+              let few = ltb-false (rowCount u) (length ((split cost bound (r .tol) (stateIn u s)) .list)) (sym (out .told) ∙ is) in
               let m = out .moved is in
               let peaks = grows (q .state) v f m in
               record {
                 running =
                     rw (m .state)
-                    (running-goes cost bound budget rows (r .tol) (r .start) (r .domain) (stateIn u s) (g .running) far-gap less (omega (arith, g .long)));
+                    (running-goes cost bound budget rows (r .tol) (r .start) (r .domain) (stateIn u s) (g .running) unsolved less (omega (arith, g .long)));
                 best = m .best;
                 stored = m .stored;
                 long = m .long ∙ g .long;

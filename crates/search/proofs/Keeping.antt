@@ -14,19 +14,10 @@ use Rattle.boxes.specs.Split.{zeroBox}
 use Rattle.rows.specs.Rows.{rowAt, rowsOf}
 use Rattle.rows.proofs.Rows.{rows-length, rows-at}
 use Rattle.open_boxes.specs.OpenBoxes.{entryAt, picked}
-use Rattle.certificate.specs.Search.{without}
-use Rattle.certificate.proofs.Lists.{keepIf}
+use Rattle.certificate.specs.Search.{keepIf, without}
+use Rattle.certificate.proofs.Lists.{append-kept}
 use Rattle.search.specs.Inside.{Stored}
 use Rattle.search.proofs.Taking.{without-past, without-there, without-other}
-
-pub keep-append : {A : Type 0} (p : A → Bool) (xs ys : List A) → keepIf p (xs ++ ys) ≡ keepIf p xs ++ keepIf p ys
-keep-append p [] ys = refl
-keep-append p (x ∷ xs) ys = go (p x) (keep-append p xs ys)
-  where
-    go : (k : Bool) → keepIf p (xs ++ ys) ≡ keepIf p xs ++ keepIf p ys →
-        cond k (x ∷ keepIf p (xs ++ ys)) (keepIf p (xs ++ ys)) ≡ cond k (x ∷ keepIf p xs) (keepIf p xs) ++ keepIf p ys
-    go true e = ap (λ l. x ∷ l) e
-    go false e = e
 
 -- the rows that stay where row `at` is taken out are those of the rest that pass p
 module _ (p : Box → Bool) (t : List ℤ) (at : ℕ) (q : ℕ → Bool) where
@@ -45,7 +36,7 @@ module _ (p : Box → Bool) (t : List ℤ) (at : ℕ) (q : ℕ → Bool) where
       go false e =
           sym
           (ap (keepIf p) (without-other (rowsOf t n) at (rowAt t n) (λ h. eqb-false n at e (sym (rows-length t n) ∙ h)))
-          ∙ keep-append p (without (rowsOf t n) at) (rowAt t n ∷ []))
+          ∙ append-kept p (without (rowsOf t n) at) (rowAt t n ∷ []))
 
 map-at : (h : Box → ℕ) (xs : List Box) (k : ℕ) (d : Box) → k < length xs → getD (map h xs) k 0 ≡ h (getD xs k d)
 map-at h [] k d less = absurd (omega arith)

@@ -6,3 +6,4 @@ pub mod Lowest
 pub mod Beginning
 pub mod Stepping
 pub mod Going
+pub mod SameVector

@@ -1,12 +1,8 @@
 -- Costs and bounds that are found only as far as a cap, under a model that was checked. Assumes nothing.
-use borrow.Author.Tests.{lt-ltb, le-ltb, ltb-true}
-use mathlib.Core.Bool.{Bool}
-use mathlib.Core.Logic.{⊎-elim}
-use lib.Dec.{ltb}
-use Rattle.integers.proofs.Tests.{le-or-lt}
+use mathlib.Core.Bool.{Bool, true, false}
 use mathlib.Core.Path.{_≡_, refl, sym, _∙_}
 use mathlib.Core.List.{List}
-use Prim.Native.Nat.{ℕ, _≤_, _<_, min}
+use Prim.Native.Nat.{ℕ, _<_, min}
 use native.Mathlib.Omega.{arith}
 use lib.IntN.{ℤ}
 use Rattle.codes.specs.declared.Check.the-variants.{Pass}
@@ -16,30 +12,32 @@ use Rattle.points.specs.Points.{pointsOf}
 use Rattle.residuals.specs.Cost.{bound}
 use Rattle.residuals.specs.Cost as model
 use Rattle.model.specs.Calls.{checkModel, costUpTo, boundUpTo}
-use Rattle.certificate.specs.Search.{cheaper}
+use Rattle.model.proofs.Passed.{cost-limit}
+use Rattle.certificate.specs.Search.{ahead, better}
+use Rattle.certificate.proofs.Ahead.{ahead-capped, ahead-le}
+use Rattle.open_boxes.specs.declared.Mark.{Mark}
 use Rattle.search.specs.declared.branch.Best.{Best}
-use Rattle.search.specs.Inside.{below, Tested, bestOf}
+use Rattle.search.specs.Inside.{keptBy, Tested, bestOf}
 
--- a number that was found as far as c is below c if the whole one is
-same-test : (y c x : ℕ) → x ≡ min y c → ltb x c ≡ ltb y c
-same-test y c x e =
-    ⊎-elim
-    (λ (h : c ≤ y). le-ltb x c (omega arith) ∙ sym (le-ltb y c h))
-    (λ (h : y < c). lt-ltb x c (omega arith) ∙ sym (lt-ltb y c h))
-    (le-or-lt c y)
+-- a number x that was found as far as a cap above c decides as the whole one does, and is the whole one where it is ahead
+module _ (tol c : ℕ) (best : List ℤ) (y : ℕ) (v : List ℤ) (x cap : ℕ) (found : x ≡ min y cap) (far : c < cap) where
+  same-test : ahead tol c best x v ≡ ahead tol c best y v
+  same-test = rw found (ahead-capped tol c best y v cap far)
 
--- a vector v that is tried, x being what was found of its cost: that cost, or a cap if that is less, which is no less than the best one's
-module _ (cost : List ℤ → ℕ) (best v : List ℤ) (x cap : ℕ) (found : x ≡ min (cost v) cap) (far : cost best ≤ cap) where
-  pub tried-new : x < cost best → _≡_ {A = Best} (record { vector = v; cost = x }) (bestOf cost (cheaper cost best v))
-  unfolding cheaper
-  tried-new less =
-      let e : x ≡ cost v = omega arith in
-      let new : cost v < cost best = omega arith in
-      rw (lt-ltb (cost v) (cost best) new, e)
+  whole-ahead : ahead tol c best x v ≡ true → x ≡ y
+  whole-ahead is = let le = ahead-le tol c best x v (rw is tt) in omega arith
 
-  pub tried-old : cost best ≤ x → bestOf cost best ≡ bestOf cost (cheaper cost best v)
-  unfolding cheaper
-  tried-old reaches = let old : cost best ≤ cost v = omega arith in rw (le-ltb (cost v) (cost best) old)
+-- a vector v that is tried, x being what was found of its cost as far as a cap above the best one's
+module _ (cost : List ℤ → ℕ) (tol : ℕ) (best v : List ℤ) (x cap : ℕ) (found : x ≡ min (cost v) cap) (far : cost best < cap) where
+  pub tried-new : ahead tol (cost best) best x v ≡ true → _≡_ {A = Best} (record { vector = v; cost = x }) (bestOf cost (better cost tol best v))
+  unfolding better
+  tried-new is =
+      let e = whole-ahead tol (cost best) best (cost v) v x cap found far is in
+      rw (sym (same-test tol (cost best) best (cost v) v x cap found far) ∙ is, e)
+
+  pub tried-old : ahead tol (cost best) best x v ≡ false → bestOf cost best ≡ bestOf cost (better cost tol best v)
+  unfolding better
+  tried-old is = rw (sym (same-test tol (cost best) best (cost v) v x cap found far) ∙ is)
 
 module _ (store : List ℕ) (m : Model) (ok : checkModel store m ≡ Pass) where
   pub cost-up-to : (v : List ℤ) (cap : ℕ) → costUpTo store m v cap ≡ min (model.cost m (pointsOf store) v) cap
@@ -50,13 +48,20 @@ module _ (store : List ℕ) (m : Model) (ok : checkModel store m ≡ Pass) where
   unfolding boundUpTo
   bound-up-to b cap = rw ok
 
-  -- a box whose bound x was found as far as the cost c, and the outcome k of its test
-  pub found-tested : (b : Box) (c x : ℕ) (k : Bool) → x ≡ boundUpTo store m b c → k ≡ ltb x c →
-      Tested (bound m (pointsOf store)) (below (bound m (pointsOf store)) c) b (record { half = b; bound = x; kept = k })
-  found-tested b c x k f e =
-      let is = f ∙ bound-up-to b c in
+  -- no cost reaches the largest number of 64 bits
+  pub best-below : (b : Best) (v : List ℤ) → b ≡ bestOf (model.cost m (pointsOf store)) v → b .cost < 18446744073709551615
+  best-below b v e = rw e (omega (arith, cost-limit store m .most ok v))
+
+  -- a box whose bound x was found as far as a cap above the cost, and the outcome k of its test
+  pub found-tested :
+      (b : Box) (mark : Mark) (x cap : ℕ) (k : Bool) → x ≡ boundUpTo store m b cap → mark .cost < cap →
+      k ≡ ahead (mark .t) (mark .cost) (mark .best) x (b .low) →
+      Tested (bound m (pointsOf store)) (keptBy (bound m (pointsOf store)) mark) b (record { half = b; bound = x; kept = k })
+  found-tested b mark x cap k f far e =
+      let is = f ∙ bound-up-to b cap in
+      let whole = bound m (pointsOf store) b in
       record {
         half = refl;
-        decided = e ∙ same-test (bound m (pointsOf store) b) c x is;
-        exact = λ h. let less = ltb-true x c (sym e ∙ h) in omega (arith, is);
+        decided = e ∙ same-test (mark .t) (mark .cost) (mark .best) whole (b .low) x cap is far;
+        exact = λ h. whole-ahead (mark .t) (mark .cost) (mark .best) whole (b .low) x cap is far (sym e ∙ h);
       }

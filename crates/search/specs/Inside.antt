@@ -15,8 +15,9 @@ use Rattle.jobs.specs.declared.Model.{Model}
 use Rattle.model.specs.Calls.{checkModel, DecodedFor}
 use Rattle.rows.specs.Rows.{rowCount, rowAt, rowsOf}
 use Rattle.open_boxes.specs.declared.Child.{Child}
+use Rattle.open_boxes.specs.declared.Mark.{Mark}
 use Rattle.certificate.specs.Search as Search
-use Rattle.certificate.specs.Search.{firstSmallest, cheaper, begin, split}
+use Rattle.certificate.specs.Search.{keeps, firstSmallest, better, begin, split}
 use Rattle.search.specs.declared.Kind.{Kind}
 use Rattle.search.specs.declared.Answer.{Answer}
 use Rattle.search.specs.declared.branch.Best.{Best}
@@ -35,9 +36,9 @@ pub record Evaluable (store : List ℕ) (lanes : List (List (List Float))) (m : 
 abbrev pub Stored : (Box → ℕ) → List ℤ → List ℕ → ℕ → Type 0
 Stored bound t d n = take n d ≡ map bound (rowsOf t n)
 
--- whether a box is kept: its bound is below c
-abbrev pub below : (Box → ℕ) → ℕ → Box → Bool
-below bound c b = ltb (bound b) c
+-- whether a box is kept
+abbrev pub keptBy : (Box → ℕ) → Mark → Box → Bool
+keptBy bound mark = keeps bound (mark .t) (mark .cost) (mark .best)
 
 -- child is the box b with the outcome of its test, and with its bound if it is kept
 pub record Tested (bound : Box → ℕ) (keep : Box → Bool) (b : Box) (child : Child) : Type 0 where
@@ -49,11 +50,15 @@ pub record Tested (bound : Box → ℕ) (keep : Box → Bool) (b : Box) (child :
 abbrev pub bestOf : (List ℤ → ℕ) → List ℤ → Best
 bestOf cost v = record { vector = v; cost = cost v }
 
+-- what other vectors and boxes are held against, where t is `tol`
+abbrev pub markOf : ℕ → Best → Mark
+markOf tol best = record { t = tol; cost = best .cost; best = best .vector }
+
 -- What is left of a box b that is cut, where v was the best vector: the new best, and the tested halves.
-pub record Cut (cost : List ℤ → ℕ) (bound : Box → ℕ) (b : Box) (v : List ℤ) (r : Branches) : Type 0 where
-  pub best : r .best ≡ bestOf cost (cheaper cost (cheaper cost v ((leftHalf b) .low)) ((rightHalf b) .low))
-  pub left : Tested bound (below bound (r .best .cost)) (leftHalf b) (r .left)
-  pub right : Tested bound (below bound (r .best .cost)) (rightHalf b) (r .right)
+pub record Cut (cost : List ℤ → ℕ) (bound : Box → ℕ) (tol : ℕ) (b : Box) (v : List ℤ) (r : Branches) : Type 0 where
+  pub best : r .best ≡ bestOf cost (better cost tol (better cost tol v ((leftHalf b) .low)) ((rightHalf b) .low))
+  pub left : Tested bound (keptBy bound (markOf tol (r .best))) (leftHalf b) (r .left)
+  pub right : Tested bound (keptBy bound (markOf tol (r .best))) (rightHalf b) (r .right)
 
 -- the state of a search whose open boxes are the first rows of t
 abbrev pub stateIn : List ℤ → State → Search.State
@@ -72,27 +77,27 @@ pub record Steppable (cost : List ℤ → ℕ) (bound : Box → ℕ) (t : List �
   pub countable : s .count < 4294967295
 
 -- The state s₂, the table u and the list e are those after a split of s₁, t and d.
-pub record Moved (cost : List ℤ → ℕ) (bound : Box → ℕ) (t : List ℤ) (d : List ℕ) (s₁ s₂ : State) (u : List ℤ) (e : List ℕ) : Type 0 where
+pub record Moved (cost : List ℤ → ℕ) (bound : Box → ℕ) (tol : ℕ) (t : List ℤ) (d : List ℕ) (s₁ s₂ : State) (u : List ℤ) (e : List ℕ) : Type 0 where
   pub best : s₂ .best ≡ bestOf cost (s₂ .best .vector)
   pub stored : Stored bound u e (s₂ .rows)
-  pub state : stateIn u s₂ ≡ split cost bound (stateIn t s₁)
+  pub state : stateIn u s₂ ≡ split cost bound tol (stateIn t s₁)
   pub long : length u ≡ length t
   pub long-entries : length e ≡ length d
   pub rest : drop (16 * s₂ .peak) u ≡ drop (16 * s₂ .peak) t
   pub rest-entries : drop (s₂ .peak) e ≡ drop (s₂ .peak) d
 
 -- What a step says: there is no room for the split and nothing changed, or the split is made.
-pub record StepOutcome (cost : List ℤ → ℕ) (bound : Box → ℕ) (t : List ℤ) (d : List ℕ) (s : State) (r : Stepped) (u : List ℤ) (e : List ℕ) : Type 0 where
+pub record StepOutcome (cost : List ℤ → ℕ) (bound : Box → ℕ) (tol : ℕ) (t : List ℤ) (d : List ℕ) (s : State) (r : Stepped) (u : List ℤ) (e : List ℕ) : Type 0 where
   pub kept : r .full ≡ true → u ≡ t
   pub kept-entries : r .full ≡ true → e ≡ d
-  pub told : r .full ≡ ltb (rowCount t) (length ((split cost bound (stateIn t s)) .list))
-  pub moved : r .full ≡ false → Moved cost bound t d s (r .state) u e
+  pub told : r .full ≡ ltb (rowCount t) (length ((split cost bound tol (stateIn t s)) .list))
+  pub moved : r .full ≡ false → Moved cost bound tol t d s (r .state) u e
 
 -- The state s, the table u and the list e are those of the beginning, where table and list were t and d.
-pub record Begun (cost : List ℤ → ℕ) (bound : Box → ℕ) (start : List ℤ) (domain : Box) (t : List ℤ) (d : List ℕ) (s : State) (u : List ℤ) (e : List ℕ) : Type 0 where
+pub record Begun (cost : List ℤ → ℕ) (bound : Box → ℕ) (tol : ℕ) (start : List ℤ) (domain : Box) (t : List ℤ) (d : List ℕ) (s : State) (u : List ℤ) (e : List ℕ) : Type 0 where
   pub best : s .best ≡ bestOf cost (s .best .vector)
   pub stored : Stored bound u e (s .rows)
-  pub state : stateIn u s ≡ begin cost bound start domain
+  pub state : stateIn u s ≡ begin cost bound tol start domain
   pub long : length u ≡ length t
   pub long-entries : length e ≡ length d
   pub rest : drop (16 * s .peak) u ≡ drop (16 * s .peak) t

@@ -3,15 +3,16 @@ use boxes::Box;
 use jobs::Model;
 use lanes::Chunk;
 use open_boxes::Child;
-use open_boxes::keeps;
+use open_boxes::Mark;
+use open_boxes::ahead;
 use open_boxes::replace;
 ghost use mathlib.Core.Path.{_≡_};
-ghost use Prim.Native.Nat.{_≤_, max};
+ghost use Prim.Native.Nat.{_≤_, _<_, max};
 ghost use Rattle.boxes.specs.Boxes.{volume};
 ghost use Rattle.points.specs.Points.{pointsOf};
 ghost use Rattle.residuals.specs.Cost.{bound, cost};
-ghost use Rattle.certificate.specs.Search.{cheaper};
-ghost use Rattle.search.specs.Inside.{Evaluable, bestOf, below, Tested, Cut, Steppable, StepOutcome};
+ghost use Rattle.certificate.specs.Search.{better};
+ghost use Rattle.search.specs.Inside.{Evaluable, bestOf, markOf, keptBy, Tested, Cut, Steppable, StepOutcome};
 
 // The best vector and its cost, C.
 pub struct Best {
@@ -26,40 +27,53 @@ pub struct Branches {
     pub right: Child,
 }
 
-// A vector becomes best only if it is cheaper. Its cost is summed only as far as the best one's.
-fn tried(store: &[u8], lanes: &[Chunk], m: Model, best: Best, v: [i16; 8]) -> Best
+// What other vectors and boxes are held against.
+pub fn mark_of(t: u64, best: Best) -> Mark
+    ensures { λ r. ⌜ r ≡ markOf t best ⌝ }
+{
+    let vector = best.vector;
+    Mark {
+        t,
+        cost: best.cost,
+        best: vector,
+    }
+}
+
+// A vector becomes best only if it is cheaper or, for t = 0, as cheap and earlier. Its cost is summed until it is above the best one's.
+fn tried(store: &[u8], lanes: &[Chunk], m: Model, t: u64, best: Best, v: [i16; 8]) -> Best
     requires { ⌜ Evaluable (now store) (now lanes) m × (best ≡ bestOf (cost m (pointsOf (now store))) (best .vector)) ⌝ }
     ensures { λ r. ⌜ r
-        ≡ bestOf (cost m (pointsOf (now (store .entry)))) (cheaper (cost m (pointsOf (now (store .entry)))) (best .vector) v) ⌝ }
+        ≡ bestOf (cost m (pointsOf (now (store .entry)))) (better (cost m (pointsOf (now (store .entry)))) t (best .vector) v) ⌝ }
 {
-    let c = model::cost_in(store, lanes, m, v, best.cost);
-    if c < best.cost {
+    let c = model::cost_in(store, lanes, m, v, best.cost + 1);
+    if ahead(mark_of(t, best), c, v) {
         Best { vector: v, cost: c }
     } else {
         best
     }
 }
 
-// Whether a box is kept, with its bound, which is summed only as far as the cost: below it that is the whole bound.
-pub fn tested(store: &[u8], lanes: &[Chunk], m: Model, half: Box, cost: u64) -> Child
-    requires { ⌜ Evaluable (now store) (now lanes) m ⌝ }
+// Whether a box is kept, with its bound, which is summed until it is above the cost: up to that it is the whole bound.
+pub fn tested(store: &[u8], lanes: &[Chunk], m: Model, half: Box, mark: Mark) -> Child
+    requires { ⌜ Evaluable (now store) (now lanes) m × (mark .cost < 18446744073709551615) ⌝ }
     ensures { λ r. ⌜
-        Tested (bound m (pointsOf (now (store .entry)))) (below (bound m (pointsOf (now (store .entry)))) cost) half r ⌝ }
+        Tested (bound m (pointsOf (now (store .entry)))) (keptBy (bound m (pointsOf (now (store .entry)))) mark) half r ⌝ }
 {
-    let bound = model::bound_in(store, lanes, m, half, cost);
+    let low = half.low;
+    let bound = model::bound_in(store, lanes, m, half, mark.cost + 1);
     Child {
         half,
         bound,
-        kept: keeps(bound, cost),
+        kept: ahead(mark, bound, low),
     }
 }
 
 // Cuts a box of two vectors or more, tries the low vector of each half, and finds the halves' bounds.
-fn cut_box(store: &[u8], lanes: &[Chunk], m: Model, b: Box, best: Best) -> Branches
+fn cut_box(store: &[u8], lanes: &[Chunk], m: Model, t: u64, b: Box, best: Best) -> Branches
     requires { ⌜
         Evaluable (now store) (now lanes) m × (best ≡ bestOf (cost m (pointsOf (now store))) (best .vector)) × (2 ≤ volume b) ⌝ }
     ensures { λ r. ⌜
-        Cut (cost m (pointsOf (now (store .entry)))) (bound m (pointsOf (now (store .entry)))) b (best .vector) r ⌝ }
+        Cut (cost m (pointsOf (now (store .entry)))) (bound m (pointsOf (now (store .entry)))) t b (best .vector) r ⌝ }
 {
     let halves = boxes::cut(b);
     let left = halves.left;
@@ -70,13 +84,15 @@ fn cut_box(store: &[u8], lanes: &[Chunk], m: Model, b: Box, best: Best) -> Branc
         store,
         lanes,
         m,
-        tried(store, lanes, m, best, left_low),
+        t,
+        tried(store, lanes, m, t, best, left_low),
         right_low,
     );
+    let mark = mark_of(t, new);
     Branches {
         best: new,
-        left: tested(store, lanes, m, left, new.cost),
-        right: tested(store, lanes, m, right, new.cost),
+        left: tested(store, lanes, m, left, mark),
+        right: tested(store, lanes, m, right, mark),
     }
 }
 
@@ -105,6 +121,7 @@ pub fn step(
     store: &[u8],
     lanes: &[Chunk],
     m: Model,
+    t: u64,
     table: &mut [i16],
     bounds: &mut [u64],
     s: State,
@@ -114,16 +131,16 @@ pub fn step(
         Evaluable (now store) (now lanes) m
         × Steppable (cost m (pointsOf (now store))) (bound m (pointsOf (now store))) (now table) (now bounds) s at ⌝ }
     ensures { λ r. ⌜
-        StepOutcome (cost m (pointsOf (now (store .entry)))) (bound m (pointsOf (now (store .entry))))
+        StepOutcome (cost m (pointsOf (now (store .entry)))) (bound m (pointsOf (now (store .entry)))) t
         (now (table .entry)) (now (bounds .entry)) s r (now (table .exit)) (now (bounds .exit)) ⌝ }
 {
     let best = s.best;
     let b = rows::read_row(table, at);
-    let br = cut_box(store, lanes, m, b, best);
+    let br = cut_box(store, lanes, m, t, b, best);
     let new = br.best;
     let left = br.left;
     let right = br.right;
-    let after = replace(table, bounds, s.rows, at, new.cost, left, right);
+    let after = replace(table, bounds, s.rows, at, mark_of(t, new), left, right);
     if after.full {
         return Stepped {
             full: true,

@@ -3,6 +3,7 @@ use crate::Answer;
 use crate::Kind;
 use crate::branch::Best;
 use crate::branch::State;
+use crate::branch::mark_of;
 use crate::branch::step;
 use crate::branch::tested;
 use boxes::Box;
@@ -13,7 +14,9 @@ use model::NO_CAP;
 use open_boxes::lower_bound;
 use open_boxes::put;
 ghost use mathlib.Core.Path.{_≡_};
+ghost use mathlib.Core.Bool.{cond};
 ghost use Prim.Native.Nat.{_≤_};
+ghost use lib.Dec.{eqb, leb};
 ghost use lib.ListN.{length};
 ghost use Rattle.boxes.specs.Boxes.{InBox};
 ghost use Rattle.points.specs.Points.{pointsOf};
@@ -22,11 +25,12 @@ ghost use Rattle.rows.specs.Rows.{rowCount};
 ghost use Rattle.search.specs.Inside.{Evaluable, Begun, answerWith, Ran};
 ghost use Rattle.search.specs.Search.{searched};
 
-// The best vector is the start vector. The given box is open if its bound is below the cost.
+// The best vector is the start vector. The given box is open if it is kept.
 pub fn begin(
     store: &[u8],
     lanes: &[Chunk],
     m: Model,
+    t: u64,
     table: &mut [i16],
     bounds: &mut [u64],
     domain: Box,
@@ -34,16 +38,22 @@ pub fn begin(
 ) -> State
     requires { ⌜ Evaluable (now store) (now lanes) m × (1 ≤ rowCount (now table)) × (1 ≤ length (now bounds)) ⌝ }
     ensures { λ r. ⌜
-        Begun (cost m (pointsOf (now (store .entry)))) (bound m (pointsOf (now (store .entry)))) start domain
+        Begun (cost m (pointsOf (now (store .entry)))) (bound m (pointsOf (now (store .entry)))) t start domain
         (now (table .entry)) (now (bounds .entry)) r (now (table .exit)) (now (bounds .exit)) ⌝ }
 {
     let c = model::cost_in(store, lanes, m, start, NO_CAP);
-    let rows = put(table, bounds, 0, tested(store, lanes, m, domain, c));
+    let best = Best {
+        vector: start,
+        cost: c,
+    };
+    let rows = put(
+        table,
+        bounds,
+        0,
+        tested(store, lanes, m, domain, mark_of(t, best)),
+    );
     State {
-        best: Best {
-            vector: start,
-            cost: c,
-        },
+        best,
         rows,
         count: 0,
         peak: rows,
@@ -66,6 +76,13 @@ fn answer(kind: Kind, s: State, low: u64) -> Answer
     }
 }
 
+// Whether a search is solved: where C − L is at most t, and for t = 0 where no box is open. No other code decides it.
+fn is_solved(t: u64, gap: u64, open: usize) -> bool
+    ensures { λ r. ⌜ r ≡ cond (eqb t 0) (eqb «open» 0) (leb gap t) ⌝ }
+{
+    if t == 0 { open == 0 } else { gap <= t }
+}
+
 // Step after step, from the beginning: solved is the paper's (a), spent its (b), and `step` its (c).
 pub fn run(
     store: &[u8],
@@ -79,7 +96,7 @@ pub fn run(
         Evaluable (now store) (now lanes) (job .model) × (1 ≤ rowCount (now table)) × (rowCount (now table) ≤ length (now bounds))
         × InBox (job .start) (job .domain) ⌝ }
     requires { ⌜
-        Begun (cost (job .model) (pointsOf (now store))) (bound (job .model) (pointsOf (now store))) (job .start) (job .domain)
+        Begun (cost (job .model) (pointsOf (now store))) (bound (job .model) (pointsOf (now store))) (job .t) (job .start) (job .domain)
         (now table) (now bounds) first (now table) (now bounds) ⌝ }
     ensures { λ r. ⌜
         Ran (bound (job .model) (pointsOf (now (store .entry)))) (searched (now (store .entry)) job (rowCount (now (table .entry))))
@@ -90,7 +107,7 @@ pub fn run(
     loop {
         let best = s.best;
         let low = lower_bound(bounds, s.rows, best.cost);
-        let solved = best.cost - low.bound <= job.t;
+        let solved = is_solved(job.t, best.cost - low.bound, s.rows);
         let spent = s.count == job.budget;
         if solved {
             return answer(Kind::Solved, s, low.bound);
@@ -98,7 +115,7 @@ pub fn run(
         if spent {
             return answer(Kind::Spent, s, low.bound);
         }
-        let next = step(store, lanes, m, table, bounds, s, low.at);
+        let next = step(store, lanes, m, job.t, table, bounds, s, low.at);
         if next.full {
             return answer(Kind::Full, s, low.bound);
         }

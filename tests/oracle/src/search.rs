@@ -1,4 +1,4 @@
-//! The search, step by step as in the paper.
+//! The search, step by step as in the paper, with the ties of document 02 for t = 0.
 
 use crate::boxes::{check_box, Box8};
 use crate::model::Vector;
@@ -59,13 +59,25 @@ impl Search<'_> {
         Open { domain, bound: self.job.model.bound_of(&self.points, &domain) }
     }
 
+    /// Whether a cost with its vector, or a bound with its low vector, is below C; for t = 0 also whether it equals C
+    /// and the vector comes before best, comparing coordinate 1 first.
+    fn ahead(&self, number: u64, vector: &Vector, best: &Vector, c: u64) -> bool {
+        number < c || (self.job.t == 0 && number == c && vector < best)
+    }
+
+    /// Keeps in order the boxes that the rule keeps, by the new C and the new best.
+    fn keep(&self, state: &mut State) {
+        let (best, c) = (state.best, state.c);
+        state.list.retain(|open| self.ahead(open.bound, &open.domain.low, &best, c));
+    }
+
     fn beginning(&self) -> State {
         let best = self.job.start;
-        let c = self.cost(&best);
-        let given = self.open(self.job.domain);
-        let list = if given.bound < c { vec![given] } else { vec![] };
-        let peak = list.len();
-        State { best, c, list, count: 0, peak }
+        let list = vec![self.open(self.job.domain)];
+        let mut state = State { best, c: self.cost(&best), list, count: 0, peak: 0 };
+        self.keep(&mut state);
+        state.peak = state.list.len();
+        state
     }
 
     /// The state after one more split, or nothing where more than r boxes remain.
@@ -76,14 +88,14 @@ impl Search<'_> {
         let (left, right) = next.list.remove(first).domain.cut();
         for vector in [left.low, right.low] {
             let cost = self.cost(&vector);
-            if cost < next.c {
+            if self.ahead(cost, &vector, &next.best, next.c) {
                 next.best = vector;
                 next.c = cost;
             }
         }
         next.list.push(self.open(left));
         next.list.push(self.open(right));
-        next.list.retain(|open| open.bound < next.c);
+        self.keep(&mut next);
         if next.list.len() > self.rows {
             return None;
         }
@@ -92,10 +104,18 @@ impl Search<'_> {
         Some(next)
     }
 
+    /// For t = 0 solved means that no box is open.
+    fn solved(&self, state: &State) -> bool {
+        match self.job.t {
+            0 => state.list.is_empty(),
+            t => state.c - state.l() <= t,
+        }
+    }
+
     fn run(&self) -> (Kind, State) {
         let mut state = self.beginning();
         loop {
-            if state.c - state.l() <= self.job.t {
+            if self.solved(&state) {
                 return (Kind::Solved, state);
             }
             if state.count == self.job.budget {

@@ -7,36 +7,36 @@ use Prim.Native.Nat.{_+_, _-_, _≤_, _<_}
 use native.Mathlib.Omega.{arith}
 use Rattle.rows.specs.Rows.{rowCount, rowAt}
 use Rattle.open_boxes.specs.OpenBoxes.{staysAt, picked, entryAt, Held}
-use Rattle.open_boxes.proofs.Listing.{all-held, same-entry, row-held}
+use Rattle.open_boxes.proofs.Listing.{all-held, same-row, same-entry, row-held}
 use Rattle.open_boxes.proofs.close_up.Statement.{statement}
 use Rattle.open_boxes.proofs.close_up.Tie as tie
 
 abbrev Inv-loop : tie.InvT-loop
-Inv-loop table₀ bounds₀ n at cost stay₀ i₀ table bounds stay i =
-    (i ≤ n) × Held table₀ bounds₀ i (picked (rowAt table₀) (staysAt bounds₀ at cost) i) (picked (entryAt bounds₀) (staysAt bounds₀ at cost) i) stay table bounds
+Inv-loop table₀ bounds₀ n at mark stay₀ i₀ table bounds stay i =
+    (i ≤ n) × Held table₀ bounds₀ i (picked (rowAt table₀) (staysAt table₀ bounds₀ at mark) i) (picked (entryAt bounds₀) (staysAt table₀ bounds₀ at mark) i) stay table bounds
 
 abbrev μ-loop : tie.MeasureT-loop
-μ-loop table₀ bounds₀ n at cost stay₀ i₀ table bounds stay i = n - i
+μ-loop table₀ bounds₀ n at mark stay₀ i₀ table bounds stay i = n - i
 
 loop-holds : tie.Need-loop-holds Inv-loop μ-loop
 loop-holds c =
     let u = c .unmoved .ensures in
-    let a = c .before .before .before .args in
-    (u .few, all-held (a .table .now) (a .bounds .now) (staysAt (a .bounds .now) (a .at) (a .cost)) (c .unmoved .result) (omega (arith, u .few)) (u .stay))
+    let a = c .before .before .before .before .args in
+    (u .few, all-held (a .table .now) (a .bounds .now) (staysAt (a .table .now) (a .bounds .now) (a .at) (a .mark)) (c .unmoved .result) (omega (arith, u .few)) (u .stay))
 
 unmoved-requires : tie.Need-unmoved-requires Inv-loop μ-loop
 unmoved-requires c κs = omega arith
 
 stays-requires : tie.Need-stays-requires Inv-loop μ-loop
-stays-requires c κs = let l = c .before .before in omega (arith, l .loop .inv .1 .long-entries)
+stays-requires c κs = let l = c .before .before .before in omega (arith, l .loop .inv .1 .long-entries)
 
 move-box-requires : tie.Need-move-box-requires Inv-loop μ-loop
 move-box-requires c κs =
-    let l = c .before .before .before .before .before .before in
+    let l = c .before .before .before .before .before .before .before in
     (l .loop .inv .1 .few, omega (arith, l .loop .inv .1 .long), omega (arith, l .loop .inv .1 .long-entries))
 
 add-stay : tie.Need-add-stay Inv-loop μ-loop
-add-stay c = let l = c .before .before .before .before .before .before .before .before .before .before in omega (arith, l .loop .inv .1 .few)
+add-stay c = let l = c .before .before .before .before .before .before .before .before .before .before .before in omega (arith, l .loop .inv .1 .few)
 
 add-i : tie.Need-add-i Inv-loop μ-loop
 add-i c = omega arith
@@ -46,16 +46,16 @@ loop-less c = omega arith
 
 loop-again : tie.Need-loop-again Inv-loop μ-loop
 loop-again c =
-    let l = c .before .before .before .before in
-    let a = l .before .before .before .before .args in
+    let l = c .before .before .before .before .before in
+    let a = l .before .before .before .before .before .args in
     let t = a .table .now in
     let d = a .bounds .now in
-    let q = staysAt d (a .at) (a .cost) in
+    let q = staysAt t d (a .at) (a .mark) in
     let i = l .loop .i in
     let there : i < rowCount t = omega arith in
     let entry : i < length d = omega arith in
     let p = l .loop .inv .1 in
-    let is : c .before .stays .result ≡ q i = rw (same-entry t d q i (l .loop .stay) (l .loop .table) (l .loop .bounds) there entry p) at (c .before .stays .ensures) in (
+    let is : c .before .stays .result ≡ q i = rw (same-row t d q i (l .loop .stay) (l .loop .table) (l .loop .bounds) there entry p, same-entry t d q i (l .loop .stay) (l .loop .table) (l .loop .bounds) there entry p) at (c .before .stays .ensures) in (
       omega arith,
       ⊎-elim
           (λ w.
@@ -77,7 +77,7 @@ same-length-2 c = c .before .loop .inv .1 .long-entries
 returns : tie.Need-returns Inv-loop μ-loop
 returns c =
     let l = c .before in
-    let all : l .loop .i ≡ l .before .before .before .before .args .n = omega arith in
+    let all : l .loop .i ≡ l .before .before .before .before .before .args .n = omega arith in
     rw all at (l .loop .inv .1)
 
 pub close-up-spec : {M : Type 1} → statement M

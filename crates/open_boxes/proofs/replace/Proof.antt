@@ -29,7 +29,7 @@ added-requires-2 c κs = search needs
 -- what is known once the halves that are kept are counted
 module _ (c : tie.After-added2) where
   abbrev start : tie.Start
-  start = c .before .before .before .before .before .before
+  start = c .before .before .before .before .before .before .before
 
   -- as many boxes as there is room for
   abbrev room : ℕ
@@ -39,16 +39,16 @@ module _ (c : tie.After-added2) where
   listed = min (start .args .n) room
 
   abbrev stay : ℕ
-  stay = number (staysAt (start .args .bounds .now) (start .args .at) (start .args .cost)) listed
+  stay = number (staysAt (start .args .table .now) (start .args .bounds .now) (start .args .at) (start .args .mark)) listed
 
   abbrev more : ℕ
   more = cond (start .args .left .kept) 1 0 + cond (start .args .right .kept) 1 0
 
-  room-is : c .before .before .before .before .smaller .result ≡ room
-  room-is = c .before .before .before .before .smaller .ensures
+  room-is : c .before .before .before .before .before .smaller .result ≡ room
+  room-is = c .before .before .before .before .before .smaller .ensures
 
-  listed-is : c .before .before .before .smaller2 .result ≡ listed
-  listed-is = c .before .before .before .smaller2 .ensures ∙ ap (min (start .args .n)) room-is
+  listed-is : c .before .before .before .before .smaller2 .result ≡ listed
+  listed-is = c .before .before .before .before .smaller2 .ensures ∙ ap (min (start .args .n)) room-is
 
   more-is : c .before .added .result + c .added2 .result ≡ more
   more-is = omega (arith, c .before .added .ensures, c .added2 .ensures)
@@ -77,10 +77,10 @@ module _ (c : tie.After-too-many) where
 
   told :
       let a = start counts .args in
-      c .too-many .result ≡ ltb (room counts) (length (boxesLeft (a .table .now) (a .bounds .now) (listed counts) (a .at) (a .cost) (a .left) (a .right)))
+      c .too-many .result ≡ ltb (room counts) (length (boxesLeft (a .table .now) (a .bounds .now) (listed counts) (a .at) (a .mark) (a .left) (a .right)))
   told =
       let a = start counts .args in
-      full-is ∙ ap (ltb (room counts)) (sym (left-number (a .table .now) (a .bounds .now) (a .at) (a .cost) (a .left) (a .right) (listed counts)))
+      full-is ∙ ap (ltb (room counts)) (sym (left-number (a .table .now) (a .bounds .now) (a .at) (a .mark) (a .left) (a .right) (listed counts)))
 
 -- the halves have sixteen numbers each
 module _ (s : tie.Start) where
@@ -95,6 +95,9 @@ one-answer e = let z : _≡_ {A = ℕ} 1 0 = ap (λ (b : Bool). cond b 1 0) e in
 
 same-length : tie.Need-same-length
 same-length c = search needs
+
+same-length-2 : tie.Need-same-length-2
+same-length-2 c = search needs
 
 returns : tie.Need-returns
 returns c =
@@ -116,11 +119,11 @@ put-requires c κs = search needs
 put-requires-2 : tie.Need-put-requires-2
 put-requires-2 c κs = search needs
 
-same-length-2 : tie.Need-same-length-2
-same-length-2 c = search needs
-
 same-length-3 : tie.Need-same-length-3
 same-length-3 c = search needs
+
+same-length-4 : tie.Need-same-length-4
+same-length-4 c = search needs
 
 returns-2 : tie.Need-returns-2
 returns-2 c =
@@ -138,7 +141,7 @@ returns-2 c =
       kept = λ e. one-answer (sym e);
       kept-entries = λ e. one-answer (sym e);
       held = λ e.
-          both-placed (a .table .now) (a .bounds .now) (a .at) (a .cost) (a .left) (a .right) (listed (counts q)) (left-whole s) (right-whole s) fits
+          both-placed (a .table .now) (a .bounds .now) (a .at) (a .mark) (a .left) (a .right) (listed (counts q)) (left-whole s) (right-whole s) fits
           (stays .close-up .result) (stays .close-up .last .0) (stays .close-up .last .1 .0) (rw (listed-is (counts q)) at (stays .close-up .ensures))
           (first .put .result) (first .put .last .0) (first .put .last .1 .0) (first .put .ensures)
           (last .put2 .result) (last .put2 .last .0) (last .put2 .last .1 .0) (last .put2 .ensures);
@@ -155,10 +158,11 @@ replace-spec =
     add-too-many
     too-many-requires
     same-length
+    same-length-2
     returns
     close-up-requires
     put-requires
     put-requires-2
-    same-length-2
     same-length-3
+    same-length-4
     returns-2)

@@ -12,10 +12,10 @@ use Rattle.open_boxes.proofs.unmoved.Statement.{statement}
 use Rattle.open_boxes.proofs.unmoved.Tie as tie
 
 abbrev Inv-loop : tie.InvT-loop
-Inv-loop bounds n at cost end i₀ i = (i ≤ end) × ((k : ℕ) → k < i → staysAt bounds at cost k ≡ true)
+Inv-loop table bounds n at mark end i₀ i = (i ≤ end) × ((k : ℕ) → k < i → staysAt table bounds at mark k ≡ true)
 
 abbrev μ-loop : tie.MeasureT-loop
-μ-loop bounds n at cost end i₀ i = end - i
+μ-loop table bounds n at mark end i₀ i = end - i
 
 smaller-requires : tie.Need-smaller-requires Inv-loop μ-loop
 smaller-requires c κs = search needs
@@ -47,8 +47,8 @@ loop-again : tie.Need-loop-again Inv-loop μ-loop
 loop-again c =
     let l = c .before .before .before .before in
     let a = l .before .before .before .args in
-    let here = stays-before (a .bounds .now) (a .at) (a .cost) (l .loop .i) (omega (arith, l .before .smaller .ensures)) (sym (c .before .keeps .ensures) ∙ not-false _ (c .if1 .left)) in
-    (omega arith, below-more (λ (k : ℕ). staysAt (a .bounds .now) (a .at) (a .cost) k ≡ true) (l .loop .i) (l .loop .inv .1) here)
+    let here = stays-before (a .table .now) (a .bounds .now) (a .at) (a .mark) (l .loop .i) (omega (arith, l .before .smaller .ensures)) (sym (c .before .keeps .ensures) ∙ not-false _ (c .if1 .left)) in
+    (omega arith, below-more (λ (k : ℕ). staysAt (a .table .now) (a .bounds .now) (a .at) (a .mark) k ≡ true) (l .loop .i) (l .loop .inv .1) here)
 
 returns-2 : tie.Need-returns-2 Inv-loop μ-loop
 returns-2 c =

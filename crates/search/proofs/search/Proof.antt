@@ -96,8 +96,8 @@ returns c =
     let q = r .before .before .before .before .before .before .before in
     let e = told (q .before .before .before .before .before) in
     let a = begun e .args in
-    promised-pass (a .store .now) (a .job) (a .table .now) (a .bounds .now) (pass e) (q .begin .last .1 .1 .1 .0) (r .run .last .1 .1 .1 .0)
-    (q .begin .last .1 .1 .1 .1 .0) (r .run .last .1 .1 .1 .1 .0) (q .begin .result) (r .run .result) (q .begin .ensures) (r .run .ensures)
+    promised-pass (a .store .now) (a .job) (a .table .now) (a .bounds .now) (pass e) (q .begin .last .1 .1 .1 .1 .0) (r .run .last .1 .1 .1 .0)
+    (q .begin .last .1 .1 .1 .1 .1 .0) (r .run .last .1 .1 .1 .1 .0) (q .begin .result) (r .run .result) (q .begin .ensures) (r .run .ensures)
 
 returns-2 : tie.Need-returns-2
 returns-2 c =

@@ -62,6 +62,7 @@ pub const GROUPS: &[Group] = &[
     group("merge", "merge", 3000, merge::small),
     group("merge-large", "merge", 60, merge::large),
     group("search-exhaustive", "search", 4000, search::exhaustive),
+    group("search-ties", "search", 200, search::ties),
     group("search-wide", "search", 1000, search::wide),
     group("search-gaps-alone", "search", 500, search::gaps_alone),
     group("search-damaged", "search", 2000, search::damaged),

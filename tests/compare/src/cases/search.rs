@@ -27,6 +27,26 @@ pub fn exhaustive(calls: &dyn Calls, random: &mut Random) -> Outcome {
     with_case(outcome, || run.to_string())
 }
 
+/// Few points and p = 0, so that many vectors cost the same: the promises from every start of a small box, by which a solved
+/// answer is the same vector from each.
+pub fn ties(calls: &dyn Calls, random: &mut Random) -> Outcome {
+    let mut input = inputs::small(random, 40);
+    input.store.truncate(12 * random.size(1, 3));
+    input.job.model.p = random.pick(&[0, 0, 0, 1, 2]);
+    input.job.model.epsilon = random.pick(&[1, 1, 2, 4]);
+    let volume = input.job.domain.volume().unwrap() as u64;
+    input.job.budget = volume as u32 - 1;
+    let rows = (volume as usize).div_ceil(2);
+    for start in input.job.domain.grid() {
+        input.job.start = start;
+        let mut run = Run::new(random, input.clone(), 16 * rows, rows);
+        run.call(calls);
+        let outcome = run.promises(volume, rows).and_then(|()| run.compare());
+        with_case(outcome, || run.to_string())?;
+    }
+    Ok(())
+}
+
 /// Boxes of any size, up to the widest; a search of some hundred splits.
 pub fn wide(calls: &dyn Calls, random: &mut Random) -> Outcome {
     let mut input = match random.below(3) {
@@ -147,7 +167,16 @@ impl Run {
         same("C", c, job.model.cost_of(&points, &vector))?;
         same("L is at most the least cost", l <= least, true)?;
         same("L is at most C", l <= c, true)?;
-        same("solved exactly when C - L <= t", solved, c - l <= job.t)?;
+        if job.t == 0 {
+            same("solved exactly when no box is open", solved, open == 0)?;
+        } else {
+            same("solved exactly when C - L <= t", solved, c - l <= job.t)?;
+        }
+        if job.t == 0 && solved {
+            let first =
+                job.domain.grid().into_iter().min_by_key(|vector| (job.model.cost_of(&points, vector), *vector));
+            same("the first of all vectors of least cost", Some(vector), first)?;
+        }
         same("count is at most V - 1", count < volume, true)?;
         same("open is at most peak, peak at most r", open <= peak && peak <= rows as u64, true)?;
         if job.budget as u64 >= volume - 1 && 2 * rows as u64 >= volume {

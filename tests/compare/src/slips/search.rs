@@ -51,20 +51,42 @@ impl StandIn {
         points.iter().map(least).sum()
     }
 
-    /// Keeps the boxes with bounds below C.
-    fn keep_below(&self, job: &Job, points: &[Point], c: u64, list: &mut Vec<Box8>) {
-        let below = |bound: u64| match self.slip {
-            KeepsEqualBounds => bound <= c,
-            DropsByUnreachedC => bound < c.saturating_sub(job.t),
-            _ => bound < c,
+    /// Whether a cost with its vector, or a bound with its low vector, is below C; for t = 0 also whether it equals C and
+    /// the vector comes before best.
+    fn ahead(&self, job: &Job, number: u64, vector: &Vector, best: &Vector, c: u64) -> bool {
+        let before = match self.slip {
+            TiesToTheLater => vector > best,
+            TiesUnsigned => vector.map(|w| w as u16) < best.map(|w| w as u16),
+            TiesByTheLastCoordinate => vector.iter().rev().lt(best.iter().rev()),
+            _ => vector < best,
         };
-        list.retain(|domain| below(self.bound_of(&job.model, points, domain)) && !domain.is_one_vector());
+        let ties = match self.slip {
+            TiesIgnored => false,
+            TiesForLargerT => true,
+            _ => job.t == 0,
+        };
+        number < c || ties && number == c && before
+    }
+
+    /// Keeps the boxes that the rule keeps, by best and C.
+    fn keep(&self, job: &Job, points: &[Point], best: &Vector, c: u64, list: &mut Vec<Box8>) {
+        let keeps = |bound: u64, low: &Vector| match self.slip {
+            KeepsEqualBounds => bound <= c,
+            DropsByUnreachedC => self.ahead(job, bound, low, best, c.saturating_sub(job.t)),
+            _ => self.ahead(job, bound, low, best, c),
+        };
+        list.retain(|domain| {
+            keeps(self.bound_of(&job.model, points, domain), &domain.low) && !domain.is_one_vector()
+        });
     }
 
     fn begin(&self, job: &Job, points: &[Point]) -> State {
         let c = self.cost_of(&job.model, points, &job.start);
         let mut list = vec![job.domain];
-        self.keep_below(job, points, c, &mut list);
+        self.keep(job, points, &job.start, c, &mut list);
+        if self.slips(GivenBoxWithoutTies) {
+            list.retain(|domain| self.bound_of(&job.model, points, domain) < c);
+        }
         State { best: job.start, c, count: 0, peak: list.len(), list }
     }
 
@@ -72,7 +94,8 @@ impl StandIn {
     fn stops(&self, job: &Job, state: &State, l: u64) -> Option<Kind> {
         // A wrong cut need not end by itself; no case of the groups needs so many splits.
         let spent = state.count == job.budget || state.count == 5000;
-        let solved = state.c - l <= job.t;
+        let by_list = job.t == 0 && !self.slips(SolvedWhileOpen);
+        let solved = if by_list { state.list.is_empty() } else { state.c - l <= job.t };
         match self.slip {
             SpentBeforeSolved if spent => Some(Kind::Spent),
             _ if solved => Some(Kind::Solved),
@@ -91,12 +114,13 @@ impl StandIn {
         let children = if self.slips(RightChildUncosted) { vec![left] } else { vec![left, right] };
         for child in children {
             let cost = self.cost_of(&job.model, points, &child.low);
-            if cost < c || self.slips(EqualCostBecomesBest) && cost == c {
+            if self.ahead(job, cost, &child.low, &best, c) || self.slips(EqualCostBecomesBest) && cost == c {
                 (best, c) = (child.low, cost);
             }
         }
         list.extend([left, right]);
-        self.keep_below(job, points, c, &mut list);
+        let kept_by = if self.slips(KeptByOldBest) { state.best } else { best };
+        self.keep(job, points, &kept_by, c, &mut list);
         State { best, c, count: state.count + 1, peak: state.peak.max(list.len()), list }
     }
 

@@ -1,10 +1,12 @@
 -- A box of two vectors or more is cut, the low vector of each half is tried, and each half's bound is found.
 use mathlib.Core.Path.{_≡_, sym, ap, _∙_}
+use Prim.Native.Nat.{_<_}
 use Rattle.points.specs.Points.{pointsOf}
 use Rattle.residuals.specs.Cost.{cost}
 use Rattle.boxes.proofs.Splitting.{cut-passes}
 use Rattle.search.specs.declared.branch.Best.{Best}
 use Rattle.search.specs.Inside.{bestOf}
+use Rattle.search.proofs.UpTo.{best-below}
 use borrow.Author.Needs.{needs}
 use Rattle.search.proofs.branch.cut_box.Statement.{statement}
 use Rattle.search.proofs.branch.cut_box.Tie as tie
@@ -27,22 +29,33 @@ new-best c =
 tried-requires-2 : tie.Need-tried-requires-2
 tried-requires-2 c κs = (c .before .before .before .before .before .before .before .pre .0, new-best c)
 
+mark-of-requires : tie.Need-mark-of-requires
+mark-of-requires c κs = search needs
+
+-- the new best one's cost is no largest number of 64 bits
+mark-below : (c : tie.After-mark-of) → c .mark-of .result .cost < 18446744073709551615
+mark-below c =
+    let tries = c .before in
+    let start = tries .before .before .before .before .before .before .before .before in
+    rw (c .mark-of .ensures) (best-below (start .args .store .now) (start .args .m) (start .pre .0 .checked) (tries .tried2 .result) _ (tries .tried2 .ensures))
+
 tested-requires : tie.Need-tested-requires
-tested-requires c κs = search needs
+tested-requires c κs = (c .before .before .before .before .before .before .before .before .before .pre .0, mark-below c)
 
 tested-requires-2 : tie.Need-tested-requires-2
-tested-requires-2 c κs = search needs
+tested-requires-2 c κs = (c .before .before .before .before .before .before .before .before .before .before .pre .0, mark-below (c .before))
 
 returns : tie.Need-returns
 returns c =
-    let tries = c .before .before in
+    let marks = c .before .before in
+    let tries = marks .before in
     let cuts = tries .before .before .before .before .before .before in
     let start = cuts .before .before in
     let halves = cuts .cut .ensures ∙ cut-passes (start .args .b) (start .pre .2) in
     record {
       best = rw (tries .tried2 .ensures, tries .before .tried .ensures, halves);
-      left = rw halves at (c .before .tested .ensures);
-      right = rw halves at (c .tested2 .ensures);
+      left = rw (marks .mark-of .ensures, halves) at (c .before .tested .ensures);
+      right = rw (marks .mark-of .ensures, halves) at (c .tested2 .ensures);
     }
 
 pub cut-box-spec : {M : Type 1} → statement M
@@ -52,6 +65,7 @@ cut-box-spec =
     cut-requires
     tried-requires
     tried-requires-2
+    mark-of-requires
     tested-requires
     tested-requires-2
     returns)

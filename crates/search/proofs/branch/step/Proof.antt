@@ -11,9 +11,10 @@ use Rattle.boxes.specs.declared.Box.{Box}
 use Rattle.points.specs.Points.{pointsOf}
 use Rattle.residuals.specs.Cost.{cost, bound}
 use Rattle.rows.specs.Rows.{rowCount, rowAt}
+use Rattle.open_boxes.specs.OpenBoxes.{ReplacedBy}
 use Rattle.certificate.specs.Search as Search
 use Rattle.certificate.specs.Search.{split}
-use Rattle.search.specs.Inside.{Cut, stateIn}
+use Rattle.search.specs.Inside.{markOf, Cut, stateIn}
 use Rattle.search.proofs.Stepping.{step-told, step-moved}
 use borrow.Author.Needs.{needs}
 use Rattle.search.proofs.branch.step.Statement.{statement}
@@ -26,6 +27,9 @@ cut-box-requires : tie.Need-cut-box-requires
 cut-box-requires c κs =
     let s = c .before .before .before .before .before in
     (s .pre .0, s .pre .1 .best, rw (c .read-row .ensures) (s .pre .1 .wide))
+
+mark-of-requires : tie.Need-mark-of-requires
+mark-of-requires c κs = search needs
 
 replace-requires : tie.Need-replace-requires
 replace-requires c κs = search needs
@@ -47,22 +51,29 @@ module _ (c : tie.After-cut-box) where
   abbrev B : Box → ℕ
   B = bound (start .args .m) (pointsOf (start .args .store .now))
 
-  made : Cut C B (rowAt (start .args .table .now) (start .args .at)) (start .args .s .best .vector) (c .cut-box .result)
+  made : Cut C B (start .args .t) (rowAt (start .args .table .now) (start .args .at)) (start .args .s .best .vector) (c .cut-box .result)
   made = rw (c .before .read-row .ensures) at (c .cut-box .ensures)
 
 -- and once its halves have taken its place
 module _ (c : tie.After-replace) where
   abbrev cuts : tie.After-cut-box
-  cuts = c .before .before .before .before .before .before
+  cuts = c .before .before .before .before .before .before .before
 
   abbrev after : Search.State
-  after = split (C cuts) (B cuts) (stateIn (start cuts .args .table .now) (start cuts .args .s))
+  after = split (C cuts) (B cuts) (start cuts .args .t) (stateIn (start cuts .args .table .now) (start cuts .args .s))
+
+  replaced :
+      let a = start cuts .args in
+      let br = cuts .cut-box .result in
+      ReplacedBy (a .table .now) (a .bounds .now) (a .s .rows) (a .at) (markOf (a .t) (br .best)) (br .left) (br .right) (c .replace .result)
+      (c .replace .last .0) (c .replace .last .1 .0)
+  replaced = rw (c .before .mark-of .ensures) at (c .replace .ensures)
 
   told : c .replace .result .full ≡ ltb (rowCount (start cuts .args .table .now)) (length (after .list))
   told =
       let a = start cuts .args in
-      step-told (C cuts) (B cuts) (a .table .now) (a .bounds .now) (a .s) (a .at) (start cuts .pre .1) (cuts .cut-box .result) (made cuts)
-      (c .replace .result) (c .replace .last .0) (c .replace .last .1 .0) (c .replace .ensures)
+      step-told (C cuts) (B cuts) (a .t) (a .table .now) (a .bounds .now) (a .s) (a .at) (start cuts .pre .1) (cuts .cut-box .result) (made cuts)
+      (c .replace .result) (c .replace .last .0) (c .replace .last .1 .0) replaced
 
 one-answer : {P : Type 0} → true ≡ false → P
 one-answer e = let z : _≡_ {A = ℕ} 1 0 = ap (λ (b : Bool). cond b 1 0) e in absurd (omega arith)
@@ -77,8 +88,8 @@ returns c =
       moved = λ e. one-answer e;
     }
 
-add-t22 : tie.Need-add-t22
-add-t22 c =
+add-t24 : tie.Need-add-t24
+add-t24 c =
     let r = c .before .before .before .before .before in
     omega (arith, start (cuts r) .pre .1 .countable)
 
@@ -102,8 +113,8 @@ returns-2 c =
       kept-entries = λ e. one-answer (sym e);
       told = sym (else .if1 .left) ∙ told r;
       moved = λ e.
-          step-moved (C q) (B q) (a .table .now) (a .bounds .now) (a .s) (a .at) (start q .pre .1) (q .cut-box .result) (made q)
-          (r .replace .result) (r .replace .last .0) (r .replace .last .1 .0) (r .replace .ensures)
+          step-moved (C q) (B q) (a .t) (a .table .now) (a .bounds .now) (a .s) (a .at) (start q .pre .1) (q .cut-box .result) (made q)
+          (r .replace .result) (r .replace .last .0) (r .replace .last .1 .0) (replaced r)
           (else .if1 .left) _ (c .larger .result) (omega arith) (omega (arith, c .larger .ensures));
     }
 
@@ -113,11 +124,12 @@ step-spec =
     (tie.spec
     read-row-requires
     cut-box-requires
+    mark-of-requires
     replace-requires
     same-length
     same-length-2
     returns
-    add-t22
+    add-t24
     larger-requires
     same-length-3
     same-length-4

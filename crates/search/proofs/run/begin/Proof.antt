@@ -1,8 +1,9 @@
--- The start vector's cost, and the given box if its bound is below that.
+-- The start vector's cost, and the given box if it is kept.
 use mathlib.Core.Path.{_≡_, _∙_}
 use Rattle.points.specs.Points.{pointsOf}
 use Rattle.residuals.specs.Cost.{cost, bound}
 use Rattle.rows.proofs.Rows.{Whole}
+use Rattle.search.proofs.UpTo.{best-below}
 use Rattle.search.proofs.Beginning.{whole-cost, begun}
 use borrow.Author.Needs.{needs}
 use Rattle.search.proofs.run.begin.Statement.{statement}
@@ -11,8 +12,26 @@ use Rattle.search.proofs.run.begin.Tie as tie
 cost-in-requires : tie.Need-cost-in-requires
 cost-in-requires c κs = search needs
 
+mark-of-requires : tie.Need-mark-of-requires
+mark-of-requires c κs = search needs
+
+-- the cost that is found is the start vector's
+exact : (c : tie.After-cost-in) →
+    let a = c .before .before .before .args in
+    c .cost-in .result ≡ cost (a .m) (pointsOf (a .store .now)) (a .start)
+exact c =
+    let start = c .before .before .before in
+    c .cost-in .ensures .1 (start .pre .0 .decoded) ∙ whole-cost (start .args .store .now) (start .args .m) (start .args .start) (start .pre .0 .checked)
+
 tested-requires : tie.Need-tested-requires
-tested-requires c κs = search needs
+tested-requires c κs =
+    let costs = c .before .before .before in
+    let start = costs .before .before .before in
+    let a = start .args in (
+      start .pre .0,
+      rw (c .mark-of .ensures)
+          (best-below (a .store .now) (a .m) (start .pre .0 .checked) (record { vector = a .start; cost = costs .cost-in .result }) (a .start) (rw (exact costs))),
+    )
 
 put-requires : tie.Need-put-requires
 put-requires c κs = search needs
@@ -30,15 +49,15 @@ returns : tie.Need-returns
 returns c =
     let p = c .before .before .before in
     let tests = p .before in
-    let costs = c .before .before .before .before .before .before .before in
-    let start = c .before .before .before .before .before .before .before .before .before .before in
+    let marks = tests .before in
+    let costs = marks .before .before .before in
+    let start = costs .before .before .before in
     let a = start .args in
     let o = tests .tested .result in
-    let C = cost (a .m) (pointsOf (a .store .now)) in
-    let exact : costs .cost-in .result ≡ C (a .start) = costs .cost-in .ensures .1 (start .pre .0 .decoded) ∙ whole-cost (a .store .now) (a .m) (a .start) (start .pre .0 .checked) in
     let half-whole : Whole (o .half) = rw (tests .tested .ensures .half) (domain-whole start) in
-    begun C (bound (a .m) (pointsOf (a .store .now))) (a .start) (a .domain) (a .table .now) (a .bounds .now) (costs .cost-in .result) o exact
-    (tests .tested .ensures) (start .pre .1) (start .pre .2) half-whole (p .put .result) (p .put .last .0) (p .put .last .1 .0) (p .put .ensures)
+    begun (cost (a .m) (pointsOf (a .store .now))) (bound (a .m) (pointsOf (a .store .now))) (a .t) (a .start) (a .domain) (a .table .now) (a .bounds .now)
+    (costs .cost-in .result) o (exact costs) (rw (marks .mark-of .ensures) at (tests .tested .ensures)) (start .pre .1) (start .pre .2) half-whole
+    (p .put .result) (p .put .last .0) (p .put .last .1 .0) (p .put .ensures)
 
 pub begin-spec : {M : Type 1} → statement M
-begin-spec = tie.close (tie.spec cost-in-requires tested-requires put-requires same-length same-length-2 returns)
+begin-spec = tie.close (tie.spec cost-in-requires mark-of-requires tested-requires put-requires same-length same-length-2 returns)

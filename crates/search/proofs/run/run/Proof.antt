@@ -1,11 +1,13 @@
 -- The invariant: the run of the definition has come to the state, the table and the list of bounds. The measure is what is left of the
 -- split budget.
 use borrow.Author.Needs.{needs}
-use borrow.Author.Tests.{leb-true, leb-false, eqb-true, eqb-false}
-use mathlib.Core.Path.{_≡_, ap, subst, _∙_}
+use borrow.Author.Tests.{eqb-true, eqb-false}
+use mathlib.Core.Bool.{false, cond}
+use mathlib.Core.Path.{_≡_, ap, subst, sym, _∙_}
 use mathlib.Core.List.{List}
-use Prim.Native.Nat.{ℕ, _-_, _<_, min}
+use Prim.Native.Nat.{ℕ, _-_, min}
 use native.Mathlib.Omega.{arith}
+use lib.Dec.{eqb, leb}
 use lib.IntN.{ℤ}
 use lib.ListN.{length}
 use Rattle.jobs.specs.declared.Job.{Job}
@@ -89,11 +91,14 @@ module _ (c : tie.After-lower-bound Inv-loop μ-loop) where
   abbrev gap : ℕ
   gap = s .best .cost - low .bound
 
-sub-solved : tie.Need-sub-solved Inv-loop μ-loop
-sub-solved c =
+sub-is-solved : tie.Need-sub-is-solved Inv-loop μ-loop
+sub-is-solved c =
     let o = c .before .before in
     let l = turn o in
     low-le (run (begun o)) (ready (begun o)) (s o) (l .loop .table) (l .loop .bounds) (l .loop .inv) (low o) (found o)
+
+is-solved-requires : tie.Need-is-solved-requires Inv-loop μ-loop
+is-solved-requires c κs = search needs
 
 answer-requires : tie.Need-answer-requires Inv-loop μ-loop
 answer-requires c κs = search needs
@@ -112,15 +117,15 @@ returns c =
     let l = turn o in
     rw (c .answer .ensures)
     (going-solved (run (begun o)) (ready (begun o)) (s o) (l .loop .table) (l .loop .bounds) (l .loop .inv) (low o) (found o)
-    (leb-true (gap o) (j o .t) (near .if1 .taken)))
+    (sym (near .before .before .before .is-solved .ensures) ∙ near .if1 .taken))
 
--- what a turn knows where C − L is over t
+-- what a turn knows where the search is not solved
 module _ (c : tie.Else1 Inv-loop μ-loop) where
   abbrev lows : tie.After-lower-bound Inv-loop μ-loop
   lows = c .before .before .before .before .before .before
 
-  far : j lows .t < gap lows
-  far = leb-false (gap lows) (j lows .t) (c .if1 .left)
+  unsolved : cond (eqb (j lows .t) 0) (eqb (s lows .rows) 0) (leb (gap lows) (j lows .t)) ≡ false
+  unsolved = sym (c .before .before .before .is-solved .ensures) ∙ c .if1 .left
 
 answer-requires-2 : tie.Need-answer-requires-2 Inv-loop μ-loop
 answer-requires-2 c κs = search needs
@@ -138,7 +143,7 @@ returns-2 c =
     let o = lows (spent .before) in
     let l = turn o in
     rw (c .answer2 .ensures)
-    (going-spent (run (begun o)) (ready (begun o)) (s o) (l .loop .table) (l .loop .bounds) (l .loop .inv) (low o) (found o) (far (spent .before))
+    (going-spent (run (begun o)) (ready (begun o)) (s o) (l .loop .table) (l .loop .bounds) (l .loop .inv) (low o) (found o) (unsolved (spent .before))
     (eqb-true (s o .count) (j o .budget) (spent .if2 .taken)))
 
 -- and where the count is another number than the budget
@@ -155,7 +160,7 @@ step-requires c κs =
     let o = near two in
     let l = turn o in (
       begun o .pre .0 .0,
-      going-steppable (run (begun o)) (ready (begun o)) (s o) (l .loop .table) (l .loop .bounds) (l .loop .inv) (low o) (found o) (far (two .before)) (left two)
+      going-steppable (run (begun o)) (ready (begun o)) (s o) (l .loop .table) (l .loop .bounds) (l .loop .inv) (low o) (found o) (unsolved (two .before)) (left two)
           (search (needs, begun o .good .1 .1 .0)),
     )
 
@@ -184,8 +189,8 @@ returns-3 c =
     let o = near two in
     let l = turn o in
     rw (c .answer3 .ensures)
-    (going-full (run (begun o)) (ready (begun o)) (s o) (l .loop .table) (l .loop .bounds) (l .loop .inv) (low o) (found o) (far (two .before)) (left two)
-    (q .step .result) (q .step .last .1 .1 .1 .0) (q .step .last .1 .1 .1 .1 .0) (q .step .ensures) (c .before .if3 .taken))
+    (going-full (run (begun o)) (ready (begun o)) (s o) (l .loop .table) (l .loop .bounds) (l .loop .inv) (low o) (found o) (unsolved (two .before)) (left two)
+    (q .step .result) (q .step .last .1 .1 .1 .1 .0) (q .step .last .1 .1 .1 .1 .1 .0) (q .step .ensures) (c .before .if3 .taken))
 
 loop-less : tie.Need-loop-less Inv-loop μ-loop
 loop-less c =
@@ -193,8 +198,8 @@ loop-less c =
     let two = stepping q in
     let o = near two in
     let l = turn o in
-    going-counts (run (begun o)) (ready (begun o)) (s o) (l .loop .table) (l .loop .bounds) (l .loop .inv) (low o) (found o) (far (two .before)) (left two)
-    (q .step .result) (q .step .last .1 .1 .1 .0) (q .step .last .1 .1 .1 .1 .0) (q .step .ensures) (c .before .if3 .left)
+    going-counts (run (begun o)) (ready (begun o)) (s o) (l .loop .table) (l .loop .bounds) (l .loop .inv) (low o) (found o) (unsolved (two .before)) (left two)
+    (q .step .result) (q .step .last .1 .1 .1 .1 .0) (q .step .last .1 .1 .1 .1 .1 .0) (q .step .ensures) (c .before .if3 .left)
 
 loop-again : tie.Need-loop-again Inv-loop μ-loop
 loop-again c =
@@ -202,8 +207,8 @@ loop-again c =
     let two = stepping q in
     let o = near two in
     let l = turn o in
-    going-on (run (begun o)) (ready (begun o)) (s o) (l .loop .table) (l .loop .bounds) (l .loop .inv) (low o) (found o) (far (two .before)) (left two)
-    (q .step .result) (q .step .last .1 .1 .1 .0) (q .step .last .1 .1 .1 .1 .0) (q .step .ensures) (c .before .if3 .left)
+    going-on (run (begun o)) (ready (begun o)) (s o) (l .loop .table) (l .loop .bounds) (l .loop .inv) (low o) (found o) (unsolved (two .before)) (left two)
+    (q .step .result) (q .step .last .1 .1 .1 .1 .0) (q .step .last .1 .1 .1 .1 .1 .0) (q .step .ensures) (c .before .if3 .left)
 
 pub run-spec : {M : Type 1} → statement M
 run-spec =
@@ -213,7 +218,8 @@ run-spec =
     μ-loop
     loop-holds
     lower-bound-requires
-    sub-solved
+    sub-is-solved
+    is-solved-requires
     answer-requires
     same-length
     same-length-2

@@ -1,0 +1,10 @@
+-- Each field is the definition's.
+use mathlib.Core.Path.{refl}
+use Rattle.search.proofs.branch.mark_of.Statement.{statement}
+use Rattle.search.proofs.branch.mark_of.Tie as tie
+
+returns : tie.Need-returns
+returns c = refl
+
+pub mark-of-spec : {M : Type 1} → statement M
+mark-of-spec = tie.close (tie.spec returns)
