@@ -6,4 +6,5 @@ pub mod Lowest
 pub mod Beginning
 pub mod Stepping
 pub mod Going
+pub mod Solved
 pub mod SameVector

@@ -7,6 +7,7 @@ mod gaps;
 mod lines;
 mod merge;
 mod model;
+mod one_record;
 mod records;
 mod search;
 
@@ -65,6 +66,8 @@ pub const GROUPS: &[Group] = &[
     group("search-ties", "search", 200, search::ties),
     group("search-wide", "search", 1000, search::wide),
     group("search-gaps-alone", "search", 500, search::gaps_alone),
+    group("search-one-record", "search", 1500, one_record::pairs),
+    group("search-one-record-cap", "search", 1, one_record::cap_reached),
     group("search-damaged", "search", 2000, search::damaged),
     group("read_job", "read_job", 500, records::read_job),
     group("write_job", "write_job", 500, records::write_job),

@@ -6,7 +6,7 @@ use crate::inputs::{self, Input};
 use crate::lent::{same, Lent};
 use crate::random::Random;
 use oracle::points::points_of;
-use oracle::{Answer, Kind, Refusal};
+use oracle::{Answer, Job, Kind, Refusal};
 
 /// Small boxes: the promises are checked over all grid vectors, without the oracle's search.
 pub fn exhaustive(calls: &dyn Calls, random: &mut Random) -> Outcome {
@@ -107,7 +107,7 @@ pub fn damaged(calls: &dyn Calls, random: &mut Random) -> Outcome {
 }
 
 /// One call of the search with what it was lent.
-struct Run {
+pub struct Run {
     input: Input,
     corners: Vec<i16>,
     start: Vec<i16>,
@@ -119,7 +119,7 @@ struct Run {
 }
 
 impl Run {
-    fn new(random: &mut Random, input: Input, length: usize, entries: usize) -> Run {
+    pub fn new(random: &mut Random, input: Input, length: usize, entries: usize) -> Run {
         let table = Lent::new(length, |count| random.numbers(count));
         let bounds = Lent::new(entries, |count| random.words(count));
         let was = random.next();
@@ -147,10 +147,23 @@ impl Run {
         [self.corners.len(), self.start.len()] == [16, 8] && lent == [8, 5]
     }
 
-    fn call(&mut self, calls: &dyn Calls) {
+    pub fn call(&mut self, calls: &dyn Calls) {
         let job = &self.input.job;
         let (table, bounds) = (self.table.part(), self.bounds.part());
         self.code = calls.search(&self.input.store, job, &self.corners, &self.start, table, bounds, &mut self.found);
+    }
+
+    pub fn job(&self) -> &Job {
+        &self.input.job
+    }
+
+    pub fn is_solved(&self) -> bool {
+        self.code == 0 && self.found.value == Kind::Solved as u64
+    }
+
+    /// C
+    pub fn cost(&self) -> u64 {
+        self.found.numbers.now()[0]
     }
 
     /// What is promised of a search, by all vectors of the box: the lower bound, that C is reached, when
@@ -162,7 +175,7 @@ impl Run {
         let [c, l, count, open, peak] = self.found.numbers.now().try_into().unwrap();
         let points = points_of(&self.input.store);
         let least = job.domain.grid().iter().map(|vector| job.model.cost_of(&points, vector)).min().unwrap();
-        let solved = self.found.value == Kind::Solved as u64;
+        let solved = self.is_solved();
         same("vector in the box", job.domain.contains(&vector), true)?;
         same("C", c, job.model.cost_of(&points, &vector))?;
         same("L is at most the least cost", l <= least, true)?;
@@ -191,7 +204,7 @@ impl Run {
     }
 
     /// The answer and every lent element by the oracle; only rows and entries from open up to peak are free.
-    fn compare(&self) -> Outcome {
+    pub fn compare(&self) -> Outcome {
         if !self.lengths_right() {
             same("answer", self.code, WRONG_LENGTH)?;
             self.lent(self.table.was(), self.bounds.was())?;

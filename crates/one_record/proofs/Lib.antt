@@ -1,0 +1,4 @@
+pub mod Points
+pub mod Costs
+pub mod OneRecord
+pub mod Reached
