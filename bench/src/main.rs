@@ -6,6 +6,7 @@
 //!     bench compare                  that both sides give the same, without times; the last line is 'N passed, M failed'
 //!     bench once N D P               one evaluation of each, for counting instructions
 //!     bench once-search NUMBER       one search of each kind on the job of that number, for the same
+//!     bench once-growth SPLITS       one proved search in which nearly every one of so many splits leaves one more box open, for the same
 mod clock;
 mod evaluations;
 mod jobs;
@@ -35,9 +36,10 @@ fn main() {
         ("compare", 1) => compare(),
         ("once", 4) => evaluations::once(number(1), number(2), number(3) as u8),
         ("once-search", 2) => searches::once(number(1)),
+        ("once-growth", 2) => searches::once_growing(number(1) as u32),
         _ => {
             eprintln!(
-                "bench evaluations|search|growth [ROUNDS] | compare | once N D P | once-search NUMBER"
+                "bench evaluations|search|growth [ROUNDS] | compare | once N D P | once-search NUMBER | once-growth SPLITS"
             );
             std::process::exit(2);
         }

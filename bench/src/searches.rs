@@ -122,3 +122,9 @@ pub fn once(number: usize) {
     println!("{} {} {} {}", shape.n, shape.d, shape.p, shape.points);
     compare(&shape.job());
 }
+
+/// One search with so many splits, for counting its instructions; says how many boxes are open in the end.
+pub fn once_growing(splits: u32) {
+    let job = jobs::growing(splits).job();
+    println!("{}", Lent::new(&job).search(&job).open);
+}

@@ -130,6 +130,11 @@ module _ (cost : List ℤ → ℕ) (t : ℕ) (best v : List ℤ) where
       by-cond (λ w. Settled cost t w v) (ahead t (cost best) best (cost v) v) (λ h. ahead-never t (cost v) v)
       (λ h. T-not (ahead t (cost best) best (cost v) v) h)
 
+  -- which does not become best
+  pub better-old : Settled cost t best v → better cost t best v ≡ best
+  unfolding better
+  better-old s = by-cond (λ w. w ≡ best) (ahead t (cost best) best (cost v) v) (λ h. absurd (s h)) (λ h. refl)
+
   pub better-in : (box : Box) → InBox best box → InBox v box → InBox (better cost t best v) box
   unfolding better
   better-in box p q = by-cond (λ w. InBox w box) (ahead t (cost best) best (cost v) v) (λ h. q) (λ h. p)

@@ -4,6 +4,7 @@ pub mod Smallest
 pub mod Cover
 pub mod Steps
 pub mod Reached
+pub mod Costed
 pub mod Certified
 pub mod Running
 pub mod First

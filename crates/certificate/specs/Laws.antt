@@ -50,6 +50,15 @@ AllSound =
     Reached cost bound budget rows t start box k s →
     Sound cost bound budget rows t box s
 
+-- "Cost the left child's low vector": it is that of the box cut, which was costed when that box was made, but for the given box. So where
+-- a split has been counted, no open box's low vector becomes best, and to cost it again changes nothing.
+abbrev pub AllCosted : Type 0
+AllCosted =
+    (cost : List ℤ → ℕ) (bound : Box → ℕ) (budget rows t : ℕ) (start : List ℤ) (box : Box) (k : ℕ) (s : State) →
+    1 ≤ k →
+    Reached cost bound budget rows t start box k s →
+    All (λ b. better cost t (s .best) (b .low) ≡ s .best) (s .list)
+
 -- "For larger t the answer remains as it was": where request 6 changed a step, it is that of document 01, in its words.
 pub record Later (cost : List ℤ → ℕ) (bound : Box → ℕ) (t : ℕ) : Type 0 where
   -- "keep in order the boxes with bounds below the new C"

@@ -35,8 +35,8 @@ module _ (d : List ℕ) where
     pub least-up-to : (n r : ℕ) → NextSmaller d n i (entryAt d at) r → FirstLeast d r at
     least-up-to n r next =
         record {
-          inside = omega (arith, g .inside, next .later);
+          inside = omega (arith, g .inside, next .none .later);
           none-smaller = λ k h.
-              ⊎-elim (λ (late : i ≤ k). next .passed k late h) (λ (early : k < i). g .none-smaller k early) (le-or-lt i k);
+              ⊎-elim (λ (late : i ≤ k). next .none .passed k late h) (λ (early : k < i). g .none-smaller k early) (le-or-lt i k);
           first = g .first;
         }

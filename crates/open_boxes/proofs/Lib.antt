@@ -1,3 +1,4 @@
+pub mod Fours
 pub mod Least
 pub mod Picking
 pub mod Listing

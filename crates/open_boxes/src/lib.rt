@@ -8,7 +8,7 @@ ghost use lib.ListN.{length, getD, set};
 ghost use Rattle.certificate.specs.Search.{ahead};
 ghost use Rattle.rows.specs.Rows.{rowCount, rowAt, withRow};
 ghost use Rattle.open_boxes.specs.OpenBoxes.{LowestOf, Held, ReplacedBy, entryAt, fits, number, picked, roomIn, staysAt, FirstLeast};
-ghost use Rattle.open_boxes.specs.Inside.{NextSmaller, Unmoved};
+ghost use Rattle.open_boxes.specs.Inside.{NoneSmaller, NextSmaller, AllBelow, Unmoved};
 
 // A box that is to be open if it is kept, with its bound, which has to be exact only then.
 pub struct Child {
@@ -35,12 +35,36 @@ fn smaller(a: usize, b: usize) -> usize
     if a < b { a } else { b }
 }
 
+// A place of the first n entries, or n, up to which none from `from` on is smaller than `low`: four at a time, so that a test takes less.
+fn none_smaller(bounds: &[u64], n: usize, from: usize, low: u64) -> usize
+    requires { ⌜ (from ≤ n) × (n ≤ length (now bounds)) ⌝ }
+    ensures { λ r. ⌜ NoneSmaller (now (bounds .entry)) n from low r ⌝ }
+{
+    let mut k = from;
+    while 4 <= n - k {
+        if bounds[k] < low {
+            return k;
+        }
+        if bounds[k + 1] < low {
+            return k;
+        }
+        if bounds[k + 2] < low {
+            return k;
+        }
+        if bounds[k + 3] < low {
+            return k;
+        }
+        k += 4;
+    }
+    k
+}
+
 // The place of the next of the first n entries, from `from` on, that is smaller than `low`; n where there is none.
 fn next_smaller(bounds: &[u64], n: usize, from: usize, low: u64) -> usize
     requires { ⌜ (from ≤ n) × (n ≤ length (now bounds)) ⌝ }
     ensures { λ r. ⌜ NextSmaller (now (bounds .entry)) n from low r ⌝ }
 {
-    let mut i = from;
+    let mut i = none_smaller(bounds, n, from, low);
     while i < n {
         if bounds[i] < low {
             return i;
@@ -156,13 +180,37 @@ fn move_box(table: &mut [i16], bounds: &mut [u64], i: usize, to: usize)
     }
 }
 
+// A place of the first n entries, or n, up to which all are below the cost: four at a time.
+fn all_below(bounds: &[u64], n: usize, cost: u64) -> usize
+    requires { ⌜ n ≤ length (now bounds) ⌝ }
+    ensures { λ r. ⌜ AllBelow (now (bounds .entry)) n cost r ⌝ }
+{
+    let mut i = 0;
+    while 4 <= n - i {
+        if cost <= bounds[i] {
+            return i;
+        }
+        if cost <= bounds[i + 1] {
+            return i;
+        }
+        if cost <= bounds[i + 2] {
+            return i;
+        }
+        if cost <= bounds[i + 3] {
+            return i;
+        }
+        i += 4;
+    }
+    i
+}
+
 // How many of the first n boxes stay before one that does not: these do not move.
 fn unmoved(table: &[i16], bounds: &[u64], n: usize, at: usize, mark: Mark) -> usize
     requires { ⌜ n ≤ length (now bounds) ⌝ }
     ensures { λ r. ⌜ Unmoved (staysAt (now (table .entry)) (now (bounds .entry)) at mark) n r ⌝ }
 {
     let end = smaller(at, n);
-    let mut i = 0;
+    let mut i = all_below(bounds, end, mark.cost);
     while i < end {
         if !keeps(table, i, bounds[i], mark) {
             return i;

@@ -29,7 +29,7 @@ use Rattle.certificate.proofs.Lists.{all-at}
 use Rattle.certificate.proofs.Ahead.{ahead-le}
 use Rattle.certificate.proofs.Smallest.{lower-le}
 use Rattle.certificate.proofs.Steps.{unsolved-open}
-use Rattle.certificate.proofs.Running.{Running, running-begins, running-sound, running-solved, running-spent, running-full, running-goes}
+use Rattle.certificate.proofs.Running.{Running, running-begins, running-sound, running-costed, running-solved, running-spent, running-full, running-goes}
 use Rattle.search.specs.declared.Answer.{Answer}
 use Rattle.search.specs.declared.branch.Best.{Best}
 use Rattle.search.specs.declared.branch.State.{State}
@@ -198,9 +198,10 @@ module _ (r : Run) (ready : Ready r) (s : State) (u : List ℤ) (e : List ℕ) (
         many : 1 ≤ s .rows
         many = omega (arith, unsolved-open cost bound (r .tol) (stateIn u s) unsolved, rows-length u (s .rows))
 
-        pub going-steppable : budget < 4294967296 → Steppable cost bound u e s at
+        pub going-steppable : budget < 4294967296 → Steppable cost bound (r .tol) u e s at
         going-steppable few =
             let there = (found .place many) .inside in
+            let there-too : at < length list = omega (arith, rows-length u (s .rows)) in
             record {
               best = g .best;
               stored = g .stored;
@@ -208,7 +209,11 @@ module _ (r : Run) (ready : Ready r) (s : State) (u : List ℤ) (e : List ℕ) (
               inside = there;
               room = omega (arith, open-rows, g .long);
               entries = omega (arith, g .long, g .long-entries, ready .enough);
-              wide = rw (rows-at u (s .rows) at zeroBox there) at ((all-at zeroBox (sound .opened) at (omega (arith, rows-length u (s .rows)))) .two);
+              wide = rw (rows-at u (s .rows) at zeroBox there) at ((all-at zeroBox (sound .opened) at there-too) .two);
+              costed = λ some.
+                  rw (rows-at u (s .rows) at zeroBox there) at
+                  (all-at zeroBox
+                  (running-costed cost bound budget rows (r .tol) (r .start) (r .domain) (stateIn u s) (g .running) some) at there-too);
               longest = open-few;
               countable = omega (arith, less);
             }

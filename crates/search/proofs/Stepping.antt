@@ -62,7 +62,7 @@ module _
         (sym (map-append bound (f ++ g) h ∙ ap (λ (x : List ℕ). x ++ map bound h) (map-append bound f g)))
 
 module _
-    (cost : List ℤ → ℕ) (bound : Box → ℕ) (tol : ℕ) (t : List ℤ) (d : List ℕ) (s : State) (at : ℕ) (p : Steppable cost bound t d s at)
+    (cost : List ℤ → ℕ) (bound : Box → ℕ) (tol : ℕ) (t : List ℤ) (d : List ℕ) (s : State) (at : ℕ) (p : Steppable cost bound tol t d s at)
     (br : Branches) (made : Cut cost bound tol (rowAt t at) (s .best .vector) br)
   where
     abbrev n : ℕ

@@ -64,8 +64,9 @@ pub record Cut (cost : List ℤ → ℕ) (bound : Box → ℕ) (tol : ℕ) (b : 
 abbrev pub stateIn : List ℤ → State → Search.State
 stateIn t s = record { best = s .best .vector; list = rowsOf t (s .rows); count = s .count; peak = s .peak }
 
--- What a step is handed: the box in row `at`, the first with the smallest bound, can be taken out and cut.
-pub record Steppable (cost : List ℤ → ℕ) (bound : Box → ℕ) (t : List ℤ) (d : List ℕ) (s : State) (at : ℕ) : Type 0 where
+-- What a step is handed: the box in row `at`, the first with the smallest bound, can be taken out and cut. Where a split has been counted,
+-- its low vector does not become best.
+pub record Steppable (cost : List ℤ → ℕ) (bound : Box → ℕ) (tol : ℕ) (t : List ℤ) (d : List ℕ) (s : State) (at : ℕ) : Type 0 where
   pub best : s .best ≡ bestOf cost (s .best .vector)
   pub stored : Stored bound t d (s .rows)
   pub first : at ≡ firstSmallest bound (rowsOf t (s .rows))
@@ -73,6 +74,7 @@ pub record Steppable (cost : List ℤ → ℕ) (bound : Box → ℕ) (t : List �
   pub room : s .rows ≤ rowCount t
   pub entries : rowCount t ≤ length d
   pub wide : 2 ≤ volume (rowAt t at)
+  pub costed : 1 ≤ s .count → better cost tol (s .best .vector) ((rowAt t at) .low) ≡ s .best .vector
   pub longest : s .rows ≤ s .peak
   pub countable : s .count < 4294967295
 

@@ -7,6 +7,7 @@ use open_boxes::Mark;
 use open_boxes::ahead;
 use open_boxes::replace;
 ghost use mathlib.Core.Path.{_≡_};
+ghost use mathlib.Core.Bool.{false};
 ghost use Prim.Native.Nat.{_≤_, _<_, max};
 ghost use Rattle.boxes.specs.Boxes.{volume};
 ghost use Rattle.points.specs.Points.{pointsOf};
@@ -53,6 +54,29 @@ fn tried(store: &[u8], lanes: &[Chunk], m: Model, t: u64, best: Best, v: [i16; 8
     }
 }
 
+// The same of a vector that may have been tried before: it is costed only if it is new.
+fn tried_if_new(
+    store: &[u8],
+    lanes: &[Chunk],
+    m: Model,
+    t: u64,
+    best: Best,
+    v: [i16; 8],
+    new: bool,
+) -> Best
+    requires { ⌜
+        Evaluable (now store) (now lanes) m × (best ≡ bestOf (cost m (pointsOf (now store))) (best .vector))
+        × (new ≡ false → better (cost m (pointsOf (now store))) t (best .vector) v ≡ best .vector) ⌝ }
+    ensures { λ r. ⌜ r
+        ≡ bestOf (cost m (pointsOf (now (store .entry)))) (better (cost m (pointsOf (now (store .entry)))) t (best .vector) v) ⌝ }
+{
+    if new {
+        tried(store, lanes, m, t, best, v)
+    } else {
+        best
+    }
+}
+
 // Whether a box is kept, with its bound, which is summed until it is above the cost: up to that it is the whole bound.
 pub fn tested(store: &[u8], lanes: &[Chunk], m: Model, half: Box, mark: Mark) -> Child
     requires { ⌜ Evaluable (now store) (now lanes) m × (mark .cost < 18446744073709551615) ⌝ }
@@ -68,10 +92,20 @@ pub fn tested(store: &[u8], lanes: &[Chunk], m: Model, half: Box, mark: Mark) ->
     }
 }
 
-// Cuts a box of two vectors or more, tries the low vector of each half, and finds the halves' bounds.
-fn cut_box(store: &[u8], lanes: &[Chunk], m: Model, t: u64, b: Box, best: Best) -> Branches
+// Cuts a box of two vectors or more, tries the low vector of each half, and finds the halves' bounds. The left half has the low vector of
+// the box itself, which is new only if the box is the given one.
+fn cut_box(
+    store: &[u8],
+    lanes: &[Chunk],
+    m: Model,
+    t: u64,
+    b: Box,
+    best: Best,
+    given: bool,
+) -> Branches
     requires { ⌜
-        Evaluable (now store) (now lanes) m × (best ≡ bestOf (cost m (pointsOf (now store))) (best .vector)) × (2 ≤ volume b) ⌝ }
+        Evaluable (now store) (now lanes) m × (best ≡ bestOf (cost m (pointsOf (now store))) (best .vector)) × (2 ≤ volume b)
+        × (given ≡ false → better (cost m (pointsOf (now store))) t (best .vector) (b .low) ≡ best .vector) ⌝ }
     ensures { λ r. ⌜
         Cut (cost m (pointsOf (now (store .entry)))) (bound m (pointsOf (now (store .entry)))) t b (best .vector) r ⌝ }
 {
@@ -85,7 +119,7 @@ fn cut_box(store: &[u8], lanes: &[Chunk], m: Model, t: u64, b: Box, best: Best) 
         lanes,
         m,
         t,
-        tried(store, lanes, m, t, best, left_low),
+        tried_if_new(store, lanes, m, t, best, left_low, given),
         right_low,
     );
     let mark = mark_of(t, new);
@@ -129,14 +163,14 @@ pub fn step(
 ) -> Stepped
     requires { ⌜
         Evaluable (now store) (now lanes) m
-        × Steppable (cost m (pointsOf (now store))) (bound m (pointsOf (now store))) (now table) (now bounds) s at ⌝ }
+        × Steppable (cost m (pointsOf (now store))) (bound m (pointsOf (now store))) t (now table) (now bounds) s at ⌝ }
     ensures { λ r. ⌜
         StepOutcome (cost m (pointsOf (now (store .entry)))) (bound m (pointsOf (now (store .entry)))) t
         (now (table .entry)) (now (bounds .entry)) s r (now (table .exit)) (now (bounds .exit)) ⌝ }
 {
     let best = s.best;
     let b = rows::read_row(table, at);
-    let br = cut_box(store, lanes, m, t, b, best);
+    let br = cut_box(store, lanes, m, t, b, best, s.count == 0);
     let new = br.best;
     let left = br.left;
     let right = br.right;

@@ -4,18 +4,22 @@ use mathlib.Core.Logic.{⊎-elim}
 use Prim.Native.Nat.{ℕ, _-_, _≤_, _<_}
 use native.Mathlib.Omega.{arith}
 use Rattle.integers.proofs.Tests.{le-or-lt}
-use Rattle.open_boxes.specs.OpenBoxes.{entryAt}
+use borrow.Author.Needs.{needs}
+use Rattle.open_boxes.specs.Inside.{NoneSmaller}
 use Rattle.open_boxes.proofs.next_smaller.Statement.{statement}
 use Rattle.open_boxes.proofs.next_smaller.Tie as tie
 
 abbrev Inv-loop : tie.InvT-loop
-Inv-loop bounds n from low i₀ i = (from ≤ i) × (i ≤ n) × ((k : ℕ) → from ≤ k → k < i → low ≤ entryAt bounds k)
+Inv-loop bounds n from low i₀ i = NoneSmaller bounds n from low i
 
 abbrev μ-loop : tie.MeasureT-loop
 μ-loop bounds n from low i₀ i = n - i
 
+none-smaller-requires : tie.Need-none-smaller-requires Inv-loop μ-loop
+none-smaller-requires c κs = search needs
+
 loop-holds : tie.Need-loop-holds Inv-loop μ-loop
-loop-holds c = (omega arith, omega arith, λ k late early. absurd (omega arith))
+loop-holds c = c .none-smaller .ensures
 
 mul-if1 : tie.Need-mul-if1 Inv-loop μ-loop
 mul-if1 c = omega arith
@@ -25,8 +29,7 @@ shared-slice-read-if1 c = omega arith
 
 returns : tie.Need-returns Inv-loop μ-loop
 returns c =
-    let l = c .before .before .before in
-    record { later = l .loop .inv .0; few = l .loop .inv .1; passed = l .loop .inv .2; smaller = λ h. c .if1 .taken }
+    record { none = c .before .before .before .loop .inv; smaller = λ h. c .if1 .taken }
 
 add-i : tie.Need-add-i Inv-loop μ-loop
 add-i c = omega arith
@@ -37,21 +40,19 @@ loop-less c = omega arith
 loop-again : tie.Need-loop-again Inv-loop μ-loop
 loop-again c =
     let l = c .before .before .before in
-    let d = l .before .args .bounds .now in
-    let low = l .before .args .low in (
-      omega arith,
-      omega arith,
-      λ k late early.
+    record {
+      later = omega (arith, l .loop .inv .later);
+      few = omega arith;
+      passed = λ k late early.
           ⊎-elim
           (λ (h : l .loop .i ≤ k). let e : k ≡ l .loop .i = omega arith in rw e (c .if1 .left))
-          (λ (h : k < l .loop .i). l .loop .inv .2 k late h)
-          (le-or-lt (l .loop .i) k),
-    )
+          (λ (h : k < l .loop .i). l .loop .inv .passed k late h)
+          (le-or-lt (l .loop .i) k);
+    }
 
 returns-2 : tie.Need-returns-2 Inv-loop μ-loop
 returns-2 c =
-    let l = c .before in
-    record { later = l .loop .inv .0; few = l .loop .inv .1; passed = l .loop .inv .2; smaller = λ h. absurd (omega arith) }
+    record { none = c .before .loop .inv; smaller = λ h. absurd (omega arith) }
 
 pub next-smaller-spec : {M : Type 1} → statement M
 next-smaller-spec =
@@ -59,6 +60,7 @@ next-smaller-spec =
     (tie.spec
     Inv-loop
     μ-loop
+    none-smaller-requires
     loop-holds
     mul-if1
     shared-slice-read-if1

@@ -23,7 +23,7 @@ loop-holds : tie.Need-loop-holds Inv-loop μ-loop
 loop-holds c =
     let d = c .before .before .before .args .bounds .now in
     let next = c .next-smaller .ensures in
-    (next .few, least-up-to d 1 0 (least-one d) _ (c .next-smaller .result) next, next .smaller)
+    (next .none .few, least-up-to d 1 0 (least-one d) _ (c .next-smaller .result) next, next .smaller)
 
 add-next-smaller : tie.Need-add-next-smaller Inv-loop μ-loop
 add-next-smaller c = omega arith
@@ -38,7 +38,7 @@ next-smaller-requires-2 : tie.Need-next-smaller-requires-2 Inv-loop μ-loop
 next-smaller-requires-2 c κs = (omega arith, omega arith)
 
 loop-less : tie.Need-loop-less Inv-loop μ-loop
-loop-less c = omega (arith, c .next-smaller2 .ensures .later)
+loop-less c = omega (arith, c .next-smaller2 .ensures .none .later)
 
 loop-again : tie.Need-loop-again Inv-loop μ-loop
 loop-again c =
@@ -47,7 +47,7 @@ loop-again c =
     let i = l .loop .i in
     let next = c .next-smaller2 .ensures in
     let new = least-new d i (l .loop .at) (l .loop .inv .1) (l .loop .inv .2 (omega arith)) in
-    (next .few, least-up-to d _ i new _ (c .next-smaller2 .result) next, next .smaller)
+    (next .none .few, least-up-to d _ i new _ (c .next-smaller2 .result) next, next .smaller)
 
 returns : tie.Need-returns Inv-loop μ-loop
 returns c =

@@ -3,6 +3,7 @@ use mathlib.Core.Path.{_≡_, sym, ap, _∙_}
 use Prim.Native.Nat.{_<_}
 use Rattle.points.specs.Points.{pointsOf}
 use Rattle.residuals.specs.Cost.{cost}
+use Rattle.boxes.specs.Split.{leftHalf}
 use Rattle.boxes.proofs.Splitting.{cut-passes}
 use Rattle.search.specs.declared.branch.Best.{Best}
 use Rattle.search.specs.Inside.{bestOf}
@@ -14,20 +15,26 @@ use Rattle.search.proofs.branch.cut_box.Tie as tie
 cut-requires : tie.Need-cut-requires
 cut-requires c κs = search needs
 
-tried-requires : tie.Need-tried-requires
-tried-requires c κs = search needs
+-- the left half has the low vector of the box
+tried-if-new-requires : tie.Need-tried-if-new-requires
+unfolding leftHalf
+tried-if-new-requires c κs =
+    let cuts = c .before .before .before .before in
+    let start = cuts .before .before in
+    let halves = cuts .cut .ensures ∙ cut-passes (start .args .b) (start .pre .2) in
+    (start .pre .0, start .pre .1, rw halves (start .pre .3))
 
 -- the best one after the first half is tried
-new-best : (c : tie.After-tried) →
+new-best : (c : tie.After-tried-if-new) →
     let start = c .before .before .before .before .before .before .before in
-    c .tried .result ≡ bestOf (cost (start .args .m) (pointsOf (start .args .store .now))) (c .tried .result .vector)
+    c .tried-if-new .result ≡ bestOf (cost (start .args .m) (pointsOf (start .args .store .now))) (c .tried-if-new .result .vector)
 new-best c =
     let start = c .before .before .before .before .before .before .before in
     let C = cost (start .args .m) (pointsOf (start .args .store .now)) in
-    c .tried .ensures ∙ ap (λ (b : Best). bestOf C (b .vector)) (sym (c .tried .ensures))
+    c .tried-if-new .ensures ∙ ap (λ (b : Best). bestOf C (b .vector)) (sym (c .tried-if-new .ensures))
 
-tried-requires-2 : tie.Need-tried-requires-2
-tried-requires-2 c κs = (c .before .before .before .before .before .before .before .pre .0, new-best c)
+tried-requires : tie.Need-tried-requires
+tried-requires c κs = (c .before .before .before .before .before .before .before .pre .0, new-best c)
 
 mark-of-requires : tie.Need-mark-of-requires
 mark-of-requires c κs = search needs
@@ -37,7 +44,7 @@ mark-below : (c : tie.After-mark-of) → c .mark-of .result .cost < 184467440737
 mark-below c =
     let tries = c .before in
     let start = tries .before .before .before .before .before .before .before .before in
-    rw (c .mark-of .ensures) (best-below (start .args .store .now) (start .args .m) (start .pre .0 .checked) (tries .tried2 .result) _ (tries .tried2 .ensures))
+    rw (c .mark-of .ensures) (best-below (start .args .store .now) (start .args .m) (start .pre .0 .checked) (tries .tried .result) _ (tries .tried .ensures))
 
 tested-requires : tie.Need-tested-requires
 tested-requires c κs = (c .before .before .before .before .before .before .before .before .before .pre .0, mark-below c)
@@ -53,7 +60,7 @@ returns c =
     let start = cuts .before .before in
     let halves = cuts .cut .ensures ∙ cut-passes (start .args .b) (start .pre .2) in
     record {
-      best = rw (tries .tried2 .ensures, tries .before .tried .ensures, halves);
+      best = rw (tries .tried .ensures, tries .before .tried-if-new .ensures, halves);
       left = rw (marks .mark-of .ensures, halves) at (c .before .tested .ensures);
       right = rw (marks .mark-of .ensures, halves) at (c .tested2 .ensures);
     }
@@ -63,8 +70,8 @@ cut-box-spec =
     tie.close
     (tie.spec
     cut-requires
+    tried-if-new-requires
     tried-requires
-    tried-requires-2
     mark-of-requires
     tested-requires
     tested-requires-2

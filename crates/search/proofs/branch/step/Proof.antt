@@ -17,6 +17,7 @@ use Rattle.certificate.specs.Search.{split}
 use Rattle.search.specs.Inside.{markOf, Cut, stateIn}
 use Rattle.search.proofs.Stepping.{step-told, step-moved}
 use borrow.Author.Needs.{needs}
+use borrow.Author.Tests.{eqb-false}
 use Rattle.search.proofs.branch.step.Statement.{statement}
 use Rattle.search.proofs.branch.step.Tie as tie
 
@@ -25,8 +26,13 @@ read-row-requires c κs = search needs
 
 cut-box-requires : tie.Need-cut-box-requires
 cut-box-requires c κs =
-    let s = c .before .before .before .before .before in
-    (s .pre .0, s .pre .1 .best, rw (c .read-row .ensures) (s .pre .1 .wide))
+    let read = c .before in
+    let s = read .before .before .before .before .before in (
+      s .pre .0,
+      s .pre .1 .best,
+      rw (read .read-row .ensures) (s .pre .1 .wide),
+      λ e. let some = eqb-false (s .args .s .count) _ e in rw (read .read-row .ensures) (s .pre .1 .costed (omega arith)),
+    )
 
 mark-of-requires : tie.Need-mark-of-requires
 mark-of-requires c κs = search needs
@@ -43,7 +49,7 @@ same-length-2 c = search needs
 -- what is known once the box is cut
 module _ (c : tie.After-cut-box) where
   abbrev start : tie.Start
-  start = c .before .before .before .before .before .before
+  start = c .before .before .before .before .before .before .before
 
   abbrev C : List ℤ → ℕ
   C = cost (start .args .m) (pointsOf (start .args .store .now))
@@ -52,7 +58,7 @@ module _ (c : tie.After-cut-box) where
   B = bound (start .args .m) (pointsOf (start .args .store .now))
 
   made : Cut C B (start .args .t) (rowAt (start .args .table .now) (start .args .at)) (start .args .s .best .vector) (c .cut-box .result)
-  made = rw (c .before .read-row .ensures) at (c .cut-box .ensures)
+  made = rw (c .before .before .read-row .ensures) at (c .cut-box .ensures)
 
 -- and once its halves have taken its place
 module _ (c : tie.After-replace) where
