@@ -9,7 +9,8 @@
 #define POINTS 8
 #define RECORD 12
 
-/* Two lines through the origin, y = 2 x and y = -x, a point off both, and a sample that was not taken. */
+/* Two lines through the origin, y = 2 x and y = -x, near both of which the first point lies, a point off both, and a sample that was not
+ * taken. */
 static const int16_t points[POINTS][2] = {{1, 2}, {2, 4}, {3, 6}, {-2, 2}, {4, -4}, {5, -5}, {3, 20}, {6, VENGUTARI_GAP_Y}};
 
 /* A point record: x1 to x4, y and the frame number, big-endian, 16 bits each. */

@@ -39,9 +39,10 @@ extern "C" {
 #define VENGUTARI_NUMBER(code) ((code) % 256u)
 #define VENGUTARI_RECORD(code) ((code) / 256u)
 
-/* The y of a gap, and its label. */
+/* The y of a gap, its label, and that of a sample that lies within eps of more than one line. */
 #define VENGUTARI_GAP_Y (-32768)
 #define VENGUTARI_GAP_LABEL 6
+#define VENGUTARI_UNDECIDED_LABEL 5
 
 /* The loss of a residual e. Refusal 4. */
 uint32_t vengutari_loss(uint8_t p, uint32_t eps, int64_t e, uint64_t *value);
@@ -58,8 +59,9 @@ uint32_t vengutari_bound(const uint8_t *store, size_t store_len, uint8_t n, uint
  * Refusals 2 and 5; 255 where corners_len is not 16 or halves_len is below 32. */
 uint32_t vengutari_split(uint8_t n, uint8_t d, const int16_t *corners, size_t corners_len, int16_t *halves, size_t halves_len);
 
-/* One label for each point into the front of labels, whose rest is kept; *value is how many. A gap has 6, a sample the nearest line, 1 to
- * n, if it lies within eps of that, and else 0. Refusals 1 to 4, 6, 7 and 10; 255 where vector_len is not 8. */
+/* One label for each point into the front of labels, whose rest is kept; *value is how many. A gap has 6; a sample within eps of more than
+ * one line has 5, undecided; within eps of one line alone, that line, 1 to n; else 0. Refusals 1 to 4, 6, 7 and 10; 255 where vector_len
+ * is not 8. */
 uint32_t vengutari_labels(const uint8_t *store, size_t store_len, uint8_t n, uint8_t d, uint8_t scale, uint8_t p, uint32_t eps,
                           const int16_t *vector, size_t vector_len, uint8_t *labels, size_t labels_len, uint64_t *value);
 

@@ -17,8 +17,8 @@ from .problems import BadInput
 
 # y = -32,768 is a gap, with label 6 (request 2). Where the library has none, the points given to a call hold none.
 GAPS = True
-# A sample within epsilon of more than one line is undecided, with label 5 (request 8). Until then its label is the nearest line's.
-CROSSINGS = False
+# A sample within epsilon of more than one line is undecided, with label 5 (request 8). Where the library has none, it is the nearest's.
+CROSSINGS = True
 
 RECORD_BYTES = 12
 MOST_RECORDS = 4096

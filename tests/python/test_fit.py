@@ -80,8 +80,8 @@ class Fits(unittest.TestCase):
             self.assertIn(line["equation"], out)
         self.assertIn(found["certificate"], out)
         self.assertIn("in this box and on this grid", out)
-        counts = [found["labels"]["outliers"], made.labels.count(None)]
-        self.assertIn("rows: {}, of them {} outliers, {} gaps\n".format(made.count, *counts), out)
+        counts = [found["labels"]["outliers"], found["labels"]["undecided"], made.labels.count(None)]
+        self.assertIn("rows: {}, of them {} outliers, {} undecided, {} gaps\n".format(made.count, *counts), out)
         self.assertEqual(sum(found["labels"].values()), made.count)
         self.assertLessEqual(len(out.splitlines()), 14)
 
@@ -106,7 +106,7 @@ class Fits(unittest.TestCase):
 
     @for_each
     def test_labels_are_those_behind_the_points(self, done):
-        """But for points that two lines are near, which may go to either."""
+        """But for points that two lines are near, which may be undecided."""
         made, files, found = done.made, done.files, done.found
         pairs, epsilon = self.paired(made, found), float(Fraction(found["settings"]["epsilon"]))
         with open(files["labels"], encoding="utf-8", newline="") as file:
@@ -146,14 +146,31 @@ class Fits(unittest.TestCase):
                 yield ([rounded(v / Fraction(c["step"])) * c["factor"] for v, c in zip(exact, columns)],
                        rounded(Fraction(str(y)) / Fraction(found["scaling"]["y"]["step"])))
 
+    def sizes(self, point, found, vector):
+        """|e| for each line."""
+        (x, y), d = point, len(found["scaling"]["x"])
+        return [abs(y * 2 ** found["scaling"]["scale"] - sum(w * v for w, v in zip(vector[k:], x))) for k in range(0, len(vector), d)]
+
     def cost(self, points, found, vector):
         """The cost by the paper's formulas."""
-        d, p, epsilon = len(found["scaling"]["x"]), found["settings"]["p"], found["settings"]["epsilon_whole"]
-        total = 0
-        for x, y in points:
-            sizes = [abs(y * 2 ** found["scaling"]["scale"] - sum(w * v for w, v in zip(vector[k:], x))) for k in range(0, len(vector), d)]
-            total += int(min(sizes) > epsilon) if p == 0 else min(min(sizes), epsilon) ** p
-        return total
+        p, epsilon = found["settings"]["p"], found["settings"]["epsilon_whole"]
+        least = [min(self.sizes(point, found, vector)) for point in points]
+        return sum(int(e > epsilon) if p == 0 else min(e, epsilon) ** p for e in least)
+
+    @for_each
+    def test_labels_by_the_formulas(self, done):
+        """6 for a gap, 5 within epsilon of more than one line, else that line or 0."""
+        made, files, found = done.made, done.files, done.found
+        with open(files["labels"], encoding="utf-8", newline="") as file:
+            labels = [int(row["label"]) for row in csv.DictReader(file, delimiter=made.delimiter)]
+        samples = iter(self.whole(made, found))
+        for y, label in zip(made.y, labels):
+            fit = [] if y is None else [e <= found["settings"]["epsilon_whole"] for e in self.sizes(next(samples), found, found["vector"])]
+            self.assertEqual(label, 6 if y is None else 5 if sum(fit) > 1 else fit.index(True) + 1 if any(fit) else 0)
+
+    def test_some_are_undecided(self):
+        """So that the cases show it."""
+        self.assertGreater(sum(done.found["labels"]["undecided"] for done in self.done.values()), 0)
 
     @for_each
     def test_cost_and_bound(self, done):

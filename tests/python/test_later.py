@@ -41,7 +41,7 @@ class Later(unittest.TestCase):
         target = self.folder / "again.csv"
         status, out, _ = run("label", self.data, "--fit", self.files["json"], "--labels", target)
         self.assertEqual((status, target.read_text(encoding="utf-8")), (0, self.files["labels"].read_text(encoding="utf-8")))
-        self.assertRegex(out, "^line 1: [0-9]+, line 2: [0-9]+, [0-9]+ outliers, 2 gaps\n$")
+        self.assertRegex(out, "^line 1: [0-9]+, line 2: [0-9]+, [0-9]+ outliers, [0-9]+ undecided, 2 gaps\n$")
 
     def test_label_takes_more_points_than_a_search(self):
         many = self.folder / "many.csv"
@@ -50,12 +50,15 @@ class Later(unittest.TestCase):
         self.assertEqual((status, err), (0, ""))
         self.assertEqual([row.split(";")[3] for row in out.splitlines()[1:]], ["1"] * 5000)
 
-    def test_label_near_two_lines_is_the_nearest(self):
-        """0.8 x - 13.5 and 0.31 x + 220 are 362.5 and 365.7 at 470: both rows lie within epsilon of both lines."""
+    def test_label_near_two_lines_is_undecided(self):
+        """0.8 x - 13.5 and 0.31 x + 220 are 362.5 and 365.7 at 470: two rows lie within epsilon of both lines, with the nearest's value."""
         near = self.folder / "near.csv"
-        near.write_text("x1,y\n470,363\n470,365.2\n470,\n", encoding="utf-8")
+        near.write_text("x1,y\n470,363\n470,365.2\n470,\n470,361\n470,367.5\n", encoding="utf-8")
         status, out, _ = run("label", near, "--fit", self.files["json"])
-        self.assertEqual((status, [row.split(",")[2] for row in out.splitlines()]), (0, ["label", "1", "2", "6"]))
+        rows = [row.split(",")[2:] for row in out.splitlines()]
+        self.assertEqual((status, [row[0] for row in rows]), (0, ["label", "5", "5", "6", "1", "2"]))
+        for row, value in ((rows[1], 362.5), (rows[2], 365.7)):
+            self.assertAlmostEqual(float(row[1]), value, delta=1)
 
     def test_label_refuses_what_does_not_fit(self):
         far = self.folder / "far.csv"
@@ -181,7 +184,7 @@ class Limits(unittest.TestCase):
         made = self.fitted(0, "--wide")
         wide, samples = made["wide"], TWO.count - 2
         self.assertEqual((wide["kind"], wide["samples"], wide["most"]), ("solved", samples, samples - wide["bound"]))
-        self.assertEqual(wide["fitted"], made["labels"]["line 1"] + made["labels"]["line 2"])
+        self.assertEqual(wide["fitted"], sum(made["labels"][name] for name in ("line 1", "line 2", "undecided")))
         self.assertIn(f"no lines of the wide box and grid fit more than {wide['most']} of {samples} points", wide["certificate"])
         for side, narrow in zip(wide["box"], made["box"]):
             self.assertTrue(side["low"] < narrow["low"] and narrow["high"] < side["high"])
@@ -229,6 +232,7 @@ class Interface(unittest.TestCase):
         self.assertEqual(calls.bound(store, model, [0], [3]), 2)
         self.assertEqual(calls.split(1, 1, [-3], [-2]), [([-3] + [0] * 7, [-3] + [0] * 7), ([-2] + [0] * 7, [-2] + [0] * 7)])
         self.assertEqual(calls.labels(store, model, [2]), b"\1\1\0")
+        self.assertEqual(calls.labels(store, model._replace(n=2, epsilon=4), [4, 5]), b"\5\5\2")
         gapped, kept = scaling.store_of([([1], None), ([1], 2), None, ([1], 9), ([1], None)], range(5))
         self.assertEqual((gapped[:12], kept), (bytes.fromhex("0001 0000 0000 0000 8000 0000"), [0, 1, 3, 4]))
         self.assertEqual([calls.cost(gapped, model, [0]), calls.bound(gapped, model, [0], [3])], [4, 2])

@@ -16,6 +16,8 @@ CASES = {
     "two lines": (
         Made([(0.8, -13.5), (0.31, 220.0)], [(300, 4000)], 60, noise=0.6, gaps=2, seed=12), ["--lines=2", "--epsilon=3", "--wide"]),
     "two columns": (Made([(0.9, -2.0, 10.0)], [(0, 1000), (-20, 60)], 40, x_decimals=1, seed=13), ["--epsilon=3", "--offset"]),
+    "crossing lines": (
+        Made([(1.5, 3.0), (-0.5, 40.0)], [(0, 40)], 60, noise=0.3, gaps=3, x_decimals=1, seed=15), ["--lines=2", "--epsilon=2"]),
     "spent": (Made([(0.5, 12.0)], [(0, 1000)], 40, seed=14), ["--epsilon=2", "--splits=3"]),
 }
 
@@ -88,8 +90,8 @@ class Report(unittest.TestCase):
                     self.assertIn(line["equation"], everything)
                 for note in found["notes"]:
                     self.assertIn(note, everything)
-                self.assertIn(f"{found['labels']['outliers']} outliers, {found['labels']['gaps']} gaps", everything)
-                self.assertNotRegex(everything, "undecided|without y")
+                counts = ", ".join(f"{found['labels'][name]} {name}" for name in ("outliers", "undecided", "gaps"))
+                self.assertIn(counts, everything)
                 if found["wide"]:
                     self.assertIn(found["wide"]["certificate"], "".join(page.text["wide"]))
                 self.assertEqual("class=\"verdict solved\"" in text, found["kind"] == "solved")
@@ -104,6 +106,16 @@ class Report(unittest.TestCase):
                     self.assertEqual(sum(title.startswith(f"row {k + 1}, frame {k}: ") for title in titles), 1 if label is None else 2)
                 for cx, cy in re.findall(r'<circle cx="([^"]+)" cy="([^"]+)"', text):
                     self.assertTrue(0 <= float(cx) <= 960 and 0 <= float(cy) <= 520)
+
+    def test_undecided_samples_and_gaps_have_marks_of_their_own(self):
+        """By name: a ring and a tick, one in the legend and the others by their rows."""
+        _, text, found = self.done["crossing lines"]
+        self.assertGreater(found["labels"]["undecided"], 0)
+        for name, several, mark, pictures in (("undecided", "undecided", 'r="4.2"', 2), ("gap", "gaps", 'v-9"', 1)):
+            marks = re.findall(rf"<g>(<[^>]*{mark}[^>]*>)<title>row [^<]*, {name}[,<]", text)
+            self.assertEqual(len(marks), pictures * found["labels"][several], name)
+            self.assertEqual(text.count(mark), len(marks) + 1, name)
+            self.assertIn(f"{name}, {found['labels'][several]}", text)
 
     def test_bands_and_lines(self):
         for name, (made, text, _) in self.done.items():

@@ -9,7 +9,7 @@ use Rattle.boxes.specs.Boxes.{atMost, before, sideSize, sides, product, checkBo
 use Rattle.boxes.specs.Split.{firstLargest, leftHalf, rightHalf, splitChecks, splitAnswer}
 use Rattle.loss.specs.Loss.{lossOf}
 use Rattle.residuals.specs.Cost.{dot, residual, sizeAt, dotMax, dotMin, eMin, eMax, nearestTo0, leastSize, least, unlessGap, totalLoss, cost, bound}
-use Rattle.labels.specs.Labels.{firstLeast, sampleLabel, label}
+use Rattle.labels.specs.Labels.{firstLeast, nearestLabel, fitting, sampleLabel, label}
 use Rattle.certificate.specs.Search.{ahead, lowerBound, firstSmallest, better, begin, split, isSolved, answer, ifRoom, step, follow, run, search}
 use Rattle.coefficients.specs.Coefficient.{exponentOf, fractionOf, fieldsOf, patternOf}
 use Rattle.scale.specs.Scale.{checkScale}
@@ -27,10 +27,10 @@ use Rattle.bench_fits.specs.Starred.{StarredHold}
 use Rattle.bench_fits.specs.Gaps.{GapsHold}
 
 pub starred-hold : StarredHold
-unfolding maxZ minZ floorHalf allZero inOrder checkShape atMost before sideSize sides product checkBox firstLargest leftHalf rightHalf splitChecks splitAnswer lossOf dot residual sizeAt dotMax dotMin eMin eMax nearestTo0 leastSize least firstLeast sampleLabel label unlessGap totalLoss cost bound ahead lowerBound firstSmallest better begin split isSolved answer ifRoom step follow run search exponentOf fractionOf fieldsOf patternOf size checkScale checkLoss checkStart unsignedAt signedAt pointAt skipped firstPoints pointsOf checkStore strayFrom checkStray checkModel bigEndian fromBigEndian vectorBytes vectorOf jobBytes jobOf digitsOf decimal signed behindCommas joined fields line checkJob searched checkFit fitAnswer fitLine
+unfolding maxZ minZ floorHalf allZero inOrder checkShape atMost before sideSize sides product checkBox firstLargest leftHalf rightHalf splitChecks splitAnswer lossOf dot residual sizeAt dotMax dotMin eMin eMax nearestTo0 leastSize least firstLeast nearestLabel fitting sampleLabel label unlessGap totalLoss cost bound ahead lowerBound firstSmallest better begin split isSolved answer ifRoom step follow run search exponentOf fractionOf fieldsOf patternOf size checkScale checkLoss checkStart unsignedAt signedAt pointAt skipped firstPoints pointsOf checkStore strayFrom checkStray checkModel bigEndian fromBigEndian vectorBytes vectorOf jobBytes jobOf digitsOf decimal signed behindCommas joined fields line checkJob searched checkFit fitAnswer fitLine
 starred-hold =
     also refl (also refl (also refl (also refl (also refl (also refl (also refl (also refl (also refl (also refl (also refl (also refl (also refl (also refl (also refl (also refl (also refl (also refl (also refl none))))))))))))))))))
 
 pub gaps-hold : GapsHold
-unfolding maxZ minZ floorHalf allZero inOrder checkShape atMost before sideSize sides product checkBox firstLargest leftHalf rightHalf splitChecks splitAnswer lossOf dot residual sizeAt dotMax dotMin eMin eMax nearestTo0 leastSize least firstLeast sampleLabel label unlessGap totalLoss cost bound ahead lowerBound firstSmallest better begin split isSolved answer ifRoom step follow run search exponentOf fractionOf fieldsOf patternOf size checkScale checkLoss checkStart unsignedAt signedAt pointAt skipped firstPoints pointsOf checkStore strayFrom checkStray checkModel bigEndian fromBigEndian vectorBytes vectorOf jobBytes jobOf digitsOf decimal signed behindCommas joined fields line checkJob searched checkFit fitAnswer fitLine
+unfolding maxZ minZ floorHalf allZero inOrder checkShape atMost before sideSize sides product checkBox firstLargest leftHalf rightHalf splitChecks splitAnswer lossOf dot residual sizeAt dotMax dotMin eMin eMax nearestTo0 leastSize least firstLeast nearestLabel fitting sampleLabel label unlessGap totalLoss cost bound ahead lowerBound firstSmallest better begin split isSolved answer ifRoom step follow run search exponentOf fractionOf fieldsOf patternOf size checkScale checkLoss checkStart unsignedAt signedAt pointAt skipped firstPoints pointsOf checkStore strayFrom checkStray checkModel bigEndian fromBigEndian vectorBytes vectorOf jobBytes jobOf digitsOf decimal signed behindCommas joined fields line checkJob searched checkFit fitAnswer fitLine
 gaps-hold = also refl (also refl (also refl (also refl none)))

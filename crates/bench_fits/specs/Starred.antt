@@ -16,8 +16,8 @@ starred =
     ∷ loss-is 2 4 (negsuc 4) 16
     ∷ loss-is 2 5 (negsuc 4) 25
     ∷ loss-is 2 6 (negsuc 4) 25
-    -- C: two lines 2 and 6, y = 4: label 1 with ε = 2, label 0 with ε = 1.
-    ∷ label-is (lines 2 0 0 2) (vector (pos 2 ∷ pos 6 ∷ [])) (point (pos 1) (pos 4)) 1
+    -- C: two lines 2 and 6, y = 4: label 5 with ε = 2, label 0 with ε = 1. ("so fit C gives 5 with ε = 2", document 02; 1 before it)
+    ∷ label-is (lines 2 0 0 2) (vector (pos 2 ∷ pos 6 ∷ [])) (point (pos 1) (pos 4)) 5
     ∷ label-is (lines 2 0 0 1) (vector (pos 2 ∷ pos 6 ∷ [])) (point (pos 1) (pos 4)) 0
     -- D: x = −2, y = 1: least size 0 on −1..3, 3 on 1..3, 3 on −3..−2.
     ∷ least-size-is (lines 1 0 0 0) (box (negsuc 0 ∷ []) (pos 3 ∷ [])) (point (negsuc 1) (pos 1)) 0

@@ -1,7 +1,7 @@
 -- The labels of a store's points, and the call that writes them. Lines count from 0 here, and from 1 in a label.
 use mathlib.Core.Bool.{cond}
 use mathlib.Core.List.{List, [], _∷_, map}
-use Prim.Native.Nat.{ℕ, zero, suc}
+use Prim.Native.Nat.{ℕ, zero, suc, _+_}
 use lib.Dec.{leb, ltb}
 use lib.IntN.{ℤ}
 use lib.ListN.{length}
@@ -23,8 +23,17 @@ firstLeast f (suc zero) = 0
 firstLeast f (suc (suc n)) = cond (ltb (f (suc n)) (least f (suc n))) (suc n) (firstLeast f (suc n))
 
 -- "A point's label is one byte: the line (1 to n) with the least |e|, lowest among equals, if that |e| ≤ ε; otherwise 0."
+unfoldable pub nearestLabel : Model → List ℤ → Point → ℕ
+nearestLabel m v q = cond (leb (least (sizeAt m v q) (m .n)) (m .eps)) (suc (firstLeast (sizeAt m v q) (m .n))) 0
+
+-- at how many of the places 0, …, n − 1 f is at most ε
+unfoldable pub fitting : (ℕ → ℕ) → ℕ → ℕ → ℕ
+fitting f ε zero = 0
+fitting f ε (suc n) = fitting f ε n + cond (leb (f n) ε) 1 0
+
+-- "A sample within ε of more than one line now gets label 5, undecided, instead of the nearest line; other labels are as before."
 unfoldable pub sampleLabel : Model → List ℤ → Point → ℕ
-sampleLabel m v q = cond (leb (least (sizeAt m v q) (m .n)) (m .eps)) (suc (firstLeast (sizeAt m v q) (m .n))) 0
+sampleLabel m v q = cond (leb 2 (fitting (sizeAt m v q) (m .eps) (m .n))) 5 (nearestLabel m v q)
 
 -- "A gap … its label is 6."
 unfoldable pub label : Model → List ℤ → Point → ℕ

@@ -1,6 +1,7 @@
 -- What is shown of labels. The proof stands in proofs/Labelling.antt.
 use mathlib.Core.Bool.{true, false}
 use mathlib.Core.List.{List}
+use mathlib.Core.Logic.{_≢_}
 use mathlib.Core.Path.{_≡_}
 use Prim.Native.Nat.{ℕ, suc, _≤_, _<_}
 use lib.IntN.{ℤ}
@@ -10,24 +11,25 @@ use Rattle.points.specs.Points.{isGap}
 use Rattle.residuals.specs.Cost.{sizeAt}
 use Rattle.labels.specs.Labels.{label}
 
--- The line that a label names fits: it is one of the n, no line has a smaller |e|, those before it have larger ones, and its |e| ≤ ε.
-pub record Nearest (m : Model) (v : List ℤ) (q : Point) (line : ℕ) : Type 0 where
+-- Two of the lines fit, which may be equal lines.
+pub record TwoFit (m : Model) (v : List ℤ) (q : Point) (first second : ℕ) : Type 0 where
+  pub two : first < second
+  pub one-of : second < m .n
+  pub first-fits : sizeAt m v q first ≤ m .eps
+  pub second-fits : sizeAt m v q second ≤ m .eps
+
+-- One line fits and no other does: it is the nearest.
+pub record OneFits (m : Model) (v : List ℤ) (q : Point) (line : ℕ) : Type 0 where
   pub one-of : line < m .n
-  pub none-smaller : (j : ℕ) → j < m .n → sizeAt m v q line ≤ sizeAt m v q j
-  pub lowest : (j : ℕ) → j < line → sizeAt m v q line < sizeAt m v q j
   pub fits : sizeAt m v q line ≤ m .eps
+  pub alone : (j : ℕ) → j < m .n → j ≢ line → m .eps < sizeAt m v q j
 
--- A sample's label names the nearest line where one fits, and is 0 exactly where every |e| > ε.
-pub record SampleLabelled (m : Model) (v : List ℤ) (q : Point) : Type 0 where
-  pub few : label m v q ≤ m .n
-  pub named : (line : ℕ) → label m v q ≡ suc line → Nearest m v q line
-  pub none-fits : label m v q ≡ 0 → (j : ℕ) → j < m .n → m .eps < sizeAt m v q j
-  pub no-label : ((j : ℕ) → j < m .n → m .eps < sizeAt m v q j) → label m v q ≡ 0
-
--- A label is 6 for a gap, and for no sample, since there are four lines at most.
+-- Which label a point has: 6 a gap; of samples 5 where two lines fit, the line where one does, and 0 where none does.
 pub record Labelled (m : Model) (v : List ℤ) (q : Point) : Type 0 where
   pub gap : isGap q ≡ true → label m v q ≡ 6
-  pub sample : isGap q ≡ false → SampleLabelled m v q
+  pub undecided : isGap q ≡ false → (i j : ℕ) → TwoFit m v q i j → label m v q ≡ 5
+  pub named : isGap q ≡ false → (line : ℕ) → OneFits m v q line → label m v q ≡ suc line
+  pub no-line : isGap q ≡ false → ((j : ℕ) → j < m .n → m .eps < sizeAt m v q j) → label m v q ≡ 0
 
 -- So it is with every point, under a model of one line at least.
 abbrev pub AllLabelled : Type 0

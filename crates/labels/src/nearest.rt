@@ -2,14 +2,16 @@
 use jobs::Model;
 use points::Point;
 use points::Record;
+ghost use mathlib.Core.Bool.{cond};
 ghost use mathlib.Core.Path.{_≡_};
 ghost use Prim.Native.Nat.{_+_, _*_, _/_, _^_, _≤_, _<_};
+ghost use lib.Dec.{leb};
 ghost use lib.IntN.{pos, natAbs, _-ℤ_, _*ℤ_};
 ghost use lib.ListN.{length};
 ghost use Rattle.points.specs.Points.{pointAt, xs};
 ghost use Rattle.residuals.specs.Cost.{at, dot, least};
 ghost use Rattle.residuals.specs.Inside.{Ready, sizeOf};
-ghost use Rattle.labels.specs.Labels.{firstLeast, sampleLabel, label};
+ghost use Rattle.labels.specs.Labels.{firstLeast, fitting, sampleLabel, label};
 
 // x1 to x4, from 0.
 fn x_at(q: Point, k: usize) -> i16
@@ -55,38 +57,56 @@ fn residual(q: Point, v: &[i16; 8], b: usize, d: usize, power: u16) -> i64
     e
 }
 
-// A line and its |e|.
+// A line and its |e|, and how many of the lines fit.
 pub struct Nearest {
     pub line: usize,
     pub size: u64,
+    pub fitting: usize,
 }
 
-// The nearest of n lines, the first among equals.
-fn nearest_line(q: Point, v: &[i16; 8], n: usize, d: usize, power: u16) -> Nearest
+// 1 for a line that fits, else 0.
+fn counted(size: u64, eps: u64) -> usize
+    ensures { λ r. ⌜ r ≡ cond (leb size eps) 1 0 ⌝ }
+{
+    if size <= eps { 1 } else { 0 }
+}
+
+// The nearest of n lines, the first among equals, and how many of them are within ε.
+fn nearest_line(q: Point, v: &[i16; 8], n: usize, d: usize, power: u16, eps: u64) -> Nearest
     requires { ⌜ (n * d ≤ 8) × (1 ≤ n) × (d ≤ 4) ⌝ }
     ensures line { λ r. ⌜ r .line ≡ firstLeast (λ j. sizeOf q (now (v .entry)) (j * d) d power) n ⌝ }
     ensures size { λ r. ⌜ r .size ≡ least (λ j. sizeOf q (now (v .entry)) (j * d) d power) n ⌝ }
+    ensures fitting { λ r. ⌜ r .fitting ≡ fitting (λ j. sizeOf q (now (v .entry)) (j * d) d power) eps n ⌝ }
 {
     let mut line: usize = 0;
     let mut size = loss::size(residual(q, v, 0, d, power));
+    let mut fitting = counted(size, eps);
     let mut j: usize = 1;
     while j < n {
         let other = loss::size(residual(q, v, j * d, d, power));
+        fitting += counted(other, eps);
         if other < size {
             size = other;
             line = j;
         }
         j += 1;
     }
-    Nearest { line, size }
+    Nearest {
+        line,
+        size,
+        fitting,
+    }
 }
 
-// The label of a sample.
+// The label of a sample: 5 where two lines fit.
 fn label_of(q: Point, m: Model, v: &[i16; 8], power: u16) -> u8
     requires { ⌜ (m .n * m .d ≤ 8) × (1 ≤ m .n) × (m .n ≤ 4) × (m .d ≤ 4) × (power ≡ 2 ^ m .scale) ⌝ }
     ensures { λ r. ⌜ r ≡ sampleLabel m (now (v .entry)) q ⌝ }
 {
-    let near = nearest_line(q, v, m.n as usize, m.d as usize, power);
+    let near = nearest_line(q, v, m.n as usize, m.d as usize, power, m.eps as u64);
+    if 2 <= near.fitting {
+        return 5;
+    }
     if near.size <= m.eps as u64 {
         (near.line + 1) as u8
     } else {

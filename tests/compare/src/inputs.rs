@@ -1,7 +1,7 @@
 //! Random jobs and stores, sound ones and damaged ones.
 
 use crate::random::Random;
-use oracle::points::{store_of, Point, GAP_Y, RECORD};
+use oracle::points::{points_of, store_of, Point, GAP_Y, RECORD};
 use oracle::{Box8, Job, Model, Vector};
 
 /// The shapes that check 2 accepts.
@@ -130,6 +130,31 @@ fn meet_a_residual(random: &mut Random, model: &mut Model, points: &[Point], vec
         if (1..=16_777_215).contains(&near) {
             model.epsilon = near as u32;
         }
+    }
+}
+
+/// The second line becomes the first.
+pub fn equal_lines(input: &mut Input) {
+    let d = input.job.model.d as usize;
+    if input.job.model.n > 1 && 2 * d <= 8 {
+        let (first, rest) = input.job.start.split_at_mut(d);
+        rest[..d].copy_from_slice(first);
+    }
+}
+
+/// Makes ε the size by which a second line fits one of the records, or one beside it, where that is a threshold.
+pub fn meet_the_second_line(random: &mut Random, input: &mut Input) {
+    let Input { job: Job { model, start, .. }, store } = input;
+    let points = points_of(store);
+    if model.check().is_err() || model.n == 1 || points.is_empty() {
+        return;
+    }
+    let point = points[random.size(0, points.len() - 1)];
+    let mut sizes: Vec<i64> = (0..model.n as usize).map(|j| model.residual(&point, start, j).abs()).collect();
+    sizes.sort_unstable();
+    let near = sizes[1] + random.between(-1, 1);
+    if (1..=16_777_215).contains(&near) {
+        model.epsilon = near as u32;
     }
 }
 

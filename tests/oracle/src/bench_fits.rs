@@ -58,9 +58,10 @@ fn b_square_cut_at_epsilon() {
 
 #[test]
 fn c_label_of_a_point_between_two_lines() {
+    // As request 8 of document 02 has it.
     let store = store_of(&[point(1, 4)]);
     let mut out = [9];
-    for (epsilon, label) in [(2, 1), (1, 0)] {
+    for (epsilon, label) in [(2, 5), (1, 0)] {
         let model = Model { n: 2, d: 1, s: 0, p: 0, epsilon };
         assert_eq!(labels(&model, &store, &vector(&[2, 6]), &mut out), Ok(1));
         assert_eq!(out, [label]);

@@ -8,6 +8,8 @@ use crate::refusal::{refuse_if, Refusal};
 pub type Vector = [i16; 8];
 /// The label of a gap, request 2 of document 02.
 pub const GAP_LABEL: u8 = 6;
+/// The label of a sample that is undecided between lines, request 8 of document 02.
+pub const UNDECIDED_LABEL: u8 = 5;
 
 /// What a cost is made with: n lines in d dimensions, the scale S, the loss p and its threshold ε.
 #[derive(Clone, Copy, Debug, PartialEq, Eq)]
@@ -137,12 +139,16 @@ impl Model {
         }
     }
 
-    /// A point's label: 6 for a gap; the line (1 to n) with the least |e|, lowest among equals, if that |e| ≤ ε; else 0.
+    /// A point's label: 6 for a gap; 5 for a sample within ε of more than one line; the line (1 to n) with the least |e|,
+    /// lowest among equals, if that |e| ≤ ε; else 0.
     pub fn label_of(&self, point: &Point, vector: &Vector) -> u8 {
         if point.is_gap() {
             return GAP_LABEL;
         }
         let size = |j: usize| self.residual(point, vector, j).unsigned_abs();
+        if self.lines().filter(|&j| size(j) <= self.epsilon as u64).count() > 1 {
+            return UNDECIDED_LABEL;
+        }
         let nearest = self.lines().min_by_key(|&j| (size(j), j)).unwrap();
         if size(nearest) <= self.epsilon as u64 {
             nearest as u8 + 1
@@ -274,6 +280,42 @@ mod tests {
         assert_eq!(labels(&model, &store_of(&[-32768, -32767, 32767].map(point)), &vector, &mut out), Ok(3));
         assert_eq!(out, [6, 1, 0, 9]);
         assert_eq!(model.residual(&point(-32768), &vector, 0), -32_768);
+    }
+
+    /// d = 1, S = 0, x = 1: a line's value is its w.
+    #[test]
+    fn a_sample_within_epsilon_of_two_lines_is_undecided() {
+        let label = |lines: &[i16], y, epsilon, p| {
+            let vector = std::array::from_fn(|k| lines.get(k).copied().unwrap_or(0));
+            let model = Model { n: lines.len() as u8, d: 1, s: 0, p, epsilon };
+            let mut out = [9];
+            labels(&model, &store_of(&[Point { x: [1, 0, 0, 0], y, frame: 0 }]), &vector, &mut out).unwrap();
+            out[0]
+        };
+        for p in 1..3 {
+            // |e| of 1 and 3: the second line fits from 3 on.
+            for (epsilon, expected) in [(1, 1), (2, 1), (3, 5), (4, 5)] {
+                assert_eq!(label(&[2, 6], 3, epsilon, p), expected);
+                assert_eq!(label(&[6, 2], 3, epsilon, p), if expected == 1 { 2 } else { 5 });
+            }
+            assert_eq!(label(&[7, 7], 7, 1, p), 5);
+            assert_eq!(label(&[7, 7], 9, 1, p), 0);
+            assert_eq!(label(&[7], 7, 1, p), 1);
+        }
+        assert_eq!(label(&[7, 7], 7, 0, 0), 5);
+        // Two of three, two of four, all of four, the last alone.
+        assert_eq!(label(&[2, 90, 4], 3, 1, 0), 5);
+        assert_eq!(label(&[90, 3, 91, 5], 3, 2, 0), 5);
+        assert_eq!(label(&[1, 2, 3, 4], 3, 2, 0), 5);
+        assert_eq!(label(&[90, 91, 92, 5], 3, 2, 0), 4);
+    }
+
+    #[test]
+    fn a_gap_near_two_lines_is_a_gap() {
+        let model = Model { n: 2, d: 1, s: 0, p: 0, epsilon: 1 };
+        let vector = [-32768, -32767, 0, 0, 0, 0, 0, 0];
+        let point = |y| Point { x: [1, 0, 0, 0], y, frame: 0 };
+        assert_eq!([-32768, -32767, -32766].map(|y| model.label_of(&point(y), &vector)), [6, 5, 2]);
     }
 
     #[test]

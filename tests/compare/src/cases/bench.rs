@@ -1,4 +1,4 @@
-//! The paper's bench fits A to L, with the values as the paper has them.
+//! The paper's bench fits A to L, with the values as the paper has them, and for C as request 8 of document 02 has it.
 
 use super::{row_of, Outcome};
 use crate::calls::{Calls, Found};
@@ -44,7 +44,7 @@ pub fn b(calls: &dyn Calls, _: &mut Random) -> Outcome {
 }
 
 pub fn c(calls: &dyn Calls, _: &mut Random) -> Outcome {
-    for (epsilon, label) in [(2, 1), (1, 0)] {
+    for (epsilon, label) in [(2, 5), (1, 0)] {
         let model = Model { n: 2, ..one_line(0, 0, epsilon) };
         let mut labels = [9];
         let code = calls.labels(&store(&[(1, 4)]), &model, &vector(&[2, 6]), &mut labels, &mut 0);

@@ -2,6 +2,7 @@
 
 mod beacon;
 mod bench;
+mod crossings;
 mod fit;
 mod gaps;
 mod lines;
@@ -54,6 +55,7 @@ pub const GROUPS: &[Group] = &[
     group("gaps-bound", "bound", 1, gaps::bound),
     group("gaps-labels", "labels", 1, gaps::labels),
     group("gaps-fit", "fit", 1, gaps::fit),
+    group("crossings", "labels", 1, crossings::labels),
     group("loss", "loss", 3000, model::loss),
     group("cost", "cost", 4000, model::cost),
     group("bound", "bound", 4000, model::bound),

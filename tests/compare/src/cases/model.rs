@@ -2,7 +2,7 @@
 
 use super::{code_of, row_of, same_answer, with_case, Outcome};
 use crate::calls::{Calls, WRONG_LENGTH};
-use crate::inputs::{any, Input};
+use crate::inputs::{self, any, Input};
 use crate::lent::{same, Lent};
 use crate::random::Random;
 
@@ -102,13 +102,10 @@ pub fn split(calls: &dyn Calls, random: &mut Random) -> Outcome {
 
 pub fn labels(calls: &dyn Calls, random: &mut Random) -> Outcome {
     let mut input = any(random);
-    if random.once_in(4) {
-        // Two equal lines, so that the lowest among equals shows.
-        let d = input.job.model.d as usize;
-        if input.job.model.n > 1 && 2 * d <= 8 {
-            let (first, rest) = input.job.start.split_at_mut(d);
-            rest[..d].copy_from_slice(first);
-        }
+    match random.below(4) {
+        0 => inputs::equal_lines(&mut input),
+        1 => inputs::meet_the_second_line(random, &mut input),
+        _ => {}
     }
     let records = input.store.len() / 12;
     let length = match random.below(6) {

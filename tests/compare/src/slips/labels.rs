@@ -33,17 +33,24 @@ impl StandIn {
 
     fn label_of(&self, model: &Model, point: &Point, vector: &Vector) -> u8 {
         let size = |j: &usize| model.residual(point, vector, *j).unsigned_abs();
-        let lines = 0..model.n as usize;
-        let (first, last) = (lines.clone().min_by_key(size).unwrap(), lines.rev().min_by_key(size).unwrap());
-        let (least, epsilon) = (size(&first), model.epsilon as u64);
+        let lines: Vec<usize> = (0..model.n as usize).collect();
+        let nearest = *lines.iter().min_by_key(|j| size(j)).unwrap();
+        let (least, epsilon) = (size(&nearest), model.epsilon as u64);
+        let of_nearest = (nearest as u8 + 1) * (least <= epsilon) as u8;
+        let fit = |fits: &dyn Fn(u64) -> bool| lines.iter().filter(|j| fits(size(j))).count();
+        let undecided = |wrong: bool| if wrong { of_nearest } else { 5 };
         let label = model.label_of(point, vector);
         match self.slip {
+            UndecidedBeforeGap if fit(&|e| e <= epsilon) > 1 => 5,
             GapLabelledOutlier if point.is_gap() => 0,
-            GapLabelledByNearestLine if point.is_gap() => (first as u8 + 1) * (least <= epsilon) as u8,
+            GapLabelledByNearestLine if point.is_gap() => of_nearest,
             _ if point.is_gap() => label,
             LabelsWithoutThreshold => label.max(1),
-            LabelsHighestAmongEquals if label > 0 => last as u8 + 1,
             EpsilonItselfIsOut if least == epsilon => 0,
+            UndecidedAsNearestLine => of_nearest,
+            UndecidedOnlyWhereEqual if label == 5 => undecided(fit(&|e| e == least) < 2),
+            UndecidedOnlyWhereAllFit if label == 5 => undecided(fit(&|e| e <= epsilon) < lines.len()),
+            UndecidedBelowEpsilon if label == 5 => undecided(fit(&|e| e < epsilon) < 2),
             _ => label,
         }
     }

@@ -26,8 +26,13 @@ enum Slip {
     LeastI64,
     CostAtRefusal,
     LabelsWithoutThreshold,
-    LabelsHighestAmongEquals,
     LabelsClearTheRest,
+    // Samples near two lines.
+    UndecidedAsNearestLine,
+    UndecidedOnlyWhereEqual,
+    UndecidedOnlyWhereAllFit,
+    UndecidedBelowEpsilon,
+    UndecidedBeforeGap,
     // Gaps.
     GapCosts,
     GapBoundedAsASample,
@@ -145,8 +150,12 @@ const SLIPS: &[(&str, &[Slip])] = &[
         &[
             EpsilonItselfIsOut,
             LabelsWithoutThreshold,
-            LabelsHighestAmongEquals,
             LabelsClearTheRest,
+            UndecidedAsNearestLine,
+            UndecidedOnlyWhereEqual,
+            UndecidedOnlyWhereAllFit,
+            UndecidedBelowEpsilon,
+            UndecidedBeforeGap,
             GapMarkOneOff,
             GapLabelledByNearestLine,
             GapLabelledOutlier,
