@@ -1,13 +1,20 @@
-/* The library from C: the cost of a vector, the bound of a box, and which line each point belongs to.
+/* The library from C: the cost of a vector, also beacon by beacon, the bound of a box, and which line each point belongs to.
  *
  *   rt staticlib capi
  *   cc -std=c99 -Wall -Iinclude examples/cost.c target/staticlib/libcapi.a -o target/cost && target/cost
  */
 #include <stdio.h>
+#include <string.h>
 #include "vengutari.h"
 
 #define POINTS 8
 #define RECORD 12
+#define ROUNDS 3
+
+/* Two lines in one dimension; coefficients are halves (scale 1); distances count up to 3, which is 6 halves. */
+static const uint8_t n = 2, d = 1, scale = 1, p = 1;
+static const uint32_t eps = 6;
+static const int16_t vector[8] = {4, -2};
 
 /* Two lines through the origin, y = 2 x and y = -x, near both of which the first point lies, a point off both, and a sample that was not
  * taken. */
@@ -23,22 +30,37 @@ static void put_record(uint8_t *record, int16_t x, int16_t y, uint16_t frame)
     }
 }
 
+/* A pass of the same points three times over: 24 records, so a full beacon and a part of one. */
+static uint32_t print_beacons(const uint8_t *store)
+{
+    uint8_t pass[ROUNDS * POINTS * RECORD];
+    uint64_t sums[VENGUTARI_MOST_BEACONS], total;
+    for (int k = 0; k < ROUNDS; k++)
+        memcpy(pass + k * POINTS * RECORD, store, POINTS * RECORD);
+    uint32_t code = vengutari_cost_by_beacon(pass, sizeof pass, n, d, scale, p, eps, vector, 8, sums, VENGUTARI_MOST_BEACONS, &total);
+    if (code != 0)
+        return code;
+    printf("cost by beacon");
+    for (int g = 0; g * VENGUTARI_BEACON_RECORDS < ROUNDS * POINTS; g++)
+        printf(" %llu", (unsigned long long)sums[g]);
+    printf(", together %llu\n", (unsigned long long)total);
+    return 0;
+}
+
 int main(void)
 {
     uint8_t store[POINTS * RECORD];
     for (int i = 0; i < POINTS; i++)
         put_record(store + i * RECORD, points[i][0], points[i][1], (uint16_t)i);
 
-    /* Two lines in one dimension; coefficients are halves (scale 1); distances count up to 3, which is 6 halves. */
-    const uint8_t n = 2, d = 1, scale = 1, p = 1;
-    const uint32_t eps = 6;
-    const int16_t vector[8] = {4, -2};
     uint64_t value = 0;
 
     uint32_t code = vengutari_cost(store, sizeof store, n, d, scale, p, eps, vector, 8, &value);
     if (code != 0)
         return printf("refused %u\n", (unsigned)VENGUTARI_NUMBER(code)), 1;
     printf("cost %llu\n", (unsigned long long)value);
+    if ((code = print_beacons(store)) != 0)
+        return printf("refused %u\n", (unsigned)VENGUTARI_NUMBER(code)), 1;
 
     /* No vector with line 1 from 0 to 8 and line 2 from -8 to -1 is cheaper than this. */
     const int16_t corners[16] = {0, -8, 0, 0, 0, 0, 0, 0, 8, -1};

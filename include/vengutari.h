@@ -44,12 +44,22 @@ extern "C" {
 #define VENGUTARI_GAP_LABEL 6
 #define VENGUTARI_UNDECIDED_LABEL 5
 
+/* The records of a full beacon, and the most beacons that a store's records make. */
+#define VENGUTARI_BEACON_RECORDS 19
+#define VENGUTARI_MOST_BEACONS 216
+
 /* The loss of a residual e. Refusal 4. */
 uint32_t vengutari_loss(uint8_t p, uint32_t eps, int64_t e, uint64_t *value);
 
 /* The cost of a vector. Refusals 1 to 4, 6 and 7; 255 where vector_len is not 8. */
 uint32_t vengutari_cost(const uint8_t *store, size_t store_len, uint8_t n, uint8_t d, uint8_t scale, uint8_t p, uint32_t eps,
                         const int16_t *vector, size_t vector_len, uint64_t *value);
+
+/* The cost of a vector beacon by beacon: sums[g] takes the cost of records 19 g to 19 g + 18, the last group taking what is left, and the
+ * further entries are kept; *value is the total, which is the cost. Refusals 1 to 4, 6, 7, and 10 where sums has fewer entries than there
+ * are groups; 255 where vector_len is not 8. */
+uint32_t vengutari_cost_by_beacon(const uint8_t *store, size_t store_len, uint8_t n, uint8_t d, uint8_t scale, uint8_t p, uint32_t eps,
+                                  const int16_t *vector, size_t vector_len, uint64_t *sums, size_t sums_len, uint64_t *value);
 
 /* The bound of a box. Refusals 1 to 5 and 7; 255 where corners_len is not 16. */
 uint32_t vengutari_bound(const uint8_t *store, size_t store_len, uint8_t n, uint8_t d, uint8_t scale, uint8_t p, uint32_t eps,

@@ -60,6 +60,7 @@ class Fit:
     notes: list
     points: object
     labels: list
+    beacons: list
     wide: object = None
     source: str = ""
 
@@ -74,6 +75,15 @@ class Fit:
     def line(self, j):
         """The coefficients of a line, in the user's units."""
         return self.scaling.line(self.vector, j)
+
+
+@dataclass
+class Beacon:
+    """The rows of a beacon's records, from 0, and what they cost."""
+
+    first: int
+    last: int
+    cost: int
 
 
 @dataclass
@@ -173,6 +183,14 @@ def row_labels(library, model, scales, vector, points, rows):
     return labels
 
 
+def beacons_of(library, model, vector, store, kept):
+    """What each beacon costs, in the order of the file; a row that is not in the store is in none."""
+    if not calls.BEACONS:
+        return []
+    groups = [kept[k : k + calls.BEACON_RECORDS] for k in range(0, len(kept), calls.BEACON_RECORDS)]
+    return [Beacon(rows[0], rows[-1], cost) for rows, cost in zip(groups, library.cost_by_beacon(store, model, vector))]
+
+
 def check_far(model, scales, vector, k, points):
     """A row that 16 bits do not hold is an outlier unless a line runs through it."""
     x = [*points.x[k], Fraction(1)][: scales.d]
@@ -211,7 +229,8 @@ def fit(library, points, settings, progress=None):
     job.start = start_of(library, settings, scales, job, guess, notes)
     outcome = run.search(library, job, settings.limits, progress and progress(scales.cost_unit(model.p)))
     labels = row_labels(library, model, scales, outcome.answer.vector, points, rows)
-    made = Fit(settings, scales, model, job.low, job.high, outcome, notes, points, labels)
+    beacons = beacons_of(library, model, outcome.answer.vector, store, kept)
+    made = Fit(settings, scales, model, job.low, job.high, outcome, notes, points, labels, beacons)
     if settings.wide and outcome.stopped != "interrupt":
         made.wide = wide_search(library, made, samples, store, progress)
     return made

@@ -1,6 +1,6 @@
 """The library, by ctypes. The signature of every call of include/vengutari.h stands here and nowhere else.
 
-The two switches below say which of document 02's requests the library has; each is one line to change.
+The three switches below say which of document 02's requests the library has; each is one line to change.
 """
 
 import ctypes
@@ -19,8 +19,11 @@ from .problems import BadInput
 GAPS = True
 # A sample within epsilon of more than one line is undecided, with label 5 (request 8). Where the library has none, it is the nearest's.
 CROSSINGS = True
+# The cost is told beacon by beacon (request 10). Where the library has no such call, no output has it.
+BEACONS = True
 
 RECORD_BYTES = 12
+BEACON_RECORDS = 19
 MOST_RECORDS = 4096
 JOB_BYTES = 72
 ANSWER_BYTES = 40
@@ -85,6 +88,7 @@ SIGNATURES = {
     "vengutari_split": [_U8, _U8, *_NUMBERS, *_NUMBERS],
     "vengutari_labels": [*_BYTES, *_MODEL, *_NUMBERS, *_BYTES, *_VALUE],
     "vengutari_search": [*_BYTES, *_MODEL, _U64, _U32, *_NUMBERS, *_NUMBERS, *_NUMBERS, *_WIDE, *_NUMBERS, *_WIDE, *_VALUE],
+    **({"vengutari_cost_by_beacon": [*_BYTES, *_MODEL, *_NUMBERS, *_WIDE, *_VALUE]} if BEACONS else {}),
     "vengutari_take_in": [*_BYTES, _SIZE, *_BYTES, *_VALUE],
     "vengutari_read_job": [*_BYTES, *_WIDE, *_NUMBERS, *_NUMBERS],
     "vengutari_write_job": [*_MODEL, _U64, _U32, _U32, *_NUMBERS, *_NUMBERS, *_BYTES],
@@ -148,6 +152,12 @@ class Library:
 
     def cost(self, store, model, vector):
         return self._call("vengutari_cost", _bytes(store), *model, _numbers(vector))
+
+    def cost_by_beacon(self, store, model, vector):
+        """The cost of each full beacon's records, and of what is left; their sum is the cost."""
+        sums = _array(ctypes.c_uint64, [0] * -(-len(store) // (RECORD_BYTES * BEACON_RECORDS)))
+        self._call("vengutari_cost_by_beacon", _bytes(store), *model, _numbers(vector), sums)
+        return list(sums)
 
     def bound(self, store, model, low, high):
         return self._call("vengutari_bound", _bytes(store), *model, _corners(low, high))

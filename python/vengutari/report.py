@@ -5,7 +5,7 @@ import os
 from fractions import Fraction
 
 from . import __version__
-from .library import GAP, OUTLIER, UNDECIDED
+from .library import BEACON_RECORDS, GAP, OUTLIER, UNDECIDED
 from .picture import Picture, reach
 from .result import LABELS, SUMMED, advice, box_text, certificate, cost_text, equation, gap_text, grid_text, headline, line_value
 from .result import root_mean_square, rows_of, rows_text, settled, wide_sentence
@@ -14,6 +14,9 @@ from .scaling import digits_of, on_step, shown
 # Colours that people with any colour sight tell apart, and a shape for each, for prints without colour.
 MARKS = {1: ("#0072b2", "circle"), 2: ("#d55e00", "square"), 3: ("#009e73", "triangle"), 4: ("#cc79a7", "diamond")}
 MARKS.update({OUTLIER: ("#555555", "cross"), UNDECIDED: ("#8a6d00", "ring"), GAP: ("#999999", "tick")})
+
+# So many beacons at most are listed.
+MOST_BEACONS = 8
 
 STYLE = """
 body { font: 16px/1.5 system-ui, sans-serif; color: #222; background: #fff; max-width: 60rem; margin: 2rem auto; padding: 0 1rem; }
@@ -114,6 +117,27 @@ class Report:
             rows.append(f"<tr>{cells}<td class=number>{rms}</td><td>{escaped(boxes[j])}</td></tr>")
         return f'<table id="lines">{"".join(rows)}</table>'
 
+    def beacons_table(self):
+        """The beacons that cost most, the dearest first."""
+        fit, whole = self.fit, self.fit.answer.cost
+        dear = sorted((beacon for beacon in fit.beacons if beacon.cost), key=lambda beacon: -beacon.cost)[:MOST_BEACONS]
+        rows = ["<tr><th>rows</th><th>frames</th><th class=number>cost</th><th class=number>of the whole</th></tr>"]
+        for b in dear:
+            cells = [f"{b.first + 1} to {b.last + 1}", f"{fit.points.counted[b.first]} to {fit.points.counted[b.last]}"]
+            numbers = [cost_text(fit, b.cost), f"{100 * b.cost / whole:.3g} %"]
+            text = "".join(f"<td>{cell}</td>" for cell in cells) + "".join(f"<td class=number>{escaped(n)}</td>" for n in numbers)
+            rows.append(f"<tr>{text}</tr>")
+        return f'<table id="beacons">{"".join(rows)}</table>'
+
+    def beacons_part(self):
+        """Nothing where the library does not say it."""
+        count = len(self.fit.beacons)
+        if not count:
+            return ""
+        several = "s" if count > 1 else ""
+        words = f"{count} beacon{several} of {BEACON_RECORDS} records, the last of what is left; here are those that cost most."
+        return f'<h2>Cost by beacon</h2>\n{self.beacons_table()}\n<p class="quiet">{words}</p>\n'
+
     def settings_table(self):
         fit, answer = self.fit, self.fit.answer
         pairs = [
@@ -156,7 +180,7 @@ class Report:
             f"<h2>Lines</h2>\n{self.lines_table()}\n<h2>Points</h2>\n{self.legend()}\n{self.fit_picture()}\n"
             f'<p class="quiet">{caption} Point at a mark for its row.</p>\n<h2>Residuals by frame</h2>\n{self.residual_picture()}\n'
             '<p class="quiet">The distance to the nearest line; marks at the edge lie farther out.</p>\n'
-            f"<h2>Notes</h2>\n{self.notes()}\n<h2>Settings</h2>\n{self.settings_table()}\n</body></html>\n"
+            f"{self.beacons_part()}<h2>Notes</h2>\n{self.notes()}\n<h2>Settings</h2>\n{self.settings_table()}\n</body></html>\n"
         )
 
 

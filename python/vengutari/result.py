@@ -231,6 +231,12 @@ def answer_json(answer, unit):
     }
 
 
+def beacons_json(fit):
+    """The cost beacon by beacon; rows count from 1."""
+    unit = fit.scaling.cost_unit(fit.model.p)
+    return [{"rows": [b.first + 1, b.last + 1], "cost": b.cost, "cost_in_units": float(b.cost * unit)} for b in fit.beacons]
+
+
 def as_json(fit):
     """Everything about a fit, so that later commands need nothing else."""
     settings = fit.settings
@@ -241,7 +247,7 @@ def as_json(fit):
         "stopped": fit.outcome.stopped, "seconds": round(fit.outcome.seconds, 3), "certificate": certificate(fit),
         "lines": [line_json(fit, j, rows) for j in range(fit.model.n)],
         "labels": counts_of(fit.labels, fit.model.n),
-        "box": box_json(fit.scaling, fit.low, fit.high),
+        "beacons": beacons_json(fit), "box": box_json(fit.scaling, fit.low, fit.high),
         "settings": {
             "x": settings.x, "y": settings.y, "frame": settings.frame, "lines": fit.model.n, "offset": fit.scaling.offset,
             "loss": settings.loss, "p": fit.model.p, "epsilon": shown_exactly(settings.epsilon), "epsilon_whole": fit.model.epsilon,

@@ -187,6 +187,20 @@ class Fits(unittest.TestCase):
             self.assertGreaterEqual(self.cost(points, found, tried), found["bound"])
 
     @for_each
+    def test_cost_by_beacon(self, done):
+        """Groups of 19 rows, gaps among them, each with its cost by the formulas; together they are the cost."""
+        made, found = done.made, done.found
+        samples, points = iter(self.whole(made, found)), []
+        for y in made.y:
+            points.append(None if y is None else next(samples))
+        groups = [points[k : k + 19] for k in range(0, made.count, 19)]
+        costs = [self.cost([point for point in group if point is not None], found, found["vector"]) for group in groups]
+        self.assertEqual([beacon["cost"] for beacon in found["beacons"]], costs)
+        self.assertEqual(sum(costs), found["cost"])
+        ends = [[19 * g + 1, min(19 * g + 19, made.count)] for g in range(len(groups))]
+        self.assertEqual([beacon["rows"] for beacon in found["beacons"]], ends)
+
+    @for_each
     def test_box_holds_the_answer_and_the_truth(self, done):
         made, found = done.made, done.found
         d = len(found["scaling"]["x"])

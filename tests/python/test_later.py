@@ -81,6 +81,9 @@ class Later(unittest.TestCase):
         self.assertEqual((found["vector"], found["cost"], found["bound"]), tuple(self.found[key] for key in ("vector", "cost", "bound")))
         self.assertEqual(found["labels"]["outliers"], self.found["labels"]["outliers"] + 2)
         self.assertEqual(found["labels"]["gaps"], 3)
+        # Rows that 16 bits do not hold are in no beacon.
+        self.assertEqual([beacon["rows"] for beacon in found["beacons"]], [beacon["rows"] for beacon in self.found["beacons"]])
+        self.assertEqual(found["beacons"][-1]["rows"], [58, 60])
         self.assertIn("2 rows lie far beyond the others", " ".join(found["notes"]))
 
     def test_gaps_change_neither_cost_nor_bound(self):
@@ -230,6 +233,9 @@ class Interface(unittest.TestCase):
         self.assertEqual([calls.loss(2, 4, -5), calls.loss(2, 5, -5)], [16, 25])
         self.assertEqual([calls.cost(store, model, [w]) for w in (0, 2, 3)], [6, 2, 4])
         self.assertEqual(calls.bound(store, model, [0], [3]), 2)
+        rising, _ = scaling.store_of([([1], k) for k in range(40)], range(40))
+        self.assertEqual(calls.cost_by_beacon(rising, model._replace(epsilon=100), [0]), [171, 532, 77])
+        self.assertEqual(calls.cost_by_beacon(rising[: 19 * 12], model._replace(epsilon=100), [0]), [171])
         self.assertEqual(calls.split(1, 1, [-3], [-2]), [([-3] + [0] * 7, [-3] + [0] * 7), ([-2] + [0] * 7, [-2] + [0] * 7)])
         self.assertEqual(calls.labels(store, model, [2]), b"\1\1\0")
         self.assertEqual(calls.labels(store, model._replace(n=2, epsilon=4), [4, 5]), b"\5\5\2")

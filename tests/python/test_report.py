@@ -117,6 +117,19 @@ class Report(unittest.TestCase):
             self.assertEqual(text.count(mark), len(marks) + 1, name)
             self.assertIn(f"{name}, {found['labels'][several]}", text)
 
+    def test_the_dearest_beacons_are_listed(self):
+        for name, (made, text, found) in self.done.items():
+            with self.subTest(name):
+                table = re.search('<table id="beacons">(.*?)</table>', text).group(1)
+                rows = [re.findall("<td[^>]*>([^<]*)</td>", row) for row in table.split("<tr>")[2:]]
+                dear = sorted((beacon for beacon in found["beacons"] if beacon["cost"]), key=lambda beacon: -beacon["cost"])[:8]
+                self.assertGreater(len(dear), 1)
+                for (rows_of, frames, _, share), beacon in zip(rows, dear, strict=True):
+                    first, last = beacon["rows"]
+                    self.assertEqual((rows_of, frames), (f"{first} to {last}", f"{first - 1} to {last - 1}"))
+                    self.assertAlmostEqual(float(share.split()[0]), 100 * beacon["cost"] / found["cost"], delta=0.5)
+                self.assertIn(f"{-(-made.count // 19)} beacons of 19 records", text)
+
     def test_bands_and_lines(self):
         for name, (made, text, _) in self.done.items():
             with self.subTest(name):

@@ -7,6 +7,7 @@ ghost use Rattle.boundary.specs.Boundary.{modelOf, codeOf, valueAfter};
 ghost use Rattle.evaluation_calls.specs.Calls.{lossCall, costCall, boundCall};
 ghost use Rattle.split_calls.specs.Calls.{splitCall, halvesAfter};
 ghost use Rattle.label_calls.specs.Calls.{labelsCall, labelsAfter};
+ghost use Rattle.beacon_cost_calls.specs.Calls.{costByBeaconCall, sumsAfterCall};
 ghost use Rattle.search_calls.specs.Calls.{searchCall, vectorAfter, numbersAfter, TableAfterCall, BoundsAfterCall, CertifiedCall};
 ghost use Rattle.beacon_calls.specs.Calls.{takeInCall};
 ghost use Rattle.merge.specs.Merge.{outputAfter};
@@ -93,6 +94,30 @@ pub extern "C" fn vengutari_labels(
         ≡ labelsAfter (now (store .entry)) (modelOf n d scale p eps) (now (vector .entry)) (now (labels .entry)) ⌝ }
 {
     label_calls::labels(store, n, d, scale, p, eps, vector, labels, value)
+}
+
+// The cost of each group of 19 records into the front of `sums`; the value is the total.
+#[no_mangle]
+pub extern "C" fn vengutari_cost_by_beacon(
+    store: &[u8],
+    n: u8,
+    d: u8,
+    scale: u8,
+    p: u8,
+    eps: u32,
+    vector: &[i16],
+    sums: &mut [u64],
+    value: &mut u64,
+) -> u32
+    ensures code { λ k. ⌜ k
+        ≡ codeOf (costByBeaconCall (now (store .entry)) (modelOf n d scale p eps) (now (vector .entry)) (now (sums .entry))) ⌝ }
+    ensures value { λ _. ⌜ now (value .exit)
+        ≡ valueAfter (costByBeaconCall (now (store .entry)) (modelOf n d scale p eps) (now (vector .entry)) (now (sums .entry)))
+        (now (value .entry)) ⌝ }
+    ensures sums { λ _. ⌜ now (sums .exit)
+        ≡ sumsAfterCall (now (store .entry)) (modelOf n d scale p eps) (now (vector .entry)) (now (sums .entry)) ⌝ }
+{
+    beacon_cost_calls::cost_by_beacon(store, n, d, scale, p, eps, vector, sums, value)
 }
 
 // Searches a box with the rows of a lent table, with the bounds of open boxes in a lent list. The value is the kind of the answer; its

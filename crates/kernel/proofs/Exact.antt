@@ -5,6 +5,7 @@ use mathlib.Core.List.{List}
 use Prim.Native.Nat.{ℕ, zero, suc, _+_, _*_, _^_, _≤_, _<_, min}
 use native.Mathlib.Omega.{arith}
 use lib.IntN.{ℤ, pos, _*ℤ_}
+use lib.ListN.{getD}
 use lib.Ieee.{Float, binary64, ofInt}
 use Rattle.jobs.specs.declared.Model.{Model}
 use Rattle.loss.specs.Loss.{lossOf}
@@ -22,8 +23,8 @@ use Rattle.sizes.specs.Sizes.{sizeIn}
 use Rattle.sizes.proofs.Exact.{size-exact}
 use Rattle.box_ends.specs.Ends.{leastIn}
 use Rattle.box_ends.proofs.Exact.{least-exact}
-use Rattle.losses.proofs.Exact.{loss-exact, chunk-exact}
-use Rattle.kernel.specs.Kernel.{Doubles, line, sizeBy, leastBy, chunkLoss}
+use Rattle.losses.proofs.Exact.{loss-exact, groups-exact, chunk-exact}
+use Rattle.kernel.specs.Kernel.{Doubles, line, sizeBy, leastBy, lossBy, groupLosses, chunkLoss}
 
 -- the coordinates of a line, and the x of a point, by their places
 line-within : (v : List ℤ) (u : List Float) (b d : ℕ) → Doubles v u → d ≤ 4 → b + d ≤ 8 → (k : ℕ) → k < d → Within (line u b k) (at v (b + k)) 32768
@@ -74,6 +75,17 @@ module _ (over : Bool) (s : List (List Float)) (low high : List Float) (m : Mode
   least-whole-by k h zero l = cast-whole (pos (m .eps + 1)) (omega arith)
   least-whole-by k h (suc n) l = least-whole (least-whole-by k h n (omega arith)) (exact n k (omega arith) h)
 
-  pub loss-in : chunkLoss over s low high m ≡ sumOf (λ k. lossOf (m .p) (m .eps) (leastFrom (m .eps + 1) (size (point k)) (m .n))) 80
+  -- the loss of the point in slot k
+  abbrev lossAt : ℕ → ℕ
+  lossAt k = lossOf (m .p) (m .eps) (leastFrom (m .eps + 1) (size (point k)) (m .n))
+
+  losses-within : (k : ℕ) → k < 80 → Within (lossBy over s low high m k) (pos (lossAt k)) 281474943156225
+  losses-within k h = loss-exact (least-whole-by k h (m .n) (omega arith)) cut (m .p)
+
+  pub groups-in : (g : ℕ) → g < 4 → getD (groupLosses over s low high m) g 0 ≡ sumOf (λ k. lossAt (g * 20 + k)) 20
+  unfolding groupLosses
+  groups-in = groups-exact losses-within
+
+  pub loss-in : chunkLoss over s low high m ≡ sumOf lossAt 80
   unfolding chunkLoss
-  loss-in = chunk-exact (λ k h. loss-exact (least-whole-by k h (m .n) (omega arith)) cut (m .p))
+  loss-in = chunk-exact losses-within

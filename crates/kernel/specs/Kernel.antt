@@ -1,5 +1,5 @@
--- The losses of a chunk, in double precision, step by step as the machine does. proofs/Exact.antt says which whole number this is for the
--- points of a store.
+-- The losses of a chunk, in double precision, step by step as the machine does. proofs/Exact.antt says which whole numbers these are for
+-- the points of a store.
 use mathlib.Core.Bool.{Bool, cond}
 use mathlib.Core.List.{List, _++_, map}
 use mathlib.Core.Path.{_≡_}
@@ -12,7 +12,7 @@ use Rattle.whole.specs.Whole.{Within, smallerOf, zeroth}
 use Rattle.lanes.specs.Lanes.{lane, four, taken}
 use Rattle.sizes.specs.Sizes.{sizeIn}
 use Rattle.box_ends.specs.Ends.{leastIn}
-use Rattle.losses.specs.Losses.{lossIn, chunkSum}
+use Rattle.losses.specs.Losses.{lossIn, groupSums, chunkSum}
 
 -- the coordinates of a vector as doubles, and four zeros behind them
 unfoldable pub doubles : List ℤ → List Float
@@ -40,7 +40,14 @@ leastBy over s low high d most (suc n) k = smallerOf (leastBy over s low high d 
 abbrev pub LeastOf : Bool → List (List Float) → List Float → List Float → ℕ → ℕ → List Float → List Float → Type 0
 LeastOf over s low high d n old new = (k : ℕ) → k < 80 → lane new k ≡ leastBy over s low high d (lane old k) n k
 
--- the sum of the losses
+-- the loss of point k
+abbrev pub lossBy : Bool → List (List Float) → List Float → List Float → Model → ℕ → Float
+lossBy over s low high m k =
+    lossIn (m .p) (ofInt binary64 (pos (m .eps))) (leastBy over s low high (m .d) (ofInt binary64 (pos (m .eps + 1))) (m .n) k)
+
+-- the sums of the losses by groups, and of all
+unfoldable pub groupLosses : Bool → List (List Float) → List Float → List Float → Model → List ℕ
+groupLosses over s low high m = groupSums (lossBy over s low high m)
+
 unfoldable pub chunkLoss : Bool → List (List Float) → List Float → List Float → Model → ℕ
-chunkLoss over s low high m =
-    chunkSum (λ k. lossIn (m .p) (ofInt binary64 (pos (m .eps))) (leastBy over s low high (m .d) (ofInt binary64 (pos (m .eps + 1))) (m .n) k))
+chunkLoss over s low high m = chunkSum (lossBy over s low high m)

@@ -8,7 +8,7 @@ ghost use lib.IntN.{pos};
 ghost use lib.Ieee.{binary64, ofInt};
 ghost use Rattle.whole.specs.Whole.{Within};
 ghost use Rattle.lanes.specs.Lanes.{Lessened};
-ghost use Rattle.kernel.specs.Kernel.{doubles, Doubles, sizeBy, LeastOf, chunkLoss};
+ghost use Rattle.kernel.specs.Kernel.{doubles, Doubles, sizeBy, LeastOf, groupLosses, chunkLoss};
 
 // The eight coordinates of a vector, and four zeros: a line's are read four at a time.
 pub type Coordinates = [f64; 12];
@@ -96,15 +96,31 @@ fn past(eps: u32) -> f64
     (eps as u64 + 1) as f64
 }
 
-// The losses of a chunk's points: under the vector `low`, or over the box from `low` to `high`. The sizes lie in an array of this
-// function, so that the compiler knows that no column shares its memory.
-pub fn chunk_loss(s: &Chunk, low: &Coordinates, high: &Coordinates, m: Model, over: bool) -> u64
-    ensures value { λ r. ⌜ r ≡ chunkLoss over (now (s .entry)) (now (low .entry)) (now (high .entry)) m ⌝ }
-    ensures small { λ r. ⌜ r < 36028797018963968 ⌝ }
+// The losses of a chunk's points, added up by groups: under the vector `low`, or over the box from `low` to `high`. The sizes lie in an
+// array of this function, so that the compiler knows that no column shares its memory.
+pub fn group_losses(
+    s: &Chunk,
+    low: &Coordinates,
+    high: &Coordinates,
+    m: Model,
+    over: bool,
+) -> [u64; 4]
+    ensures { λ r. ⌜ r ≡ groupLosses over (now (s .entry)) (now (low .entry)) (now (high .entry)) m ⌝ }
 {
     let most = past(m.eps);
     let mut sizes: Lanes = [most; 80];
     lessen_all(&mut sizes, s, low, high, m.n, m.d, over);
     losses::lose(&mut sizes, m.p, m.eps);
-    losses::chunk_sum(&sizes)
+    losses::group_sums(&sizes)
+}
+
+// And then the groups.
+pub fn chunk_loss(s: &Chunk, low: &Coordinates, high: &Coordinates, m: Model, over: bool) -> u64
+    ensures value { λ r. ⌜ r ≡ chunkLoss over (now (s .entry)) (now (low .entry)) (now (high .entry)) m ⌝ }
+    ensures small { λ r. ⌜ r < 36028797018963968 ⌝ }
+{
+    let sums = group_losses(s, low, high, m, over);
+    let first = sums[0] + sums[1];
+    let last = sums[2] + sums[3];
+    first + last
 }

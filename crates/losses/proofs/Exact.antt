@@ -1,11 +1,13 @@
 -- Losses and their sums are those of the definitions, exactly: twenty losses of at most 16,777,215² are below 2^53. Assumes nothing.
 use mathlib.Core.Path.{_≡_, refl, ap, ap₂, subst}
 use mathlib.Core.Bool.{Bool, true, false, cond}
+use mathlib.Core.List.{[], _∷_}
 use Prim.Native.Nat.{ℕ, zero, suc, _+_, _*_, _≤_, _<_, min}
 use native.Mathlib.Nat.{mul-le-mul, add-zero, add-suc}
 use native.Mathlib.Omega.{arith}
 use lib.Dec.{ltb}
 use lib.IntN.{ℤ, pos}
+use lib.ListN.{getD}
 use lib.Ieee.{Float, binary64, add, ofInt}
 use Rattle.loss.specs.Loss.{lossOf}
 use Rattle.loss.proofs.Laws.{min-square, loss-le}
@@ -14,8 +16,8 @@ use Rattle.residuals.proofs.Sums.{sum-same}
 use Rattle.whole.specs.Whole.{Whole, Within, counted}
 use Rattle.whole.proofs.Laws.{pick-whole, mul-whole, cast-whole, zero-whole, one-whole}
 use Rattle.whole.proofs.Picks.{least-whole, add-within, wider}
-use Rattle.whole.proofs.Counting.{count-whole}
-use Rattle.losses.specs.Losses.{lossIn, alternate, groupSum, chunkSum}
+use Rattle.whole.proofs.Counting.{count-small, count-whole}
+use Rattle.losses.specs.Losses.{lossIn, alternate, groupSum, groupSums, chunkSum}
 
 -- ---- one loss
 over-is : (b : Bool) → cond b (pos 1) (pos 0) ≡ pos (cond b 1 0)
@@ -49,7 +51,7 @@ sum-pairs f (suc n) =
     let odd : 1 + n * 2 ≡ suc (n * 2) = omega arith in
     omega (arith, sum-pairs f n, ap (sumOf f) two, ap f odd)
 
-sum-parts : (f : ℕ → ℕ) (a b : ℕ) → sumOf f (a + b) ≡ sumOf f a + sumOf (λ k. f (a + k)) b
+pub sum-parts : (f : ℕ → ℕ) (a b : ℕ) → sumOf f (a + b) ≡ sumOf f a + sumOf (λ k. f (a + k)) b
 unfolding sumOf
 sum-parts f a zero = rw add-zero (omega arith)
 sum-parts f a (suc b) = rw add-suc (omega (arith, sum-parts f a b))
@@ -70,6 +72,15 @@ module _ {z : ℕ → Float} {g : ℕ → ℕ} (lanes : (k : ℕ) → k < 80 →
       let odd = sum-same (λ i. g (o + 1 + i * 2)) (λ i. g (o + (1 + i * 2))) 10 (λ k h. let e : o + 1 + k * 2 ≡ o + (1 + k * 2) = omega arith in ap g e) in
       omega (arith, half-exact o (omega arith), half-exact (o + 1) (omega arith), odd, sum-pairs (λ k. g (o + k)) 10)
 
+  -- of each group, and of all four
+  pub groups-exact : (i : ℕ) → i < 4 → getD (groupSums z) i 0 ≡ sumOf (λ k. g (i * 20 + k)) 20
+  unfolding groupSums
+  groups-exact zero h = group-exact 0 (omega arith)
+  groups-exact (suc zero) h = group-exact 20 (omega arith)
+  groups-exact (suc (suc zero)) h = group-exact 40 (omega arith)
+  groups-exact (suc (suc (suc zero))) h = group-exact 60 (omega arith)
+  groups-exact (suc (suc (suc (suc i)))) h = absurd (omega arith)
+
   pub chunk-exact : chunkSum z ≡ sumOf g 80
   unfolding chunkSum
   chunk-exact =
@@ -87,6 +98,26 @@ module _ (y z : ℕ → Float) (same : (k : ℕ) → k < 80 → y k ≡ z k) whe
   unfolding groupSum
   group-same o h = ap₂ (λ (a : Float) (b : Float). counted a + counted b) (alternate-same o 10 (omega arith)) (alternate-same (o + 1) 10 (omega arith))
 
-  pub chunk-same : chunkSum y ≡ chunkSum z
-  unfolding chunkSum
-  chunk-same = omega (arith, group-same 0 (omega arith), group-same 20 (omega arith), group-same 40 (omega arith), group-same 60 (omega arith))
+  pub groups-same : groupSums y ≡ groupSums z
+  unfolding groupSums
+  groups-same =
+      let last = ap (λ (n : ℕ). n ∷ []) (group-same 60 (omega arith)) in
+      ap₂ _∷_ (group-same 0 (omega arith)) (ap₂ _∷_ (group-same 20 (omega arith)) (ap₂ _∷_ (group-same 40 (omega arith)) last))
+
+-- ---- whatever the numbers are, a group's sum fits 53 bits, and the four make the chunk's
+group-small : (z : ℕ → Float) (o : ℕ) → groupSum z o < 9007199254740992
+unfolding groupSum
+group-small z o = omega (arith, count-small (alternate z o 10), count-small (alternate z (o + 1) 10))
+
+pub groups-small : (z : ℕ → Float) (i : ℕ) → getD (groupSums z) i 0 < 9007199254740992
+unfolding groupSums
+groups-small z zero = group-small z 0
+groups-small z (suc zero) = group-small z 20
+groups-small z (suc (suc zero)) = group-small z 40
+groups-small z (suc (suc (suc zero))) = group-small z 60
+groups-small z (suc (suc (suc (suc i)))) = omega arith
+
+pub groups-added : (z : ℕ → Float)
+    → getD (groupSums z) 0 0 + getD (groupSums z) 1 0 + (getD (groupSums z) 2 0 + getD (groupSums z) 3 0) ≡ chunkSum z
+unfolding groupSums chunkSum
+groups-added z = refl

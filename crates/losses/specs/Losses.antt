@@ -1,6 +1,7 @@
--- The losses of a chunk's sizes and their sum, in double precision, step by step as the machine does. proofs/Exact.antt says which whole
+-- The losses of a chunk's sizes and their sums, in double precision, step by step as the machine does. proofs/Exact.antt says which whole
 -- numbers these are.
 use mathlib.Core.Bool.{cond}
+use mathlib.Core.List.{List, [], _∷_}
 use Prim.Native.Nat.{ℕ, zero, suc, _+_, _*_}
 use lib.Ieee.{Float, binary64, add, mul, lt}
 use Rattle.whole.specs.Whole.{smallerOf, zeroth, oneth, counted}
@@ -21,6 +22,9 @@ alternate z o (suc n) = add binary64 (alternate z o n) (z (o + n * 2))
 unfoldable pub groupSum : (ℕ → Float) → ℕ → ℕ
 groupSum z o = counted (alternate z o 10) + counted (alternate z (o + 1) 10)
 
--- the four groups of a chunk
+-- the four groups of a chunk, one by one and added up
+unfoldable pub groupSums : (ℕ → Float) → List ℕ
+groupSums z = groupSum z 0 ∷ groupSum z 20 ∷ groupSum z 40 ∷ groupSum z 60 ∷ []
+
 unfoldable pub chunkSum : (ℕ → Float) → ℕ
 chunkSum z = groupSum z 0 + groupSum z 20 + (groupSum z 40 + groupSum z 60)

@@ -1,4 +1,4 @@
-// Losses of a chunk's sizes, and their sum.
+// Losses of a chunk's sizes, and their sums.
 use lanes::Lanes;
 use lanes::known;
 use whole::count;
@@ -10,7 +10,7 @@ ghost use lib.IntN.{pos};
 ghost use lib.Ieee.{binary64, mul, lt, ofInt};
 ghost use Rattle.whole.specs.Whole.{smallerOf, zeroth, oneth};
 ghost use Rattle.lanes.specs.Lanes.{lane};
-ghost use Rattle.losses.specs.Losses.{lossIn, groupSum, chunkSum};
+ghost use Rattle.losses.specs.Losses.{lossIn, groupSum, groupSums};
 
 fn over(eps: f64, size: f64) -> f64
     ensures { λ r. ⌜ r ≡ cond (lt eps size) oneth zeroth ⌝ }
@@ -51,8 +51,7 @@ pub fn lose(sizes: &mut Lanes, p: u8, eps: u32)
 // The sum of the group of twenty from place o on: two sums side by side, which the compiler keeps in one register.
 fn group_sum(losses: &Lanes, o: usize) -> u64
     requires { ⌜ o ≤ 60 ⌝ }
-    ensures value { λ r. ⌜ r ≡ groupSum (lane (now (losses .entry))) o ⌝ }
-    ensures small { λ r. ⌜ r < 9007199254740992 ⌝ }
+    ensures { λ r. ⌜ r ≡ groupSum (lane (now (losses .entry))) o ⌝ }
 {
     let mut even = 0.0;
     let mut odd = 0.0;
@@ -65,12 +64,14 @@ fn group_sum(losses: &Lanes, o: usize) -> u64
     count(even) + count(odd)
 }
 
-// The sum of all.
-pub fn chunk_sum(losses: &Lanes) -> u64
-    ensures value { λ r. ⌜ r ≡ chunkSum (lane (now (losses .entry))) ⌝ }
-    ensures small { λ r. ⌜ r < 36028797018963968 ⌝ }
+// The sums of the four groups.
+pub fn group_sums(losses: &Lanes) -> [u64; 4]
+    ensures { λ r. ⌜ r ≡ groupSums (lane (now (losses .entry))) ⌝ }
 {
-    let first = group_sum(losses, 0) + group_sum(losses, 20);
-    let last = group_sum(losses, 40) + group_sum(losses, 60);
-    first + last
+    [
+        group_sum(losses, 0),
+        group_sum(losses, 20),
+        group_sum(losses, 40),
+        group_sum(losses, 60),
+    ]
 }

@@ -59,7 +59,7 @@ module _ (m : Model) (size : Point → ℕ → ℕ) (s : List ℕ) (lines : 1 �
       (le-or-lt (length s / 12) (number t k)))
       (le-or-lt 19 (k % 20))
 
-  slots-summed : (t k sum : ℕ) → Summed m size s (reached t 0) sum → Summed m size s (reached t k) (sum + sumOf (slotLoss t) k)
+  pub slots-summed : (t k sum : ℕ) → Summed m size s (reached t 0) sum → Summed m size s (reached t k) (sum + sumOf (slotLoss t) k)
   unfolding sumOf
   slots-summed t zero sum g = let e : sum ≡ sum + 0 = omega arith in subst (Summed m size s (reached t 0)) e g
   slots-summed t (suc k) sum g = one-more t k sum (slots-summed t k sum g)

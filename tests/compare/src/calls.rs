@@ -31,6 +31,8 @@ pub trait Calls {
     fn split(&self, n: u8, d: u8, corners: &[i16], halves: &mut [i16]) -> u32;
     /// The value is the number of labels written.
     fn labels(&self, store: &[u8], model: &Model, vector: &[i16], labels: &mut [u8], value: &mut u64) -> u32;
+    /// The costs of the groups go into the front of `sums`; the value is their total.
+    fn cost_by_beacon(&self, store: &[u8], model: &Model, vector: &[i16], sums: &mut [u64], value: &mut u64) -> u32;
     fn take_in(&self, store: &mut [u8], mark: usize, beacon: &[u8], value: &mut u64) -> u32;
     /// The value is the length of the union in bytes.
     fn merge(&self, first: &[u8], second: &[u8], out: &mut [u8], value: &mut u64) -> u32;

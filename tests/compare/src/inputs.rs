@@ -160,12 +160,17 @@ pub fn meet_the_second_line(random: &mut Random, input: &mut Input) {
 
 /// A sound job of any size with its store.
 pub fn sound(random: &mut Random) -> Input {
+    let count = record_count(random);
+    sound_of(random, count)
+}
+
+/// A sound job of any size with a store of so many records.
+pub fn sound_of(random: &mut Random, count: usize) -> Input {
     let size = Size::random(random);
     let mut model = model(random);
     let reach = Size::random(random);
     let domain = domain_around(random, &model, reach);
     let start = inside(random, &domain);
-    let count = record_count(random);
     let mut points = points(random, model.d, count, size);
     put_gaps(random, &mut points);
     meet_a_residual(random, &mut model, &points, &start);

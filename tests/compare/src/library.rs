@@ -60,6 +60,20 @@ extern "C" {
         labels_len: usize,
         value: *mut u64,
     ) -> u32;
+    fn vengutari_cost_by_beacon(
+        store: *const u8,
+        store_len: usize,
+        n: u8,
+        d: u8,
+        s: u8,
+        p: u8,
+        epsilon: u32,
+        vector: *const i16,
+        vector_len: usize,
+        sums: *mut u64,
+        sums_len: usize,
+        value: *mut u64,
+    ) -> u32;
     fn vengutari_take_in(
         store: *mut u8,
         store_len: usize,
@@ -204,6 +218,26 @@ impl Calls for Library {
                 vector.len(),
                 labels.as_mut_ptr(),
                 labels.len(),
+                value,
+            )
+        }
+    }
+
+    fn cost_by_beacon(&self, store: &[u8], model: &Model, vector: &[i16], sums: &mut [u64], value: &mut u64) -> u32 {
+        let Model { n, d, s, p, epsilon } = *model;
+        unsafe {
+            vengutari_cost_by_beacon(
+                store.as_ptr(),
+                store.len(),
+                n,
+                d,
+                s,
+                p,
+                epsilon,
+                vector.as_ptr(),
+                vector.len(),
+                sums.as_mut_ptr(),
+                sums.len(),
                 value,
             )
         }

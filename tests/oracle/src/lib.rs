@@ -3,6 +3,7 @@
 //!
 //! Every call has the paper's checks in table order and answers `Err(refusal)` for the first that fails.
 
+pub mod beacons;
 pub mod boxes;
 pub mod coefficients;
 pub mod fit;
@@ -16,6 +17,7 @@ pub mod search;
 #[cfg(test)]
 mod bench_fits;
 
+pub use beacons::cost_by_beacon;
 pub use boxes::{split, Box8};
 pub use coefficients::{read_line, write_line};
 pub use fit::fit;

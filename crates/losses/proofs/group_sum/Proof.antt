@@ -77,13 +77,10 @@ count-requires c κs = search needs
 count-requires-2 : tie.Need-count-requires-2 Inv-loop μ-loop
 count-requires-2 c κs = search needs
 
-small : (c : tie.After-count2 Inv-loop μ-loop) → c .before .count .result + c .count2 .result < 9007199254740992
-small c =
-    let v = c .before .before .before .loop .inv in
-    omega (arith, c .before .count .ensures, c .count2 .ensures, count-small (c .before .before .before .loop .even), count-small (c .before .before .before .loop .odd))
-
 add-result : tie.Need-add-result Inv-loop μ-loop
-add-result c = let h = small c in omega arith
+add-result c =
+    let p = c .before .before .before .loop in
+    omega (arith, c .before .count .ensures, c .count2 .ensures, count-small (p .even), count-small (p .odd))
 
 returns : tie.Need-returns Inv-loop μ-loop
 unfolding groupSum
@@ -91,12 +88,10 @@ returns c =
     let v = c .before .before .before .loop .inv in
     let zs = c .before .before .before .before .args .losses .now in
     let o = c .before .before .before .before .args .o in
-    let e : c .before .before .before .loop .i ≡ 10 = omega (arith, v .0, c .before .before .loop-test .left) in (
-      ap₂ _+_
-          (c .before .count .ensures ∙ ap counted (v .1 ∙ ap (alternate (lane zs) o) e))
-          (c .count2 .ensures ∙ ap counted (v .2 ∙ ap (alternate (lane zs) (o + 1)) e)),
-      small c,
-    )
+    let e : c .before .before .before .loop .i ≡ 10 = omega (arith, v .0, c .before .before .loop-test .left) in
+    ap₂ _+_
+    (c .before .count .ensures ∙ ap counted (v .1 ∙ ap (alternate (lane zs) o) e))
+    (c .count2 .ensures ∙ ap counted (v .2 ∙ ap (alternate (lane zs) (o + 1)) e))
 
 pub group-sum-spec : {M : Type 1} → statement M
 group-sum-spec =

@@ -1,6 +1,7 @@
 //! The cases, one group to a call: from a seed a group makes a case, calls the product and compares.
 
 mod beacon;
+mod beacon_sums;
 mod bench;
 mod crossings;
 mod fit;
@@ -56,8 +57,11 @@ pub const GROUPS: &[Group] = &[
     group("gaps-labels", "labels", 1, gaps::labels),
     group("gaps-fit", "fit", 1, gaps::fit),
     group("crossings", "labels", 1, crossings::labels),
+    group("beacon-sums-by-hand", "cost_by_beacon", 1, beacon_sums::by_hand),
+    group("beacon-sums-refused", "cost_by_beacon", 1, beacon_sums::refused),
     group("loss", "loss", 3000, model::loss),
     group("cost", "cost", 4000, model::cost),
+    group("beacon-sums", "cost_by_beacon", 3000, beacon_sums::any),
     group("bound", "bound", 4000, model::bound),
     group("split", "split", 3000, model::split),
     group("labels", "labels", 3000, model::labels),

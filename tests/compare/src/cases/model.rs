@@ -25,7 +25,7 @@ pub fn loss(calls: &dyn Calls, random: &mut Random) -> Outcome {
 }
 
 /// Another number of elements than the call takes, once in a while.
-fn other_length(random: &mut Random, numbers: &[i16]) -> Vec<i16> {
+pub(super) fn other_length(random: &mut Random, numbers: &[i16]) -> Vec<i16> {
     let mut other = numbers.to_vec();
     if random.once_in(20) {
         let length = numbers.len();
@@ -34,7 +34,7 @@ fn other_length(random: &mut Random, numbers: &[i16]) -> Vec<i16> {
     other
 }
 
-fn with_numbers(input: &Input, numbers: &[i16]) -> String {
+pub(super) fn with_numbers(input: &Input, numbers: &[i16]) -> String {
     format!("{input}\n  numbers as given: {numbers:?}")
 }
 

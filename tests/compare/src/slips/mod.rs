@@ -1,6 +1,7 @@
 //! Do the cases notice a wrong product? Stand-ins made from the oracle, each with one slip, the paper's own
 //! "slips to expect" among them; every one must fail some case, and the one without a slip none.
 
+mod beacon_sums;
 mod gaps;
 mod labels;
 mod merge;
@@ -43,6 +44,17 @@ enum Slip {
     GapsUncountedInStray,
     GapStrayTaken,
     GapsAloneRefused,
+    // The cost by beacon.
+    BeaconsOf18,
+    BeaconsOf20,
+    BeaconsOfSamples,
+    BeaconLastMissing,
+    BeaconSumsRunning,
+    Beacons216Written,
+    Beacons216Needed,
+    BeaconLoss3Taken,
+    BeaconShortBeforeStray,
+    BeaconShortWritten,
     // Checks.
     StrayFieldByField,
     StrayRecordAsValue,
@@ -160,6 +172,26 @@ const SLIPS: &[(&str, &[Slip])] = &[
             GapLabelledByNearestLine,
             GapLabelledOutlier,
             GapsUncountedInLabels,
+            GapsUncountedInStray,
+            GapStrayTaken,
+            WrongLengthTaken,
+        ],
+    ),
+    (
+        "cost_by_beacon",
+        &[
+            BeaconsOf18,
+            BeaconsOf20,
+            BeaconsOfSamples,
+            BeaconLastMissing,
+            BeaconSumsRunning,
+            Beacons216Written,
+            Beacons216Needed,
+            BeaconLoss3Taken,
+            BeaconShortBeforeStray,
+            BeaconShortWritten,
+            GapCosts,
+            GapMarkOneOff,
             GapsUncountedInStray,
             GapStrayTaken,
             WrongLengthTaken,

@@ -137,6 +137,14 @@ impl Calls for StandIn {
         settle(self.put_labels(model, store, &vector, labels), value)
     }
 
+    fn cost_by_beacon(&self, store: &[u8], model: &Model, vector: &[i16], sums: &mut [u64], value: &mut u64) -> u32 {
+        let Some(vector) = self.eight(vector) else {
+            return WRONG_LENGTH;
+        };
+        let store = &self.read(store, model.d);
+        settle(self.put_sums(model, store, &vector, sums), value)
+    }
+
     fn take_in(&self, store: &mut [u8], mark: usize, beacon: &[u8], value: &mut u64) -> u32 {
         let sound = check_length(beacon.len()).is_ok() && mark <= store.len();
         match self.slip {

@@ -1,0 +1,4 @@
+pub mod Adding
+pub mod Chunks
+pub mod Writing
+pub mod Passed

@@ -1,0 +1,3 @@
+pub mod BeaconCosts
+pub mod Laws
+pub mod Inside

@@ -1,0 +1,50 @@
+-- The three steps, lane by lane.
+use mathlib.Core.Path.{_≡_, ap, _∙_}
+use Prim.Native.Nat.{ℕ, _+_, _<_}
+use lib.IntN.{pos}
+use lib.ListN.{replicate, getD-replicate}
+use lib.Ieee.{Float, nan, binary64, ofInt}
+use Rattle.lanes.specs.Lanes.{lane}
+use Rattle.losses.specs.Losses.{lossIn}
+use Rattle.losses.proofs.Exact.{groups-same}
+use Rattle.kernel.specs.Kernel.{leastBy, groupLosses}
+use borrow.Author.Needs.{needs}
+use Rattle.kernel.proofs.group_losses.Statement.{statement}
+use Rattle.kernel.proofs.group_losses.Tie as tie
+use Rattle.kernel.proofs.group_losses.Reads as reads
+use Rattle.kernel.proofs.group_losses.Lts as lts
+use Rattle.kernel.proofs.lessen_all.Reads as lessen-all-reads
+use Rattle.kernel.proofs.past.Reads as past-reads
+use Rattle.losses.proofs.group_sums.Reads as group-sums-reads
+use Rattle.losses.proofs.lose.Reads as lose-reads
+
+past-requires : tie.Need-past-requires
+past-requires c κs = search needs
+
+lessen-all-requires : tie.Need-lessen-all-requires
+lessen-all-requires c κs = search needs
+
+lose-requires : tie.Need-lose-requires
+lose-requires c κs = search needs
+
+group-sums-requires : tie.Need-group-sums-requires
+group-sums-requires c κs = search needs
+
+returns : tie.Need-returns
+unfolding groupLosses
+returns c =
+    let lose = c .before .before .lose in
+    let lessen = c .before .before .before .before .lessen-all in
+    let start = c .before .before .before .before .before .before in
+    let a = start .before .args in
+    let m = a .m in
+    let least : Float → ℕ → Float = λ x k. leastBy (a .over) (a .s .now) (a .low .now) (a .high .now) (m .d) x (m .n) k in
+    let loss : Float → Float = lossIn (m .p) (ofInt binary64 (pos (m .eps))) in
+    let past : (k : ℕ) → k < 80 → lane (replicate 80 (start .past .result)) k ≡ ofInt binary64 (pos (m .eps + 1)) =
+    λ k h. getD-replicate 80 k (start .past .result) nan h ∙ start .past .ensures in
+    c .group-sums .ensures
+    ∙ groups-same _ _ (λ k h. lose .ensures k h ∙ ap loss (lessen .ensures k h ∙ ap (λ (x : Float). least x k) (past k h)))
+
+pub group-losses-spec : {M : Type 1} → statement M
+group-losses-spec =
+    tie.close (tie.spec past-requires lessen-all-requires lose-requires group-sums-requires returns)
