@@ -12,7 +12,7 @@ ghost use Rattle.boundary.specs.Boundary.{modelOf};
 pub extern "C" fn bench_decode(lanes: &mut [Chunk], store: &[u8], d: u8, scale: u8)
     ensures { λ _. ⌜ DecodedInto (now (store .entry)) d (2 ^ (scale % 16)) (now (lanes .entry)) (now (lanes .exit)) ⌝ }
 {
-    columns::decode(lanes, store, d, scale::power(scale))
+    stores::decode(lanes, store, d, scale::power(scale))
 }
 
 // The cost of the low vector of a box, up to a cap.

@@ -1,36 +1,30 @@
 -- Which points are gaps, told by y as a double. Assumes nothing.
 use mathlib.Core.Path.{_≡_, refl, sym, ap, _∙_, subst}
 use mathlib.Core.Bool.{Bool, true, false, not, cond}
-use mathlib.Core.List.{List}
+use mathlib.Core.List.{List, []}
 use mathlib.Core.Logic.{⊎-elim}
 use Prim.Native.Nat.{ℕ, suc, _≤_, _<_}
 use native.Mathlib.Nat.{eq-or-lt-of-le}
 use native.Mathlib.Omega.{arith}
-use borrow.Author.Tests.{eqb-true, eqb-false, lt-ltb, le-ltb}
-use lib.Dec.{T, eqb, ltb}
+use borrow.Author.Tests.{eqb-true, eqb-false, not-true, lt-ltb, le-ltb}
+use lib.Dec.{eqb, ltb}
 use lib.IntN.{ℤ, pos, negsuc, natAbs, _*ℤ_}
-use lib.Ieee.{Float, lt}
+use lib.ListN.{length, set}
+use lib.Seq.{getD-set-same, getD-set-other}
+use lib.Ieee.{Float, binary64, lt, mul, ofInt}
 use lib.Signed.{ltZ}
-use Rattle.integers.proofs.Parts.{ltZ-true}
 use Rattle.points.specs.declared.Point.{Point}
 use Rattle.points.specs.Points.{skipped, isGap}
 use Rattle.whole.specs.Whole.{Whole, Within, zeroth}
 use Rattle.whole.proofs.Laws.{lt-whole, zero-whole}
-use Rattle.whole.proofs.Picks.{renamed}
-use Rattle.lanes.specs.Lanes.{cell}
+use Rattle.whole.proofs.Picks.{cast-within, mul-within}
+use Rattle.lanes.specs.Lanes.{lane, cell}
 use Rattle.columns.specs.Columns.{nowhere, recordIn, placed, slot, field, ChunkOf}
-use Rattle.columns.specs.Inside.{Times, RecordsOf}
-use Rattle.columns.proofs.Laying.{times-one}
+use Rattle.columns.specs.Inside.{RecordsOf, ScaledOf}
 
 -- −32,768
 abbrev pub mark : ℤ
 mark = negsuc 32767
-
--- y of a gap
-skipped-is : (y : ℤ) → skipped y ≡ true → y ≡ mark
-unfolding skipped
-skipped-is (pos n) e = absurd (subst T (sym e) tt)
-skipped-is (negsuc n) e = ap negsuc (eqb-true n 32767 e)
 
 -- of 16 bits, all others lie above it
 above-mark : (y : ℤ) → natAbs y ≤ 32768 → ltZ mark y ≡ not (skipped y)
@@ -44,16 +38,9 @@ above-mark (negsuc n) h = by (eqb n 32767) refl
         let l : n ≤ 32767 = omega arith in
         lt-ltb n 32767 (⊎-elim (λ (q : n ≡ 32767). absurd (eqb-false n 32767 e q)) (λ (q : n < 32767). q) (eq-or-lt-of-le l))
 
--- what lies above it, both times a factor, is no gap's
-pub none-skipped : (y : ℤ) (power : ℕ) {m x : Float} → Whole m (mark *ℤ pos power) → Whole x (y *ℤ pos power) → lt m x ≡ true → skipped y ≡ false
-none-skipped y power wm wx e = by (skipped y) refl
-  where
-    by : (t : Bool) → skipped y ≡ t → t ≡ false
-    by false s = refl
-    by true s =
-        let z = mark *ℤ pos power in
-        let below : ltZ z z ≡ true = ap (λ (n : ℤ). ltZ z (n *ℤ pos power)) (sym (skipped-is y s)) ∙ sym (lt-whole wm wx) ∙ e in
-        absurd (omega (arith, ltZ-true z z below))
+-- what lies above it is no gap's
+none-skipped : (y : ℤ) {m x : Float} → Whole m mark → Within x y 32768 → lt m x ≡ true → skipped y ≡ false
+none-skipped y wm w e = not-true (skipped y) (sym (lt-whole wm (w .whole) ∙ above-mark y (w .small)) ∙ e)
 
 pub placed-sample : (q : Point) → isGap q ≡ false → placed q ≡ q
 unfolding placed
@@ -76,27 +63,34 @@ abbrev pub Emptied : List ℕ → ℕ → ℕ → ℕ → ℕ → Float → Type
 Emptied store t d c k x = c < d → Within x (field c (slot store t k)) 32768
 
 -- a number of slot k, kept by the y of its record
-module _ (store : List ℕ) (t k : ℕ) {m y : Float} (wm : Whole m mark) (wy : Times (field 4 (recordIn store t k)) 1 y) where
+module _ (store : List ℕ) (t k : ℕ) {m y : Float} (wm : Whole m mark) (wy : Within y (field 4 (recordIn store t k)) 32768) where
   pub kept-in : (z : Point → ℤ) {x new : Float} {B : ℕ} → z nowhere ≡ pos 0 → new ≡ cond (lt m y) x zeroth → Within x (z (recordIn store t k)) B
       → Within new (z (slot store t k)) B
   unfolding slot
-  kept-in z none e w =
-      let q = recordIn store t k in
-      let v = renamed (times-one (q .y)) wy in
-      rw e (kept-within q z none (v .small) wm (v .whole) w)
+  kept-in z none e w = rw e (kept-within (recordIn store t k) z none (wy .small) wm (wy .whole) w)
 
--- where all y lie above the mark, the records are the slots' points
-module _ {store : List ℕ} {t d power : ℕ} {s : List (List Float)} (records : RecordsOf store t d power s) {m : Float}
-    (wm : Whole m (mark *ℤ pos power)) (above : (k : ℕ) → k < 80 → lt m (cell s 4 k) ≡ true) where
-  slot-is : (k : ℕ) → k < 80 → recordIn store t k ≡ slot store t k
-  unfolding slot
-  slot-is k h =
-      let q = recordIn store t k in
-      sym (placed-sample q (none-skipped (q .y) power wm (records .target k h .whole) (above k h)))
-
-  pub all-samples : ChunkOf store t d power s
-  all-samples =
+module _ {store : List ℕ} {t d : ℕ} {s : List (List Float)} (records : RecordsOf store t d s) (power : ℕ) (small : power < 65536) (ys : List Float)
+    (five : length s ≡ 5) (times : (k : ℕ) → k < 80 → lane ys k ≡ mul binary64 (cell s 4 k) (ofInt binary64 (pos power))) where
+  -- with y scaled
+  pub scaled : ScaledOf store t d power (set s 4 ys)
+  scaled =
       record {
-        column = λ c k u l h. subst (λ (q : Point). Within (cell s c k) (field c q) 32768) (slot-is k h) (records .column c k u l h);
-        target = λ k h. subst (λ (q : Point). Within (cell s 4 k) (q .y *ℤ pos power) 2147483648) (slot-is k h) (records .target k h);
+        column = λ c k u l h. rw (getD-set-other s 4 c ys [] (λ q. omega arith)) (records .column c k u l h);
+        target = λ k h.
+            rw (getD-set-same s 4 ys [] (omega arith))
+            (rw (times k h) (mul-within (records .target k h) (cast-within (pos power) {B = 65536} (omega arith) (omega arith)) (omega arith)));
       }
+
+  -- where all y lie above the mark, the records are the slots' points
+  module _ {m : Float} (wm : Whole m mark) (above : (k : ℕ) → k < 80 → lt m (cell s 4 k) ≡ true) where
+    slot-is : (k : ℕ) → k < 80 → recordIn store t k ≡ slot store t k
+    unfolding slot
+    slot-is k h = let q = recordIn store t k in sym (placed-sample q (none-skipped (q .y) wm (records .target k h) (above k h)))
+
+    pub all-samples : ChunkOf store t d power (set s 4 ys)
+    all-samples =
+        let new = set s 4 ys in
+        record {
+          column = λ c k u l h. subst (λ (q : Point). Within (cell new c k) (field c q) 32768) (slot-is k h) (scaled .column c k u l h);
+          target = λ k h. subst (λ (q : Point). Within (cell new 4 k) (q .y *ℤ pos power) 2147483648) (slot-is k h) (scaled .target k h);
+        }

@@ -1,10 +1,9 @@
-// A store decoded into columns of doubles.
-mod gaps;
+// The records of a store decoded into columns of doubles, chunk by chunk.
 mod record;
 
-use crate::gaps::all_above;
-use crate::gaps::keep_above;
 use crate::record::field;
+use gaps::keep_above;
+use gaps::scale_above;
 use lanes::Chunk;
 use lanes::Lanes;
 use lanes::known;
@@ -18,8 +17,8 @@ ghost use lib.Ieee.{nan};
 ghost use Rattle.whole.specs.Whole.{zeroth};
 ghost use Rattle.lanes.specs.Lanes.{lane};
 ghost use Rattle.lanes.specs.Inside.{Filled};
-ghost use Rattle.columns.specs.Columns.{ChunkOf, DecodedInto};
-ghost use Rattle.columns.specs.Inside.{FieldOfRecords, FieldOfSlots, RecordsOf};
+ghost use Rattle.columns.specs.Columns.{ChunkOf};
+ghost use Rattle.columns.specs.Inside.{FieldOfRecords, FieldOfSlots, RecordsOf, ScaledOf};
 
 // How many records a group has that begins at record i, of `total`.
 fn group_of(total: usize, i: usize) -> usize
@@ -31,18 +30,17 @@ fn group_of(total: usize, i: usize) -> usize
     if total - i < 19 { total - i } else { 19 }
 }
 
-// A field of n records from record i on, times a factor, into the slots from o on.
-fn read_fields(out: &mut Lanes, o: usize, n: usize, store: &[u8], i: usize, at: usize, factor: u16)
+// A field of n records from record i on into the slots from o on.
+fn read_fields(out: &mut Lanes, o: usize, n: usize, store: &[u8], i: usize, at: usize)
     requires { ⌜ (o + n ≤ 80) × (n ≤ length (now store) / 12 - i) × (at ≤ 8) × (i < 32768) ⌝ }
-    ensures { λ _. ⌜ Filled o (FieldOfRecords (now (store .entry)) o i at factor) (now (out .entry)) (o + n) (now (out .exit)) ⌝ }
+    ensures { λ _. ⌜ Filled o (FieldOfRecords (now (store .entry)) o i at) (now (out .entry)) (o + n) (now (out .exit)) ⌝ }
 {
     known(*out);
-    let by = factor as f64;
     let end = o + n;
     let mut place = i * 12 + at;
     let mut k = o;
     while k < end {
-        out[k] = (field(store, place) as f64) * by;
+        out[k] = field(store, place) as f64;
         place += 12;
         k += 1;
     }
@@ -64,23 +62,23 @@ fn clear(out: &mut Lanes, first: usize, end: usize)
 }
 
 // Field c of the 19 records of group g of chunk t, and the empty slot behind them.
-fn decode_group(out: &mut Lanes, g: usize, store: &[u8], t: usize, c: usize, factor: u16)
+fn decode_group(out: &mut Lanes, g: usize, store: &[u8], t: usize, c: usize)
     requires { ⌜ (g < 4) × (t < 256) × (c < 5) ⌝ }
-    ensures { λ _. ⌜ Filled (g * 20) (FieldOfSlots (now (store .entry)) t c factor) (now (out .entry)) (g * 20 + 20) (now (out .exit)) ⌝ }
+    ensures { λ _. ⌜ Filled (g * 20) (FieldOfSlots (now (store .entry)) t c) (now (out .entry)) (g * 20 + 20) (now (out .exit)) ⌝ }
 {
     let i = t * 76 + g * 19;
     let n = group_of(store.len() / 12, i);
-    read_fields(out, g * 20, n, store, i, c * 2, factor);
+    read_fields(out, g * 20, n, store, i, c * 2);
     clear(out, g * 20 + n, g * 20 + 20);
 }
 
 // Field c of chunk t.
-fn decode_column(out: &mut Lanes, store: &[u8], t: usize, c: usize, factor: u16)
+fn decode_column(out: &mut Lanes, store: &[u8], t: usize, c: usize)
     requires { ⌜ (t < 256) × (c < 5) ⌝ }
-    ensures { λ _. ⌜ ((k : ℕ) → k < 80 → FieldOfSlots (now (store .entry)) t c factor k nan (lane (now (out .exit)) k)) ⌝ }
+    ensures { λ _. ⌜ ((k : ℕ) → k < 80 → FieldOfSlots (now (store .entry)) t c k nan (lane (now (out .exit)) k)) ⌝ }
 {
     for g in 0..4 {
-        decode_group(out, g, store, t, c, factor);
+        decode_group(out, g, store, t, c);
     }
 }
 
@@ -90,27 +88,27 @@ fn used(d: u8) -> usize
     if d < 4 { d as usize } else { 4 }
 }
 
-// The records of chunk t: the first d of the x, and y times a power of two. The other columns are as they were.
-fn decode_records(chunk: &mut Chunk, store: &[u8], t: usize, d: u8, power: u16)
+// The records of chunk t: the first d of the x, and y. The other columns are as they were.
+fn decode_records(chunk: &mut Chunk, store: &[u8], t: usize, d: u8)
     requires { ⌜ t < 256 ⌝ }
-    ensures here { λ _. ⌜ RecordsOf (now (store .entry)) t d power (now (chunk .exit)) ⌝ }
+    ensures here { λ _. ⌜ RecordsOf (now (store .entry)) t d (now (chunk .exit)) ⌝ }
     ensures rest { λ _. ⌜ ((c : ℕ) → d ≤ c → c < 4 → getD (now (chunk .exit)) c [] ≡ getD (now (chunk .entry)) c []) ⌝ }
 {
     known_columns(*chunk);
     for c in 0..used(d) {
-        decode_column(&mut chunk[c], store, t, c, 1);
+        decode_column(&mut chunk[c], store, t, c);
     }
-    decode_column(&mut chunk[4], store, t, 4, power);
+    decode_column(&mut chunk[4], store, t, 4);
 }
 
 // The slots of gaps made empty.
 fn empty_gaps(chunk: &mut Chunk, store: &[u8], t: usize, d: u8, power: u16)
-    requires { ⌜ (t < 256) × RecordsOf (now store) t d power (now chunk) ⌝ }
+    requires { ⌜ (t < 256) × ScaledOf (now store) t d power (now chunk) ⌝ }
     ensures here { λ _. ⌜ ChunkOf (now (store .entry)) t d power (now (chunk .exit)) ⌝ }
     ensures rest { λ _. ⌜ ((c : ℕ) → d ≤ c → c < 4 → getD (now (chunk .exit)) c [] ≡ getD (now (chunk .entry)) c []) ⌝ }
 {
     let mut ys: Lanes = [0.0; 80];
-    decode_column(&mut ys, store, t, 4, 1);
+    decode_column(&mut ys, store, t, 4);
     known_columns(*chunk);
     for c in 0..used(d) {
         keep_above(&mut chunk[c], &ys, GAP as f64);
@@ -119,14 +117,14 @@ fn empty_gaps(chunk: &mut Chunk, store: &[u8], t: usize, d: u8, power: u16)
 }
 
 // Chunk t: the first d of the x, and y times a power of two. The other columns are as they were. A chunk without gaps, whose y all lie
-// above a gap's, is done with that test.
+// above a gap's, is done with that test, which is made as y is scaled.
 pub fn decode_chunk(chunk: &mut Chunk, store: &[u8], t: u8, d: u8, power: u16)
     ensures here { λ _. ⌜ ChunkOf (now (store .entry)) t d power (now (chunk .exit)) ⌝ }
     ensures rest { λ _. ⌜ ((c : ℕ) → d ≤ c → c < 4 → getD (now (chunk .exit)) c [] ≡ getD (now (chunk .entry)) c []) ⌝ }
 {
-    decode_records(chunk, store, t as usize, d, power);
+    decode_records(chunk, store, t as usize, d);
     known_columns(*chunk);
-    if all_above(&chunk[4], (GAP as f64) * (power as f64)) {
+    if scale_above(&mut chunk[4], GAP as f64, power as f64) {
         return;
     }
     empty_gaps(chunk, store, t as usize, d, power);
@@ -143,13 +141,4 @@ pub fn chunk_count(bytes: usize, room: usize) -> usize
     ensures { λ r. ⌜ r ≡ min (min ((bytes / 12 + 75) / 76) room) 54 ⌝ }
 {
     least(least((bytes / 12 + 75) / 76, room), 54)
-}
-
-// All chunks of a store, as far as there is room; what no chunk of it needs is as it was.
-pub fn decode(lanes: &mut [Chunk], store: &[u8], d: u8, power: u16)
-    ensures { λ _. ⌜ DecodedInto (now (store .entry)) d power (now (lanes .entry)) (now (lanes .exit)) ⌝ }
-{
-    for t in 0..chunk_count(store.len(), lanes.len()) {
-        decode_chunk(&mut lanes[t], store, t as u8, d, power);
-    }
 }

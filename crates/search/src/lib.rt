@@ -116,7 +116,7 @@ pub fn search(store: &[u8], job: Job, table: &mut [i16], bounds: &mut [u64]) -> 
             let column: Lanes = [0.0; 80];
             let chunk: Chunk = [column; 5];
             let mut lanes = [chunk; 54];
-            columns::decode(&mut lanes, store, m.d, scale::power(m.scale));
+            stores::decode(&mut lanes, store, m.d, scale::power(m.scale));
             let first = begin(store, &lanes, m, job.t, table, bounds, domain, start);
             run(store, &lanes, job, table, bounds, first)
         }

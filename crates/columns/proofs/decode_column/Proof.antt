@@ -13,10 +13,10 @@ use Rattle.columns.proofs.decode_column.Lts as lts
 use Rattle.columns.proofs.decode_group.Reads as decode-group-reads
 
 abbrev Inv-loop : tie.InvT-loop
-Inv-loop out₀ store t c factor g₀ out g = Filled 0 (FieldOfSlots store t c factor) out₀ (g * 20) out × (g ≤ 4)
+Inv-loop out₀ store t c g₀ out g = Filled 0 (FieldOfSlots store t c) out₀ (g * 20) out × (g ≤ 4)
 
 abbrev μ-loop : tie.MeasureT-loop
-μ-loop out₀ store t c factor g₀ out g = 4 - g
+μ-loop out₀ store t c g₀ out g = 4 - g
 
 loop-holds : tie.Need-loop-holds Inv-loop μ-loop
 loop-holds c = (none-filled _ _ _, omega arith)

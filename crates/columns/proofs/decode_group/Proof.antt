@@ -49,7 +49,7 @@ returns : tie.Need-returns
 returns c =
     let s = c .before .before .before .before .before .before in
     let a = s .args in
-    group-filled (a .store .now) (a .t) (a .g) (a .c) (a .factor) _ (s .pre .0) (s .pre .2) (c .before .before .before .before .group-of .ensures)
+    group-filled (a .store .now) (a .t) (a .g) (a .c) _ (s .pre .0) (s .pre .2) (c .before .before .before .before .group-of .ensures)
     (c .before .before .read-fields .ensures) (c .clear .ensures)
 
 pub decode-group-spec : {M : Type 1} → statement M

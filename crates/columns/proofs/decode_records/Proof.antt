@@ -2,9 +2,10 @@
 use mathlib.Core.Path.{_≡_, _∙_}
 use Prim.Native.Nat.{ℕ, _-_, _≤_, _<_, min}
 use native.Mathlib.Omega.{arith}
-use Rattle.columns.proofs.Laying.{Laid, none-laid, one-laid, all-laid, others-laid, AsRead, as-read}
-use Rattle.whole.proofs.Picks.{wider}
-use Rattle.columns.specs.Columns.{recordIn}
+use Rattle.columns.proofs.Laying.{Laid, none-laid, one-laid, all-laid, others-laid}
+use lib.Ieee.{Float}
+use Rattle.whole.specs.Whole.{Within}
+use Rattle.columns.specs.Columns.{recordIn, field}
 use borrow.Author.Needs.{needs}
 use Rattle.columns.proofs.decode_records.Statement.{statement}
 use Rattle.columns.proofs.decode_records.Tie as tie
@@ -15,10 +16,10 @@ use Rattle.columns.proofs.used.Reads as used-reads
 use Rattle.lanes.proofs.known_columns.Reads as known-columns-reads
 
 abbrev Inv-loop : tie.InvT-loop
-Inv-loop chunk₀ store t d power c₀ c-end chunk c = Laid (AsRead store t) chunk₀ c chunk × (c ≤ c-end) × (c-end ≡ min d 4)
+Inv-loop chunk₀ store t d c₀ c-end chunk c = Laid (λ c k x. Within x (field c (recordIn store t k)) 32768) chunk₀ c chunk × (c ≤ c-end) × (c-end ≡ min d 4)
 
 abbrev μ-loop : tie.MeasureT-loop
-μ-loop chunk₀ store t d power c₀ c-end chunk c = c-end - c
+μ-loop chunk₀ store t d c₀ c-end chunk c = c-end - c
 
 known-columns-requires : tie.Need-known-columns-requires Inv-loop μ-loop
 known-columns-requires c κs = search needs
@@ -63,11 +64,11 @@ returns c =
     let s = p .before .before .before .before .before in
     let v = p .loop .inv in
     let few : p .loop .c ≡ min (s .args .d) 4 = omega (arith, v .2, c .before .before .loop-test .left) in
-    let power = s .fits .power .fits in
     let ys = c .decode-column2 .last .0 in
     let store = s .args .store .now in
     let t = s .args .t in
-    let r = all-laid _ _ ys few (v .0) (recordIn store t) (λ c k x l i w. as-read store t c k x w) (λ k i. wider (omega arith) (c .decode-column2 .ensures k i)) in
+    let Target : ℕ → Float → Type 0 = λ k x. Within x (recordIn store t k .y) 32768 in
+    let r = all-laid _ _ ys few (v .0) (recordIn store t) Target (λ c k x l i w. w) (c .decode-column2 .ensures) in
     (record { column = r .column; target = r .target }, others-laid _ _ ys few (v .0))
 
 pub decode-records-spec : {M : Type 1} → statement M

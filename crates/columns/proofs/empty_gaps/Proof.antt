@@ -23,13 +23,13 @@ use Rattle.columns.proofs.empty_gaps.Tie as tie
 use Rattle.columns.proofs.empty_gaps.Reads as reads
 use Rattle.columns.proofs.empty_gaps.Lts as lts
 use Rattle.columns.proofs.decode_column.Reads as decode-column-reads
-use Rattle.columns.proofs.gaps.keep_above.Reads as keep-above-reads
+use Rattle.gaps.proofs.keep_above.Reads as keep-above-reads
 use Rattle.columns.proofs.used.Reads as used-reads
 use Rattle.lanes.proofs.known_columns.Reads as known-columns-reads
 
 abbrev Inv-loop : tie.InvT-loop
 Inv-loop chunk₀ store t d power ys c₀ c-end chunk c =
-    Laid (Emptied store t d) chunk₀ c chunk × (c ≤ c-end) × (c-end ≡ min d 4) × ((k : ℕ) → k < 80 → FieldOfSlots store t 4 1 k nan (lane ys k))
+    Laid (Emptied store t d) chunk₀ c chunk × (c ≤ c-end) × (c-end ≡ min d 4) × ((k : ℕ) → k < 80 → FieldOfSlots store t 4 k nan (lane ys k))
 
 abbrev μ-loop : tie.MeasureT-loop
 μ-loop chunk₀ store t d power ys c₀ c-end chunk c = c-end - c
@@ -76,7 +76,7 @@ loop-again c =
     let new : (k : ℕ) → k < 80 → Emptied (a .store .now) (a .t) (a .d) n k (lane (c .keep-above .last .0) k) =
     λ k h u.
     kept-in (a .store .now) (a .t) k (cast-whole mark (omega arith)) (v .3 k h) (field n) (no-field n (omega (arith, v .2)))
-    (c .keep-above .ensures .done k (omega arith) h)
+    (c .keep-above .ensures k h)
     (subst (λ (xs : List Float). Within (lane xs k) (field n (recordIn (a .store .now) (a .t) k)) 32768) (sym same) (s .pre .1 .column n k u (omega (arith, v .2)) h)) in
     (one-laid _ _ (c .keep-above .last .0) (omega (arith, v .2)) new (v .0), omega arith, v .2, v .3)
 
@@ -101,9 +101,10 @@ returns c =
     let new : (k : ℕ) → k < 80 → Within (lane ys k) ((slot (a .store .now) (a .t) k) .y *ℤ pos (a .power)) 2147483648 =
     λ k h.
     kept-in (a .store .now) (a .t) k (cast-whole mark (omega arith)) (v .3 k h) (λ (q : Point). q .y *ℤ pos (a .power)) (ap pos (zero-mul (a .power)))
-    (c .keep-above2 .ensures .done k (omega arith) h)
+    (c .keep-above2 .ensures k h)
     (subst (λ (xs : List Float). Within (lane xs k) ((recordIn (a .store .now) (a .t) k) .y *ℤ pos (a .power)) 2147483648) (sym same) (s .pre .1 .target k h)) in
-    let r = all-laid _ _ ys few (v .0) (slot (a .store .now) (a .t)) (λ c k x l h w. w (omega arith)) new in
+    let Target : ℕ → Float → Type 0 = λ k x. Within x (slot (a .store .now) (a .t) k .y *ℤ pos (a .power)) 2147483648 in
+    let r = all-laid _ _ ys few (v .0) (slot (a .store .now) (a .t)) Target (λ c k x l h w. w (omega arith)) new in
     (record { column = r .column; target = r .target }, others-laid _ _ ys few (v .0))
 
 pub empty-gaps-spec : {M : Type 1} → statement M

@@ -7,7 +7,7 @@ use Rattle.lanes.specs.Inside.{Filled}
 use Rattle.lanes.proofs.Filling.{none-filled, one-filled, until-filled}
 use Rattle.points.specs.Points.{signedAt}
 use Rattle.columns.specs.Inside.{FieldOfRecords}
-use Rattle.columns.proofs.Decoding.{times-cast}
+use Rattle.columns.proofs.Decoding.{field-cast}
 use borrow.Author.Needs.{needs}
 use Rattle.columns.proofs.read_fields.Statement.{statement}
 use Rattle.columns.proofs.read_fields.Tie as tie
@@ -17,16 +17,13 @@ use Rattle.columns.proofs.record.field.Reads as field-reads
 use Rattle.lanes.proofs.known.Reads as known-reads
 
 abbrev Inv-loop : tie.InvT-loop
-Inv-loop out₀ o n store i at factor by end place₀ k₀ out place k = Filled o (FieldOfRecords store o i at factor) out₀ k out × (place ≡ (i + (k - o)) * 12 + at) × (k ≤ o + n)
+Inv-loop out₀ o n store i at end place₀ k₀ out place k = Filled o (FieldOfRecords store o i at) out₀ k out × (place ≡ (i + (k - o)) * 12 + at) × (k ≤ o + n)
 
 abbrev μ-loop : tie.MeasureT-loop
-μ-loop out₀ o n store i at factor by end place₀ k₀ out place k = o + n - k
+μ-loop out₀ o n store i at end place₀ k₀ out place k = o + n - k
 
 known-requires : tie.Need-known-requires Inv-loop μ-loop
 known-requires c κs = search needs
-
-int-to-float-by : tie.Need-int-to-float-by Inv-loop μ-loop
-int-to-float-by c = tt
 
 add-end : tie.Need-add-end Inv-loop μ-loop
 add-end c = search needs
@@ -64,14 +61,14 @@ loop-less c = search needs
 loop-again : tie.Need-loop-again Inv-loop μ-loop
 loop-again c =
     let p = c .before .before .before in
-    let s = p .before .before .before .before .before in
+    let s = p .before .before .before .before in
     let a = s .args in
-    let n : length (a .out .now) ≡ 80 = p .before .before .known .ensures in
+    let n : length (a .out .now) ≡ 80 = p .before .known .ensures in
     let v = p .loop .inv in
     let i : p .loop .k < a .o + a .n = c .before .before .loop-test .taken in
     let b = v .0 .begun in (
       one-filled _ (v .0) (omega (arith, s .pre .0))
-          (times-cast (a .factor) (s .fits .factor .fits) (record { sfits = c .before .field .ok }) (c .before .field .ensures ∙ ap (signedAt (a .store .now)) (v .1))),
+          (field-cast (record { sfits = c .before .field .ok }) (c .before .field .ensures ∙ ap (signedAt (a .store .now)) (v .1))),
       omega (arith, v .1),
       omega arith,
     )
@@ -79,7 +76,7 @@ loop-again c =
 returns : tie.Need-returns Inv-loop μ-loop
 returns c =
     let p = c .before in
-    let a = p .before .before .before .before .before .args in
+    let a = p .before .before .before .before .args in
     let e : p .loop .k ≡ a .o + a .n = omega (arith, c .loop-test .left, p .loop .inv .2) in
     until-filled e (p .loop .inv .0)
 
@@ -90,7 +87,6 @@ read-fields-spec =
     Inv-loop
     μ-loop
     known-requires
-    int-to-float-by
     add-end
     mul-place
     add-place
