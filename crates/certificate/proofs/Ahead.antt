@@ -138,3 +138,16 @@ module _ (cost : List ℤ → ℕ) (t : ℕ) (best v : List ℤ) where
   pub better-in : (box : Box) → InBox best box → InBox v box → InBox (better cost t best v) box
   unfolding better
   better-in box p q = by-cond (λ w. InBox w box) (ahead t (cost best) best (cost v) v) (λ h. q) (λ h. p)
+
+-- Of two vectors that are tried neither becomes best, where what is best then is not ahead of what was.
+module _ (cost : List ℤ → ℕ) (t : ℕ) (best : List ℤ) where
+  none-more :
+      (one u : List ℤ) → (Settled cost t best one → one ≡ best) → (Settled cost t best u → Settled cost t one u) →
+      Settled cost t best (better cost t one u) → better cost t one u ≡ best
+  unfolding better
+  none-more one u same stays =
+      by-cond (λ w. Settled cost t best w → w ≡ best) (ahead t (cost one) one (cost u) u) (λ h s. absurd (stays s h)) (λ h. same)
+
+  pub none-better : (v u : List ℤ) → Settled cost t best (better cost t (better cost t best v) u) → better cost t (better cost t best v) u ≡ best
+  none-better v u =
+      none-more (better cost t best v) u (none-more best v (λ s. refl) (λ s. s)) (better-stays cost t best v u)

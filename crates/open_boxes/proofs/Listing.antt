@@ -2,20 +2,23 @@
 use mathlib.Core.Path.{_≡_, refl, sym, ap, _∙_}
 use mathlib.Core.Bool.{Bool, true, false, cond}
 use mathlib.Core.List.{List, [], _∷_, _++_, append-nil}
-use Prim.Native.Nat.{ℕ, zero, suc, _+_, _*_, _≤_, _<_}
+use Prim.Native.Nat.{ℕ, zero, suc, _+_, _-_, _*_, _≤_, _<_}
 use native.Mathlib.Nat.{le-refl}
 use native.Mathlib.Numerals.{add-one}
 use native.Mathlib.Omega.{arith}
 use lib.IntN.{ℤ}
-use lib.ListN.{length, set, take, length-append, length-set}
-use lib.Seq.{take-suc, take-suc-set, drop-set-lt, getD-drop}
+use lib.ListN.{length, set, take, drop, length-append, length-set}
+use lib.Seq.{take-suc, take-suc-set, drop-set-lt, getD-drop, getD-take}
 use borrow.Author.Tests.{lt-ltb}
 use Rattle.boxes.specs.declared.Box.{Box}
-use Rattle.rows.specs.Rows.{rowCount, rowAt, rowsOf, withRow}
-use Rattle.rows.proofs.Rows.{Whole, rest-later, rows-length, row-whole, row-of-rest, length-with, rest-with, rows-with}
+use Rattle.rows.specs.Rows.{rowCount, rowAt, rowsOf, withRow, withoutRow}
+use Rattle.rows.proofs.Rows.{Whole, rest-later, rows-length, row-whole, row-of-rest, length-with, rest-with, rows-with, without-long, without-rest, without-before, without-behind}
+use Rattle.rows.proofs.Parts.{down, down-long, down-rest, down-before, down-moved}
 use Rattle.open_boxes.specs.declared.Child.{Child}
-use Rattle.open_boxes.specs.OpenBoxes.{entryAt, fits, ifKept, picked, roomIn, Held}
-use Rattle.open_boxes.proofs.Picking.{one-at-most, picked-all, picked-more}
+use Rattle.open_boxes.specs.OpenBoxes.{fits, ifKept, picked, roomIn, Held}
+use Rattle.first_smallest.specs.FirstSmallest.{entryAt}
+use Rattle.open_boxes.proofs.Picking.{one-at-most, picked-all, picked-more, picked-moved}
+use Rattle.open_boxes.specs.Inside.{othersThan}
 
 -- all rows, and all entries, up to a place
 all-rows : (t : List ℤ) (n : ℕ) → picked (rowAt t) (λ k. true) n ≡ rowsOf t n
@@ -120,3 +123,49 @@ module _ (t : List ℤ) (d : List ℕ) where
         rw (picked-more (rowAt t) q i, picked-more (entryAt d) q i, ← is, ← same-row, ← same-entry)
         (one-held i (picked (rowAt t) q i) (picked (entryAt d) q i) n u e p (rowAt u i) (row-whole u i) (entryAt e i) kept (omega (arith, p .few)) (omega (arith, p .few)) (i + 1) (omega arith)
         (omega (arith, p .few)))
+
+  -- A row and its entry taken out, where those behind them have moved by one.
+  module _ (at n : ℕ) (one : at < n) (rows : n ≤ rowCount t) (entries : n ≤ length d) where
+    abbrev u : List ℤ
+    u = withoutRow t at n
+
+    abbrev e : List ℕ
+    e = down d at 1 (n - 1 - at)
+
+    whole : suc (n - 1) ≡ n
+    whole = omega arith
+
+    by-part : (l : List ℕ) (j : ℕ) → entryAt l j ≡ entryAt (take 1 (drop j l)) 0
+    by-part l j = let none : j + 0 ≡ j = omega arith in sym (getD-take 1 (drop j l) 0 0 (omega arith) ∙ getD-drop j l 0 0 ∙ rw none)
+
+    entry-before : (j : ℕ) → j < at → entryAt e j ≡ entryAt d j
+    entry-before j h =
+        by-part e j ∙ ap (λ (l : List ℕ). entryAt l 0) (down-before d at 1 (n - 1 - at) j 1 (omega arith) (omega arith)) ∙ sym (by-part d j)
+
+    entry-behind : (j : ℕ) → at ≤ j → j < n - 1 → entryAt e j ≡ entryAt d (j + 1)
+    entry-behind j h k =
+        by-part e j ∙ ap (λ (l : List ℕ). entryAt l 0) (down-moved d at 1 (n - 1 - at) j 1 (omega arith) (omega arith) (omega arith)) ∙ sym (by-part d (j + 1))
+
+    long : length e ≡ length d
+    long = down-long d at 1 (n - 1 - at) (omega arith)
+
+    boxes-left : picked (rowAt t) (othersThan at) n ≡ rowsOf u (n - 1)
+    boxes-left =
+        rw whole at (picked-moved (rowAt t) (rowAt u) at (n - 1) (omega arith) (without-before t at n one rows) (without-behind t at n one rows)) ∙ all-rows u (n - 1)
+
+    numbers-left : picked (entryAt d) (othersThan at) n ≡ take (n - 1) e
+    numbers-left =
+        rw whole at (picked-moved (entryAt d) (entryAt e) at (n - 1) (omega arith) entry-before entry-behind) ∙ all-entries e (n - 1) (omega (arith, long))
+
+    pub taken-held : Held t d n (picked (rowAt t) (othersThan at) n) (picked (entryAt d) (othersThan at) n) (n - 1) u e
+    taken-held =
+        record {
+          told = sym (rw boxes-left (rows-length u (n - 1)));
+          few = omega arith;
+          long = without-long t at n one rows;
+          long-entries = long;
+          rows = sym boxes-left;
+          entries = sym numbers-left;
+          rest = without-rest t at n one rows;
+          rest-entries = rest-later d e (at + (n - 1 - at)) n (omega arith) (down-rest d at 1 (n - 1 - at) (omega arith));
+        }

@@ -1,17 +1,17 @@
 -- What is picked of a list by a test of its places, for any test. Assumes nothing.
-use mathlib.Core.Path.{_≡_, refl, _∙_}
+use mathlib.Core.Path.{_≡_, refl, sym, ap, _∙_}
 use mathlib.Core.Bool.{Bool, true, false, cond}
-use mathlib.Core.List.{List, [], _∷_, _++_, map, map-append}
+use mathlib.Core.List.{List, [], _∷_, _++_, append-nil, map, map-append}
+use mathlib.Core.Logic.{⊎-elim}
 use Prim.Native.Nat.{ℕ, zero, suc, _+_, _≤_, _<_}
 use native.Mathlib.Numerals.{add-one}
 use native.Mathlib.Omega.{arith}
-use borrow.Author.Tests.{ne-eqb}
-use lib.IntN.{ℤ}
-use lib.ListN.{length, length-append}
-use Rattle.rows.specs.Rows.{rowAt}
-use Rattle.certificate.specs.Search.{ahead}
-use Rattle.open_boxes.specs.declared.Mark.{Mark}
-use Rattle.open_boxes.specs.OpenBoxes.{entryAt, picked, number, staysAt}
+use lib.ListN.{length, getD, length-append, List·getD-append}
+use lib.Seq.{getD-at}
+use borrow.Author.Tests.{eq-eqb, ne-eqb}
+use Rattle.integers.proofs.Tests.{le-or-lt}
+use Rattle.open_boxes.specs.OpenBoxes.{picked, number}
+use Rattle.open_boxes.specs.Inside.{othersThan}
 
 pub one-at-most : (k : Bool) → cond k 1 0 ≤ 1
 one-at-most true = omega arith
@@ -57,8 +57,56 @@ unfolding picked
 picked-all f q zero all = refl
 picked-all f q (suc n) all = rw (picked-all f q n (λ k h. all k (omega arith)), all n (omega arith))
 
--- a box before the one taken out stays if it is kept
-pub stays-before :
-    (t : List ℤ) (d : List ℕ) (at : ℕ) (mark : Mark) (k : ℕ) → k < at →
-    ahead (mark .t) (mark .cost) (mark .best) (entryAt d k) ((rowAt t k) .low) ≡ true → staysAt t d at mark k ≡ true
-stays-before t d at mark k h e = rw (ne-eqb k at (λ same. absurd (omega arith))) e
+picked-whole : {A : Type 0} (f : ℕ → A) (q : ℕ → Bool) (n : ℕ) → ((k : ℕ) → k < n → q k ≡ true) → length (picked f q n) ≡ n
+unfolding picked
+picked-whole f q zero all = refl
+picked-whole f q (suc n) all =
+    rw (all n (omega arith)) (length-append (picked f q n) (f n ∷ []) ∙ omega (arith, picked-whole f q n (λ k h. all k (omega arith))))
+
+-- up to a place that does not pass, all stand where they stood
+pub picked-at :
+    {A : Type 0} (f : ℕ → A) (q : ℕ → Bool) (x : A) (k n : ℕ) → k < n → ((j : ℕ) → j ≤ k → q j ≡ true) →
+    (k < length (picked f q n)) × (getD (picked f q n) k x ≡ f k)
+unfolding picked
+picked-at f q x k zero less all = absurd (omega arith)
+picked-at f q x k (suc n) less all =
+    ⊎-elim
+    (λ (last : n ≤ k).
+    let e : k ≡ n = omega arith in
+    let before = picked-whole f q n (λ j h. all j (omega arith)) in
+    rw (e, all n last) (omega (arith, length-append (picked f q n) (f n ∷ [])), getD-at (picked f q n) (f n) [] x n before))
+    (λ (early : k < n).
+    let p = picked-at f q x k n early all in
+    let rest = cond (q n) (f n ∷ []) [] in
+    (omega (arith, p .0, length-append (picked f q n) rest), List·getD-append (picked f q n) rest x k (p .0) ∙ p .1))
+    (le-or-lt n k)
+
+picked-same : {A : Type 0} (f g : ℕ → A) (q : ℕ → Bool) (n : ℕ) → ((k : ℕ) → k < n → g k ≡ f k) → picked g q n ≡ picked f q n
+unfolding picked
+picked-same f g q zero same = refl
+picked-same f g q (suc n) same = rw (picked-same f g q n (λ k h. same k (omega arith)), same n (omega arith))
+
+pub other : (at k : ℕ) → (k ≡ at → ⊥) → othersThan at k ≡ true
+other at k ne = rw (ne-eqb k at ne)
+
+-- all but one place, where what stands behind it has moved by one
+pub picked-moved :
+    {A : Type 0} (f g : ℕ → A) (at m : ℕ) → at ≤ m →
+    ((j : ℕ) → j < at → g j ≡ f j) →
+    ((j : ℕ) → at ≤ j → j < m → g j ≡ f (j + 1)) →
+    picked f (othersThan at) (suc m) ≡ picked g (λ k. true) m
+unfolding picked
+picked-moved f g at zero few before behind = let e : at ≡ 0 = omega arith in rw e
+picked-moved f g at (suc m) few before behind =
+    ⊎-elim
+    (λ (last : suc m ≤ at).
+    let e : suc m ≡ at = omega arith in
+    rw (eq-eqb (suc m) at e)
+    (append-nil (picked f (othersThan at) (suc m))
+    ∙ picked-all f (othersThan at) (suc m) (λ k h. other at k (λ same. absurd (omega arith)))
+    ∙ sym (picked-same f g (λ k. true) (suc m) (λ k h. before k (omega arith)))))
+    (λ (past : at < suc m).
+    let rest = picked-moved f g at m (omega arith) before (λ j h k. behind j h (omega arith)) in
+    let here : g m ≡ f (suc m) = rw add-one at (behind m (omega arith) (omega arith)) in
+    rw (ne-eqb (suc m) at (λ same. absurd (omega arith)), here) (ap (λ l. l ++ (f (suc m) ∷ [])) rest))
+    (le-or-lt (suc m) at)

@@ -10,7 +10,8 @@ use Rattle.rows.specs.Rows.{rowAt}
 use Rattle.rows.proofs.Rows.{Whole}
 use Rattle.open_boxes.specs.declared.Child.{Child}
 use Rattle.open_boxes.specs.declared.Mark.{Mark}
-use Rattle.open_boxes.specs.OpenBoxes.{boundsLeft, boxesLeft, entryAt, ifKept, number, picked, roomIn, staysAt, Held}
+use Rattle.open_boxes.specs.OpenBoxes.{boundsLeft, boxesLeft, ifKept, number, picked, roomIn, staysAt, Held}
+use Rattle.first_smallest.specs.FirstSmallest.{entryAt}
 use Rattle.open_boxes.proofs.Picking.{picked-length}
 use Rattle.open_boxes.proofs.Listing.{Put, one-put}
 
@@ -18,12 +19,12 @@ kept-number : {A : Type 0} (half : A) (kept : Bool) → length (cond kept (half 
 kept-number half true = refl
 kept-number half false = refl
 
-module _ (t : List ℤ) (d : List ℕ) (at : ℕ) (mark : Mark) (left right : Child) where
+module _ (t : List ℤ) (d : List ℕ) (at : ℕ) (mark : Mark) (all : Bool) (left right : Child) where
   abbrev q : ℕ → Bool
-  q = staysAt t d at mark
+  q = staysAt t d at mark all
 
   -- how many remain
-  pub left-number : (n : ℕ) → length (boxesLeft t d n at mark left right) ≡ number q n + (cond (left .kept) 1 0 + cond (right .kept) 1 0)
+  pub left-number : (n : ℕ) → length (boxesLeft t d n at mark all left right) ≡ number q n + (cond (left .kept) 1 0 + cond (right .kept) 1 0)
   left-number n =
       let stay = picked (rowAt t) q n in
       omega (
@@ -44,7 +45,7 @@ module _ (t : List ℤ) (d : List ℕ) (at : ℕ) (mark : Mark) (left right : Ch
           (j : ℕ) (u : List ℤ) (e : List ℕ) → Held t d n (picked (rowAt t) q n) (picked (entryAt d) q n) j u e →
           (j₁ : ℕ) (u₁ : List ℤ) (e₁ : List ℕ) → Put t d u e j left j₁ u₁ e₁ →
           (j₂ : ℕ) (u₂ : List ℤ) (e₂ : List ℕ) → Put t d u₁ e₁ j₁ right j₂ u₂ e₂ →
-          Held t d (max n j₂) (boxesLeft t d n at mark left right) (boundsLeft t d n at mark left right) j₂ u₂ e₂
+          Held t d (max n j₂) (boxesLeft t d n at mark all left right) (boundsLeft t d n at mark all left right) j₂ u₂ e₂
       both-placed j u e p j₁ u₁ e₁ first j₂ u₂ e₂ second =
           let stay : j ≡ number q n = p .told ∙ picked-length (rowAt t) q n in
           let with-left =

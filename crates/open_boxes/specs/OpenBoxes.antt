@@ -2,17 +2,17 @@
 -- lent list of unsigned 64-bit numbers" hold a number beside each. These definitions say what this crate's functions do; the contract of a
 -- search does not rest on them, and a reader of that need not believe them.
 use mathlib.Core.Path.{_≡_}
-use mathlib.Core.Bool.{Bool, true, false, cond, _&&_}
+use mathlib.Core.Bool.{Bool, true, false, cond, _&&_, _||_}
 use mathlib.Core.List.{List, [], _∷_, _++_}
-use Prim.Native.Nat.{ℕ, zero, suc, _+_, _*_, _≤_, _<_, min, max}
+use Prim.Native.Nat.{ℕ, zero, suc, _+_, _*_, _≤_, min, max}
 use lib.Dec.{ltb, eqb}
 use lib.IntN.{ℤ}
-use lib.ListN.{length, getD, take, drop}
+use lib.ListN.{length, take, drop}
+use Rattle.first_smallest.specs.FirstSmallest.{entryAt}
 use Rattle.boxes.specs.declared.Box.{Box}
 use Rattle.rows.specs.Rows.{rowCount, rowAt, rowsOf}
 use Rattle.certificate.specs.Search.{ahead}
 use Rattle.open_boxes.specs.declared.Child.{Child}
-use Rattle.open_boxes.specs.declared.Lowest.{Lowest}
 use Rattle.open_boxes.specs.declared.Mark.{Mark}
 use Rattle.open_boxes.specs.declared.Replaced.{Replaced}
 
@@ -20,24 +20,10 @@ use Rattle.open_boxes.specs.declared.Replaced.{Replaced}
 abbrev pub roomIn : List ℤ → List ℕ → ℕ
 roomIn t d = min (rowCount t) (length d)
 
-abbrev pub entryAt : List ℕ → ℕ → ℕ
-entryAt d k = getD d k 0
-
--- `at` is the place of the first smallest of the first n entries
-pub record FirstLeast (d : List ℕ) (n at : ℕ) : Type 0 where
-  pub inside : at < n
-  pub none-smaller : (k : ℕ) → k < n → entryAt d at ≤ entryAt d k
-  pub first : (k : ℕ) → k < at → entryAt d at < entryAt d k
-
--- "L is C if the list is empty, else the smallest bound in it", with the place of "the first box with the smallest bound"; 0 if it is empty
-pub record LowestOf (d : List ℕ) (n c : ℕ) (r : Lowest) : Type 0 where
-  pub empty : n ≡ 0 → r ≡ record { at = 0; bound = c }
-  pub place : 1 ≤ n → FirstLeast d n (r .at)
-  pub lowest : 1 ≤ n → r .bound ≡ entryAt d (r .at)
-
--- whether the box in row k stays where the one in row `at` is taken out: "keep .. the boxes", by the number beside it and its low vector
-abbrev pub staysAt : List ℤ → List ℕ → ℕ → Mark → ℕ → Bool
-staysAt t d at mark k = cond (eqb k at) false (ahead (mark .t) (mark .cost) (mark .best) (entryAt d k) ((rowAt t k) .low))
+-- whether the box in row k stays where the one in row `at` is taken out: "keep .. the boxes", by the number beside it and its low vector,
+-- or, where all others stay, whatever these are
+abbrev pub staysAt : List ℤ → List ℕ → ℕ → Mark → Bool → ℕ → Bool
+staysAt t d at mark all k = cond (eqb k at) false (all || ahead (mark .t) (mark .cost) (mark .best) (entryAt d k) ((rowAt t k) .low))
 
 -- Of the things at the places below n those whose places pass a test, in order, and how many they are.
 unfoldable pub picked : {A : Type 0} → (ℕ → A) → (ℕ → Bool) → ℕ → List A
@@ -53,12 +39,12 @@ abbrev pub ifKept : {A : Type 0} → Child → A → List A
 ifKept child x = cond (child .kept) (x ∷ []) []
 
 -- "From the remaining list, then left, then right, keep in order": the boxes, and the numbers beside them
-module _ (t : List ℤ) (d : List ℕ) (n at : ℕ) (mark : Mark) (left right : Child) where
+module _ (t : List ℤ) (d : List ℕ) (n at : ℕ) (mark : Mark) (all : Bool) (left right : Child) where
   abbrev pub boxesLeft : List Box
-  boxesLeft = (picked (rowAt t) (staysAt t d at mark) n ++ ifKept left (left .half)) ++ ifKept right (right .half)
+  boxesLeft = (picked (rowAt t) (staysAt t d at mark all) n ++ ifKept left (left .half)) ++ ifKept right (right .half)
 
   abbrev pub boundsLeft : List ℕ
-  boundsLeft = (picked (entryAt d) (staysAt t d at mark) n ++ ifKept left (left .bound)) ++ ifKept right (right .bound)
+  boundsLeft = (picked (entryAt d) (staysAt t d at mark all) n ++ ifKept left (left .bound)) ++ ifKept right (right .bound)
 
 -- The first n rows of u hold a list of boxes and the first n entries of e a list of numbers, where they were t and d. From row and entry k
 -- on nothing changed. Those from n up to k are free: any boxes and any numbers may stand there.
@@ -78,14 +64,14 @@ fits t d n child = child .kept && ltb n (roomIn t d)
 
 -- The box in row `at` of the first n was replaced by its halves. If more boxes would remain than there is room for, nothing changed. Of n
 -- boxes as many are meant as there is room for.
-pub record ReplacedBy (t : List ℤ) (d : List ℕ) (n at : ℕ) (mark : Mark) (left right : Child) (r : Replaced) (u : List ℤ) (e : List ℕ) : Type 0 where
-  pub told : r .full ≡ ltb (roomIn t d) (length (boxesLeft t d (min n (roomIn t d)) at mark left right))
+pub record ReplacedBy (t : List ℤ) (d : List ℕ) (n at : ℕ) (mark : Mark) (all : Bool) (left right : Child) (r : Replaced) (u : List ℤ) (e : List ℕ) : Type 0 where
+  pub told : r .full ≡ ltb (roomIn t d) (length (boxesLeft t d (min n (roomIn t d)) at mark all left right))
   pub same : r .full ≡ true → r .rows ≡ min n (roomIn t d)
   pub kept : r .full ≡ true → u ≡ t
   pub kept-entries : r .full ≡ true → e ≡ d
   pub held :
       r .full ≡ false →
       Held t d (max (min n (roomIn t d)) (r .rows))
-      (boxesLeft t d (min n (roomIn t d)) at mark left right)
-      (boundsLeft t d (min n (roomIn t d)) at mark left right)
+      (boxesLeft t d (min n (roomIn t d)) at mark all left right)
+      (boundsLeft t d (min n (roomIn t d)) at mark all left right)
       (r .rows) u e

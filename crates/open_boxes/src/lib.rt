@@ -1,26 +1,22 @@
 // The list of open boxes in lent memory: the boxes are the first rows of the table, and their bounds the first entries of a list beside it.
 use boxes::Box;
 ghost use mathlib.Core.Path.{_≡_};
-ghost use mathlib.Core.Bool.{cond};
-ghost use Prim.Native.Nat.{_+_, _≤_, _<_, min};
+ghost use mathlib.Core.Bool.{cond, false};
+ghost use Prim.Native.Nat.{_+_, _-_, _≤_, _<_, min};
 ghost use lib.Dec.{ltb};
-ghost use lib.ListN.{length, getD, set};
+ghost use lib.ListN.{length, getD, set, drop};
+ghost use lib.Seq.{paste};
 ghost use Rattle.certificate.specs.Search.{ahead};
+ghost use Rattle.first_smallest.specs.FirstSmallest.{entryAt};
 ghost use Rattle.rows.specs.Rows.{rowCount, rowAt, withRow};
-ghost use Rattle.open_boxes.specs.OpenBoxes.{LowestOf, Held, ReplacedBy, entryAt, fits, number, picked, roomIn, staysAt, FirstLeast};
-ghost use Rattle.open_boxes.specs.Inside.{NoneSmaller, NextSmaller, AllBelow, Unmoved};
+ghost use Rattle.open_boxes.specs.OpenBoxes.{Held, ReplacedBy, fits, number, picked, roomIn, staysAt};
+ghost use Rattle.open_boxes.specs.Inside.{othersThan};
 
 // A box that is to be open if it is kept, with its bound, which has to be exact only then.
 pub struct Child {
     pub half: Box,
     pub bound: u64,
     pub kept: bool,
-}
-
-// The place of the first box with the smallest bound, and that bound, L. Where no box is open, L is the cost.
-pub struct Lowest {
-    pub at: usize,
-    pub bound: u64,
 }
 
 // How many boxes are open where one was replaced by its halves, or that there is no room for so many.
@@ -33,72 +29,6 @@ fn smaller(a: usize, b: usize) -> usize
     ensures { λ r. ⌜ r ≡ min a b ⌝ }
 {
     if a < b { a } else { b }
-}
-
-// A place of the first n entries, or n, up to which none from `from` on is smaller than `low`: four at a time, so that a test takes less.
-fn none_smaller(bounds: &[u64], n: usize, from: usize, low: u64) -> usize
-    requires { ⌜ (from ≤ n) × (n ≤ length (now bounds)) ⌝ }
-    ensures { λ r. ⌜ NoneSmaller (now (bounds .entry)) n from low r ⌝ }
-{
-    let mut k = from;
-    while 4 <= n - k {
-        if bounds[k] < low {
-            return k;
-        }
-        if bounds[k + 1] < low {
-            return k;
-        }
-        if bounds[k + 2] < low {
-            return k;
-        }
-        if bounds[k + 3] < low {
-            return k;
-        }
-        k += 4;
-    }
-    k
-}
-
-// The place of the next of the first n entries, from `from` on, that is smaller than `low`; n where there is none.
-fn next_smaller(bounds: &[u64], n: usize, from: usize, low: u64) -> usize
-    requires { ⌜ (from ≤ n) × (n ≤ length (now bounds)) ⌝ }
-    ensures { λ r. ⌜ NextSmaller (now (bounds .entry)) n from low r ⌝ }
-{
-    let mut i = none_smaller(bounds, n, from, low);
-    while i < n {
-        if bounds[i] < low {
-            return i;
-        }
-        i += 1;
-    }
-    i
-}
-
-// The place of the first smallest of the first n entries. Most entries are only compared.
-fn smallest(bounds: &[u64], n: usize) -> usize
-    requires { ⌜ (1 ≤ n) × (n ≤ length (now bounds)) ⌝ }
-    ensures { λ r. ⌜ FirstLeast (now (bounds .entry)) n r ⌝ }
-{
-    let mut at = 0;
-    let mut i = next_smaller(bounds, n, 1, bounds[0]);
-    while i < n {
-        at = i;
-        i = next_smaller(bounds, n, i + 1, bounds[i]);
-    }
-    at
-}
-
-// L of the first n boxes, and its place.
-pub fn lower_bound(bounds: &[u64], n: usize, cost: u64) -> Lowest
-    ensures { λ r. ⌜ LowestOf (now (bounds .entry)) (min n (length (now (bounds .entry)))) cost r ⌝ }
-{
-    let listed = smaller(n, bounds.len());
-    if listed == 0 {
-        return Lowest { at: 0, bound: cost };
-    }
-    let at = smallest(bounds, listed);
-    let bound = bounds[at];
-    Lowest { at, bound }
 }
 
 // What a vector with its cost, or a box with its bound and its low vector, is held against: the best vector, its cost C, and t.
@@ -141,26 +71,29 @@ fn keeps(table: &[i16], i: usize, bound: u64, mark: Mark) -> bool
     ahead(mark, bound, low)
 }
 
-// Whether the box in row i stays where the one in row `at` is taken out.
-fn stays(table: &[i16], bounds: &[u64], at: usize, i: usize, mark: Mark) -> bool
+// Whether the box in row i stays where the one in row `at` is taken out. Where all others stay none is tested.
+fn stays(table: &[i16], bounds: &[u64], at: usize, i: usize, mark: Mark, all: bool) -> bool
     requires { ⌜ i < length (now bounds) ⌝ }
-    ensures { λ r. ⌜ r ≡ staysAt (now (table .entry)) (now (bounds .entry)) at mark i ⌝ }
+    ensures { λ r. ⌜ r ≡ staysAt (now (table .entry)) (now (bounds .entry)) at mark all i ⌝ }
 {
     if i == at {
         return false;
+    }
+    if all {
+        return true;
     }
     keeps(table, i, bounds[i], mark)
 }
 
 // How many of the first n boxes stay.
-fn staying(table: &[i16], bounds: &[u64], n: usize, at: usize, mark: Mark) -> usize
+fn staying(table: &[i16], bounds: &[u64], n: usize, at: usize, mark: Mark, all: bool) -> usize
     requires { ⌜ n ≤ length (now bounds) ⌝ }
-    ensures { λ r. ⌜ r ≡ number (staysAt (now (table .entry)) (now (bounds .entry)) at mark) n ⌝ }
+    ensures { λ r. ⌜ r ≡ number (staysAt (now (table .entry)) (now (bounds .entry)) at mark all) n ⌝ }
 {
     let mut stay = 0;
     let mut i = 0;
     while i < n {
-        if stays(table, bounds, at, i, mark) {
+        if stays(table, bounds, at, i, mark, all) {
             stay += 1;
         }
         i += 1;
@@ -180,65 +113,78 @@ fn move_box(table: &mut [i16], bounds: &mut [u64], i: usize, to: usize)
     }
 }
 
-// A place of the first n entries, or n, up to which all are below the cost: four at a time.
-fn all_below(bounds: &[u64], n: usize, cost: u64) -> usize
-    requires { ⌜ n ≤ length (now bounds) ⌝ }
-    ensures { λ r. ⌜ AllBelow (now (bounds .entry)) n cost r ⌝ }
-{
-    let mut i = 0;
-    while 4 <= n - i {
-        if cost <= bounds[i] {
-            return i;
-        }
-        if cost <= bounds[i + 1] {
-            return i;
-        }
-        if cost <= bounds[i + 2] {
-            return i;
-        }
-        if cost <= bounds[i + 3] {
-            return i;
-        }
-        i += 4;
-    }
-    i
-}
-
-// How many of the first n boxes stay before one that does not: these do not move.
-fn unmoved(table: &[i16], bounds: &[u64], n: usize, at: usize, mark: Mark) -> usize
-    requires { ⌜ n ≤ length (now bounds) ⌝ }
-    ensures { λ r. ⌜ Unmoved (staysAt (now (table .entry)) (now (bounds .entry)) at mark) n r ⌝ }
-{
-    let end = smaller(at, n);
-    let mut i = all_below(bounds, end, mark.cost);
-    while i < end {
-        if !keeps(table, i, bounds[i], mark) {
-            return i;
-        }
-        i += 1;
-    }
-    i
-}
-
-// Of the first n boxes those that stay become the first, in order.
-fn close_up(table: &mut [i16], bounds: &mut [u64], n: usize, at: usize, mark: Mark) -> usize
+// Of the first n boxes those that stay become the first, in order. Each is tested.
+fn sort_out(table: &mut [i16], bounds: &mut [u64], n: usize, at: usize, mark: Mark) -> usize
     requires { ⌜ n ≤ roomIn (now table) (now bounds) ⌝ }
     ensures { λ r. ⌜
         Held (now (table .entry)) (now (bounds .entry)) n
-        (picked (rowAt (now (table .entry))) (staysAt (now (table .entry)) (now (bounds .entry)) at mark) n)
-        (picked (entryAt (now (bounds .entry))) (staysAt (now (table .entry)) (now (bounds .entry)) at mark) n)
+        (picked (rowAt (now (table .entry))) (staysAt (now (table .entry)) (now (bounds .entry)) at mark false) n)
+        (picked (entryAt (now (bounds .entry))) (staysAt (now (table .entry)) (now (bounds .entry)) at mark false) n)
         r (now (table .exit)) (now (bounds .exit)) ⌝ }
 {
-    let mut stay = unmoved(table, bounds, n, at, mark);
-    let mut i = stay;
+    let mut stay = 0;
+    let mut i = 0;
     while i < n {
-        if stays(table, bounds, at, i, mark) {
+        if stays(table, bounds, at, i, mark, false) {
             move_box(table, bounds, i, stay);
             stay += 1;
         }
         i += 1;
     }
     stay
+}
+
+// Moves entries that are lent by one place: the first goes, and the last stays where it was too.
+fn slide_entries(part: &mut [u64])
+    requires { ⌜ 1 ≤ length (now part) ⌝ }
+    ensures { λ _. ⌜ now (part .exit) ≡ paste (now (part .entry)) 0 (drop 1 (now (part .entry))) (length (now (part .entry)) - 1) ⌝ }
+{
+    let end = part.len() - 1;
+    let mut k = 0;
+    while k < end {
+        part[k] = part[k + 1];
+        k += 1;
+    }
+}
+
+// Takes the box in row `at` out of the first n, where all others stay: those behind it move by one row, and nothing before it is read.
+fn take_out(table: &mut [i16], bounds: &mut [u64], n: usize, at: usize) -> usize
+    requires { ⌜ n ≤ roomIn (now table) (now bounds) ⌝ }
+    ensures { λ r. ⌜
+        Held (now (table .entry)) (now (bounds .entry)) n
+        (picked (rowAt (now (table .entry))) (othersThan at) n)
+        (picked (entryAt (now (bounds .entry))) (othersThan at) n)
+        r (now (table .exit)) (now (bounds .exit)) ⌝ }
+{
+    if n <= at {
+        return n;
+    }
+    rows::take_row(table, at, n);
+    slide_entries(&mut bounds[at..n]);
+    n - 1
+}
+
+// Of the first n boxes those that stay become the first, in order.
+fn close_up(
+    table: &mut [i16],
+    bounds: &mut [u64],
+    n: usize,
+    at: usize,
+    mark: Mark,
+    all: bool,
+) -> usize
+    requires { ⌜ n ≤ roomIn (now table) (now bounds) ⌝ }
+    ensures { λ r. ⌜
+        Held (now (table .entry)) (now (bounds .entry)) n
+        (picked (rowAt (now (table .entry))) (staysAt (now (table .entry)) (now (bounds .entry)) at mark all) n)
+        (picked (entryAt (now (bounds .entry))) (staysAt (now (table .entry)) (now (bounds .entry)) at mark all) n)
+        r (now (table .exit)) (now (bounds .exit)) ⌝ }
+{
+    if all {
+        take_out(table, bounds, n, at)
+    } else {
+        sort_out(table, bounds, n, at, mark)
+    }
 }
 
 // How many boxes a half adds.
@@ -275,31 +221,33 @@ fn too_many(
     n: usize,
     at: usize,
     mark: Mark,
+    all: bool,
     more: usize,
     room: usize,
 ) -> bool
     requires { ⌜ (n ≤ length (now bounds)) × (more ≤ 2) × (n ≤ room) × (room < 1152921504606846976) ⌝ }
-    ensures { λ r. ⌜ r ≡ ltb room (number (staysAt (now (table .entry)) (now (bounds .entry)) at mark) n + more) ⌝ }
+    ensures { λ r. ⌜ r ≡ ltb room (number (staysAt (now (table .entry)) (now (bounds .entry)) at mark all) n + more) ⌝ }
 {
     if more <= room - n {
         return false;
     }
-    room < staying(table, bounds, n, at, mark) + more
+    room < staying(table, bounds, n, at, mark, all) + more
 }
 
-// Takes out the box in row `at` of the first n and those that are not kept, and puts its halves behind the others. Where more boxes would
-// remain than there is room for, nothing is written.
+// Takes out the box in row `at` of the first n and those that are not kept, and puts its halves behind the others. Where `all` others stay,
+// by what the caller knows, none is tested. Where more boxes would remain than there is room for, nothing is written.
 pub fn replace(
     table: &mut [i16],
     bounds: &mut [u64],
     n: usize,
     at: usize,
     mark: Mark,
+    all: bool,
     left: Child,
     right: Child,
 ) -> Replaced
     ensures { λ r. ⌜
-        ReplacedBy (now (table .entry)) (now (bounds .entry)) n at mark left right r (now (table .exit)) (now (bounds .exit)) ⌝ }
+        ReplacedBy (now (table .entry)) (now (bounds .entry)) n at mark all left right r (now (table .exit)) (now (bounds .exit)) ⌝ }
 {
     let room = smaller(table.len() / 16, bounds.len());
     let listed = smaller(n, room);
@@ -309,6 +257,7 @@ pub fn replace(
         listed,
         at,
         mark,
+        all,
         added(left) + added(right),
         room,
     ) {
@@ -317,7 +266,7 @@ pub fn replace(
             rows: listed,
         };
     }
-    let stay = close_up(table, bounds, listed, at, mark);
+    let stay = close_up(table, bounds, listed, at, mark, all);
     let with_left = put(table, bounds, stay, left);
     Replaced {
         full: false,

@@ -1,5 +1,5 @@
 -- What stands in the rows of a table, and what a row that is written leaves. Assumes nothing.
-use borrow.Author.Tests.{lt-ltb, le-ltb}
+use borrow.Author.Tests.{lt-ltb, le-ltb, le-leb}
 use mathlib.Core.Path.{_≡_, refl, sym, ap, _∙_}
 use mathlib.Core.List.{List, [], _∷_, _++_, append-assoc}
 use mathlib.Core.Logic.{⊎-elim}
@@ -12,8 +12,8 @@ use lib.Seq.{take-all, take-at, take-add, take-append-le, drop-append-le, drop-a
 use Rattle.integers.proofs.Tests.{le-or-lt}
 use Rattle.boxes.specs.declared.Box.{Box}
 use Rattle.boxes.specs.Split.{zeroBox}
-use Rattle.rows.specs.Rows.{rowCount, rowAt, rowsOf, withRow, withMoved}
-use Rattle.rows.proofs.Parts.{part-before}
+use Rattle.rows.specs.Rows.{rowCount, rowAt, rowsOf, withRow, withMoved, withoutRow}
+use Rattle.rows.proofs.Parts.{part-before, down, down-long, down-rest, down-before, down-moved}
 
 -- a box of sixteen numbers
 pub record Whole (b : Box) : Type 0 where
@@ -200,3 +200,45 @@ row-own t i h =
 pub moved-there : (t : List ℤ) (i to : ℕ) → to < i → i < rowCount t → withMoved t i to ≡ withRow t to (rowAt t i)
 unfolding withMoved
 moved-there t i to earlier there = rw (lt-ltb to i earlier, lt-ltb i (rowCount t) there)
+
+-- The table u with row i taken out of the first n.
+module _ (t : List ℤ) (i n : ℕ) (one : i < n) (there : n ≤ rowCount t) where
+  abbrev moved : ℕ
+  moved = 16 * (n - 1) - 16 * i
+
+  ends : 16 * i + moved ≡ 16 * (n - 1)
+  ends = omega arith
+
+  room : 16 * i + 16 + moved ≤ length t
+  room = omega arith
+
+  pub without-there : down t (16 * i) 16 moved ≡ withoutRow t i n
+  unfolding withoutRow
+  without-there =
+      rw (lt-ltb i n one, le-leb n (rowCount t) there)
+      (ap (λ (k : ℕ). take (16 * i) t ++ take moved (drop (16 * i + 16) t) ++ drop k t) ends)
+
+  pub without-long : length (withoutRow t i n) ≡ length t
+  without-long = rw (← without-there) (down-long t (16 * i) 16 moved room)
+
+  pub without-rest : drop (16 * n) (withoutRow t i n) ≡ drop (16 * n) t
+  without-rest =
+      rest-later t (withoutRow t i n) (16 * i + moved) (16 * n) (omega arith) (rw (← without-there) (down-rest t (16 * i) 16 moved room))
+
+  row-of : (j : ℕ) → j < rowCount t → rowAt (withoutRow t i n) j ≡ sixteen (down t (16 * i) 16 moved) j
+  row-of j h = row-there (withoutRow t i n) j (omega (arith, without-long)) ∙ rw (← without-there)
+
+  -- a row before it, and one behind it
+  pub without-before : (j : ℕ) → j < i → rowAt (withoutRow t i n) j ≡ rowAt t j
+  without-before j h =
+      row-of j (omega arith)
+      ∙ rw (down-before t (16 * i) 16 moved (16 * j) 8 (omega arith) room, down-before t (16 * i) 16 moved (16 * j + 8) 8 (omega arith) room)
+      (sym (row-there t j (omega arith)))
+
+  pub without-behind : (j : ℕ) → i ≤ j → j < n - 1 → rowAt (withoutRow t i n) j ≡ rowAt t (j + 1)
+  without-behind j h k =
+      let low : 16 * j + 16 ≡ 16 * (j + 1) = omega arith in
+      let high : 16 * j + 8 + 16 ≡ 16 * (j + 1) + 8 = omega arith in
+      row-of j (omega arith)
+      ∙ rw (down-moved t (16 * i) 16 moved (16 * j) 8 (omega arith) (omega arith) room, down-moved t (16 * i) 16 moved (16 * j + 8) 8 (omega arith) (omega arith) room, low, high)
+      (sym (row-there t (j + 1) (omega arith)))

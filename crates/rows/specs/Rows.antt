@@ -1,8 +1,8 @@
 -- "The table is a lent slice of signed 16-bit numbers; each box is written as its own 16-number part of it, low then high."
 use mathlib.Core.Bool.{cond, _&&_}
 use mathlib.Core.List.{List, [], _∷_, _++_}
-use Prim.Native.Nat.{ℕ, zero, suc, _+_, _*_, _/_}
-use lib.Dec.{ltb}
+use Prim.Native.Nat.{ℕ, zero, suc, _+_, _-_, _*_, _/_}
+use lib.Dec.{ltb, leb}
 use lib.IntN.{ℤ}
 use lib.ListN.{length, take, drop}
 use Rattle.boxes.specs.declared.Box.{Box}
@@ -28,3 +28,9 @@ withRow t i b = cond (ltb i (rowCount t)) (take (16 * i) t ++ (b .low ++ b .high
 -- The table with the box of row i in the earlier row `to` too. Where it has no row i, or `to` is not before it, nothing changes.
 unfoldable pub withMoved : List ℤ → ℕ → ℕ → List ℤ
 withMoved t i to = cond (ltb to i && ltb i (rowCount t)) (withRow t to (rowAt t i)) t
+
+-- The table with row i taken out of its first n rows: the numbers of the rows behind it stand one row earlier, and from row n - 1 on all is
+-- as it was. Where it has no n rows, or i is none of them, nothing changes.
+unfoldable pub withoutRow : List ℤ → ℕ → ℕ → List ℤ
+withoutRow t i n =
+    cond (ltb i n && leb n (rowCount t)) (take (16 * i) t ++ take (16 * (n - 1) - 16 * i) (drop (16 * i + 16) t) ++ drop (16 * (n - 1)) t) t

@@ -2,9 +2,10 @@
 use boxes::Box;
 ghost use mathlib.Core.Path.{_≡_};
 ghost use mathlib.Core.List.{_++_};
-ghost use Prim.Native.Nat.{_+_, _≤_, _<_};
+ghost use Prim.Native.Nat.{_+_, _-_, _≤_, _<_};
 ghost use lib.ListN.{length, take, drop};
-ghost use Rattle.rows.specs.Rows.{rowCount, rowAt, withRow, withMoved};
+ghost use lib.Seq.{paste};
+ghost use Rattle.rows.specs.Rows.{rowCount, rowAt, withRow, withMoved, withoutRow};
 
 // The eight numbers from place `at` on.
 fn vector_at(table: &[i16], at: usize) -> [i16; 8]
@@ -78,6 +79,31 @@ pub fn move_row(table: &mut [i16], i: usize, to: usize)
         if i < table.len() / 16 {
             let b = box_at(table, i);
             put_box(&mut table[16 * to..16 * to + 16], b);
+        }
+    }
+}
+
+// Moves the numbers of rows that are lent by one row: those of the first go, and those of the last stay where they were too.
+fn slide(part: &mut [i16])
+    requires { ⌜ 16 ≤ length (now part) ⌝ }
+    ensures { λ _. ⌜ now (part .exit) ≡ paste (now (part .entry)) 0 (drop 16 (now (part .entry))) (length (now (part .entry)) - 16) ⌝ }
+{
+    let end = part.len() - 16;
+    let mut k = 0;
+    while k < end {
+        part[k] = part[k + 16];
+        k += 1;
+    }
+}
+
+// Takes row i out of the first n: those behind it move by one row, and the last of them stays where it was too. Where the table has no n
+// rows, or i is none of them, nothing changes.
+pub fn take_row(table: &mut [i16], i: usize, n: usize)
+    ensures { λ _. ⌜ now (table .exit) ≡ withoutRow (now (table .entry)) i n ⌝ }
+{
+    if i < n {
+        if n <= table.len() / 16 {
+            slide(&mut table[16 * i..16 * n]);
         }
     }
 }

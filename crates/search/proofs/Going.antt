@@ -2,14 +2,14 @@
 -- keeps it up, and where it stops the answer is the definition's. Assumes nothing.
 use borrow.Author.Tests.{ltb-true, ltb-false}
 use mathlib.Core.Path.{_≡_, refl, sym, ap, _∙_}
-use mathlib.Core.Bool.{Bool, true, false, cond}
+use mathlib.Core.Bool.{Bool, true, false, cond, _&&_}
 use mathlib.Core.Logic.{⊎-elim}
-use Rattle.integers.proofs.Tests.{le-or-lt}
+use Rattle.integers.proofs.Tests.{and-parts, by-cond, is-true, le-or-lt}
 use mathlib.Core.List.{List}
 use Prim.Native.Nat.{ℕ, _*_, _-_, _≤_, _<_}
 use native.Mathlib.Omega.{arith}
 use native.Mathlib.Nat.{le-refl}
-use lib.Dec.{leb, eqb}
+use lib.Dec.{leb, eqb, leb→le}
 use lib.IntN.{ℤ}
 use lib.ListN.{length, drop}
 use Rattle.integers.specs.Lists.{All}
@@ -18,12 +18,14 @@ use Rattle.boxes.specs.declared.Box.{Box}
 use Rattle.boxes.specs.Boxes.{InBox}
 use Rattle.boxes.specs.Split.{zeroBox}
 use Rattle.boxes.specs.Laws.{Bounds}
-use Rattle.rows.specs.Rows.{rowCount, rowsOf}
+use Rattle.rows.specs.Rows.{rowCount, rowAt, rowsOf}
 use Rattle.rows.proofs.Rows.{rest-later, rows-at, rows-length}
-use Rattle.open_boxes.specs.declared.Lowest.{Lowest}
-use Rattle.open_boxes.specs.OpenBoxes.{LowestOf}
+use Rattle.first_smallest.specs.declared.Lowest.{Lowest}
+use Rattle.first_smallest.specs.FirstSmallest.{nothing, Known, LowestOf}
+use Rattle.first_smallest.specs.declared.Front.{Front}
+use Rattle.first_smallest.proofs.Least.{least-same}
 use Rattle.certificate.specs.Search as Search
-use Rattle.certificate.specs.Search.{solved, spent, full, lowerBound, isSolved, split, answer, search}
+use Rattle.certificate.specs.Search.{solved, spent, full, keeps, lowerBound, isSolved, split, answer, search}
 use Rattle.certificate.specs.Laws.{Sound}
 use Rattle.certificate.proofs.Lists.{all-at}
 use Rattle.certificate.proofs.Ahead.{ahead-le}
@@ -142,7 +144,7 @@ module _ (r : Run) (ready : Ready r) (s : State) (u : List ℤ) (e : List ℕ) (
     unfolding lowerBound rowsOf
     lowest =
         ⊎-elim
-        (λ (h : s .rows ≤ 0). let none : s .rows ≡ 0 = omega arith in ap (λ (x : Lowest). x .bound) (found .empty none) ∙ rw none)
+        (λ (h : s .rows ≤ 0). let none : s .rows ≡ 0 = omega arith in found .empty none ∙ rw none)
         (λ (h : 0 < s .rows). found .lowest (omega arith) ∙ least-bound bound u e (s .rows) (g .stored) at (found .place (omega arith)) (s .best .cost))
         (le-or-lt (s .rows) 0)
 
@@ -210,6 +212,10 @@ module _ (r : Run) (ready : Ready r) (s : State) (u : List ℤ) (e : List ℕ) (
               room = omega (arith, open-rows, g .long);
               entries = omega (arith, g .long, g .long-entries, ready .enough);
               wide = rw (rows-at u (s .rows) at zeroBox there) at ((all-at zeroBox (sound .opened) at there-too) .two);
+              kept = λ k less.
+                  let open-there : k < length list = omega (arith, rows-length u (s .rows)) in
+                  let is = rw (rows-at u (s .rows) k zeroBox less) at (all-at zeroBox (sound .kept) k open-there) in
+                  rw exact (is-true (keeps bound (r .tol) (cost (s .best .vector)) (s .best .vector) (rowAt u k)) is);
               costed = λ some.
                   rw (rows-at u (s .rows) at zeroBox there) at
                   (all-at zeroBox
@@ -218,7 +224,7 @@ module _ (r : Run) (ready : Ready r) (s : State) (u : List ℤ) (e : List ℕ) (
               countable = omega (arith, less);
             }
 
-        module _ (q : Stepped) (v : List ℤ) (f : List ℕ) (out : StepOutcome cost bound (r .tol) u e s q v f) where
+        module _ (q : Stepped) (v : List ℤ) (f : List ℕ) (out : StepOutcome cost bound (r .tol) u e s at q v f) where
           pub going-full : q .full ≡ true → Answers r (answerWith (kindOf full) s low) v f
           going-full is =
               let more = ltb-true (rowCount u) (length ((split cost bound (r .tol) (stateIn u s)) .list)) (sym (out .told) ∙ is) in
@@ -248,3 +254,13 @@ module _ (r : Run) (ready : Ready r) (s : State) (u : List ℤ) (e : List ℕ) (
                 rest = m .rest ∙ rest-later (r .t) u (16 * s .peak) (16 * q .state .peak) (omega arith) (g .rest);
                 rest-entries = m .rest-entries ∙ rest-later (r .d) e (s .peak) (q .state .peak) peaks (g .rest-entries);
               }
+
+          -- what was known of the entries before the row taken out is known still, if best stayed
+          pub going-front : q .full ≡ false → (k : Front) → Known e k → Known f (cond (q .stayed && leb (k .end) at) k nothing)
+          going-front is k known =
+              by-cond (λ (k₂ : Front). Known f k₂) (q .stayed && leb (k .end) at)
+              (λ h some.
+              let parts = and-parts (q .stayed) (leb (k .end) at) h in
+              let ends = leb→le (k .end) at (parts .1) in
+              least-same e f (k .end) (k .at) (λ i less. out .front is (is-true (q .stayed) (parts .0)) i (omega arith)) (known some))
+              (λ h some. absurd (omega arith))

@@ -13,7 +13,8 @@ use Rattle.boxes.specs.declared.Box.{Box}
 use Rattle.boxes.specs.Split.{zeroBox}
 use Rattle.rows.specs.Rows.{rowAt, rowsOf}
 use Rattle.rows.proofs.Rows.{rows-length, rows-at}
-use Rattle.open_boxes.specs.OpenBoxes.{entryAt, picked}
+use Rattle.open_boxes.specs.OpenBoxes.{picked}
+use Rattle.first_smallest.specs.FirstSmallest.{entryAt}
 use Rattle.certificate.specs.Search.{keepIf, without}
 use Rattle.certificate.proofs.Lists.{append-kept}
 use Rattle.search.specs.Inside.{Stored}

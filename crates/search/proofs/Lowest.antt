@@ -11,7 +11,7 @@ use Rattle.boxes.specs.declared.Box.{Box}
 use Rattle.boxes.specs.Split.{zeroBox}
 use Rattle.rows.specs.Rows.{rowsOf}
 use Rattle.rows.proofs.Rows.{rows-length, rows-at}
-use Rattle.open_boxes.specs.OpenBoxes.{entryAt, FirstLeast}
+use Rattle.first_smallest.specs.FirstSmallest.{entryAt, FirstLeast}
 use Rattle.certificate.specs.Search.{lowerBound, firstSmallest, boxAt}
 use Rattle.certificate.proofs.Smallest.{smallest}
 use Rattle.search.specs.Inside.{Stored}

@@ -14,6 +14,7 @@ use Rattle.boxes.specs.Split.{leftHalf, rightHalf}
 use Rattle.jobs.specs.declared.Model.{Model}
 use Rattle.model.specs.Calls.{checkModel, DecodedFor}
 use Rattle.rows.specs.Rows.{rowCount, rowAt, rowsOf}
+use Rattle.first_smallest.specs.FirstSmallest.{entryAt}
 use Rattle.open_boxes.specs.declared.Child.{Child}
 use Rattle.open_boxes.specs.declared.Mark.{Mark}
 use Rattle.certificate.specs.Search as Search
@@ -64,8 +65,8 @@ pub record Cut (cost : List ℤ → ℕ) (bound : Box → ℕ) (tol : ℕ) (b : 
 abbrev pub stateIn : List ℤ → State → Search.State
 stateIn t s = record { best = s .best .vector; list = rowsOf t (s .rows); count = s .count; peak = s .peak }
 
--- What a step is handed: the box in row `at`, the first with the smallest bound, can be taken out and cut. Where a split has been counted,
--- its low vector does not become best.
+-- What a step is handed: the box in row `at`, the first with the smallest bound, can be taken out and cut, and every open box is one that
+-- is kept beside the best vector. Where a split has been counted, the low vector of the box cut does not become best.
 pub record Steppable (cost : List ℤ → ℕ) (bound : Box → ℕ) (tol : ℕ) (t : List ℤ) (d : List ℕ) (s : State) (at : ℕ) : Type 0 where
   pub best : s .best ≡ bestOf cost (s .best .vector)
   pub stored : Stored bound t d (s .rows)
@@ -74,6 +75,7 @@ pub record Steppable (cost : List ℤ → ℕ) (bound : Box → ℕ) (tol : ℕ)
   pub room : s .rows ≤ rowCount t
   pub entries : rowCount t ≤ length d
   pub wide : 2 ≤ volume (rowAt t at)
+  pub kept : (k : ℕ) → k < s .rows → keptBy bound (markOf tol (s .best)) (rowAt t k) ≡ true
   pub costed : 1 ≤ s .count → better cost tol (s .best .vector) ((rowAt t at) .low) ≡ s .best .vector
   pub longest : s .rows ≤ s .peak
   pub countable : s .count < 4294967295
@@ -88,12 +90,14 @@ pub record Moved (cost : List ℤ → ℕ) (bound : Box → ℕ) (tol : ℕ) (t 
   pub rest : drop (16 * s₂ .peak) u ≡ drop (16 * s₂ .peak) t
   pub rest-entries : drop (s₂ .peak) e ≡ drop (s₂ .peak) d
 
--- What a step says: there is no room for the split and nothing changed, or the split is made.
-pub record StepOutcome (cost : List ℤ → ℕ) (bound : Box → ℕ) (tol : ℕ) (t : List ℤ) (d : List ℕ) (s : State) (r : Stepped) (u : List ℤ) (e : List ℕ) : Type 0 where
+-- What a step says that takes out the box in row `at`: there is no room for the split and nothing changed, or the split is made. Where best
+-- stayed, so did the entries before that row.
+pub record StepOutcome (cost : List ℤ → ℕ) (bound : Box → ℕ) (tol : ℕ) (t : List ℤ) (d : List ℕ) (s : State) (at : ℕ) (r : Stepped) (u : List ℤ) (e : List ℕ) : Type 0 where
   pub kept : r .full ≡ true → u ≡ t
   pub kept-entries : r .full ≡ true → e ≡ d
   pub told : r .full ≡ ltb (rowCount t) (length ((split cost bound tol (stateIn t s)) .list))
   pub moved : r .full ≡ false → Moved cost bound tol t d s (r .state) u e
+  pub front : r .full ≡ false → r .stayed ≡ true → (k : ℕ) → k < at → entryAt e k ≡ entryAt d k
 
 -- The state s, the table u and the list e are those of the beginning, where table and list were t and d.
 pub record Begun (cost : List ℤ → ℕ) (bound : Box → ℕ) (tol : ℕ) (start : List ℤ) (domain : Box) (t : List ℤ) (d : List ℕ) (s : State) (u : List ℤ) (e : List ℕ) : Type 0 where

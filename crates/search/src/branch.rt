@@ -7,12 +7,12 @@ use open_boxes::Mark;
 use open_boxes::ahead;
 use open_boxes::replace;
 ghost use mathlib.Core.Path.{_≡_};
-ghost use mathlib.Core.Bool.{false};
+ghost use mathlib.Core.Bool.{false, not};
 ghost use Prim.Native.Nat.{_≤_, _<_, max};
 ghost use Rattle.boxes.specs.Boxes.{volume};
 ghost use Rattle.points.specs.Points.{pointsOf};
 ghost use Rattle.residuals.specs.Cost.{bound, cost};
-ghost use Rattle.certificate.specs.Search.{better};
+ghost use Rattle.certificate.specs.Search.{ahead, better};
 ghost use Rattle.search.specs.Inside.{Evaluable, bestOf, markOf, keptBy, Tested, Cut, Steppable, StepOutcome};
 
 // The best vector and its cost, C.
@@ -130,6 +130,14 @@ fn cut_box(
     }
 }
 
+// Whether the best vector is still the same: what is best after both halves were tried is not ahead of it.
+fn stayed(t: u64, best: Best, new: Best) -> bool
+    ensures { λ r. ⌜ r ≡ not (ahead t (best .cost) (best .vector) (new .cost) (new .vector)) ⌝ }
+{
+    let vector = new.vector;
+    !ahead(mark_of(t, best), new.cost, vector)
+}
+
 fn larger(a: usize, b: usize) -> usize
     ensures { λ r. ⌜ r ≡ max a b ⌝ }
 {
@@ -144,13 +152,15 @@ pub struct State {
     pub peak: usize,
 }
 
-// What a step comes to: the state after one more split, or the same state where there is no room for it.
+// What a step comes to: the state after one more split, or the same state where there is no room for it; and whether best stayed.
 pub struct Stepped {
     pub full: bool,
+    pub stayed: bool,
     pub state: State,
 }
 
-// Splits the box in row `at`, the first with the smallest bound. Where there is no room nothing is written.
+// Splits the box in row `at`, the first with the smallest bound. Where best stays, so do all other boxes, which are then not tested. Where
+// there is no room nothing is written.
 pub fn step(
     store: &[u8],
     lanes: &[Chunk],
@@ -166,7 +176,7 @@ pub fn step(
         × Steppable (cost m (pointsOf (now store))) (bound m (pointsOf (now store))) t (now table) (now bounds) s at ⌝ }
     ensures { λ r. ⌜
         StepOutcome (cost m (pointsOf (now (store .entry)))) (bound m (pointsOf (now (store .entry)))) t
-        (now (table .entry)) (now (bounds .entry)) s r (now (table .exit)) (now (bounds .exit)) ⌝ }
+        (now (table .entry)) (now (bounds .entry)) s at r (now (table .exit)) (now (bounds .exit)) ⌝ }
 {
     let best = s.best;
     let b = rows::read_row(table, at);
@@ -174,15 +184,18 @@ pub fn step(
     let new = br.best;
     let left = br.left;
     let right = br.right;
-    let after = replace(table, bounds, s.rows, at, mark_of(t, new), left, right);
+    let all = stayed(t, best, new);
+    let after = replace(table, bounds, s.rows, at, mark_of(t, new), all, left, right);
     if after.full {
         return Stepped {
             full: true,
+            stayed: all,
             state: s,
         };
     }
     Stepped {
         full: false,
+        stayed: all,
         state: State {
             best: new,
             rows: after.rows,

@@ -7,18 +7,20 @@ use crate::branch::mark_of;
 use crate::branch::step;
 use crate::branch::tested;
 use boxes::Box;
+use first_smallest::Front;
+use first_smallest::lower_bound;
 use jobs::Job;
 use jobs::Model;
 use lanes::Chunk;
 use model::NO_CAP;
-use open_boxes::lower_bound;
 use open_boxes::put;
 ghost use mathlib.Core.Path.{_≡_};
-ghost use mathlib.Core.Bool.{cond};
+ghost use mathlib.Core.Bool.{cond, _&&_};
 ghost use Prim.Native.Nat.{_≤_};
 ghost use lib.Dec.{eqb, leb};
 ghost use lib.ListN.{length};
 ghost use Rattle.boxes.specs.Boxes.{InBox};
+ghost use Rattle.first_smallest.specs.FirstSmallest.{nothing};
 ghost use Rattle.points.specs.Points.{pointsOf};
 ghost use Rattle.residuals.specs.Cost.{cost, bound};
 ghost use Rattle.rows.specs.Rows.{rowCount};
@@ -83,6 +85,19 @@ fn is_solved(t: u64, gap: u64, open: usize) -> bool
     if t == 0 { open == 0 } else { gap <= t }
 }
 
+// What is known of the list's front after a step that took out the box in row `at`: where best stayed, what was known of the entries before
+// that row, since these did not move.
+fn kept_front(stayed: bool, known: Front, at: usize) -> Front
+    ensures { λ r. ⌜ r ≡ cond (stayed && leb (known .end) at) known nothing ⌝ }
+{
+    if stayed {
+        if known.end <= at {
+            return known;
+        }
+    }
+    Front { at: 0, end: 0 }
+}
+
 // Step after step, from the beginning: solved is the paper's (a), spent its (b), and `step` its (c).
 pub fn run(
     store: &[u8],
@@ -104,9 +119,10 @@ pub fn run(
 {
     let m = job.model;
     let mut s = first;
+    let mut front = Front { at: 0, end: 0 };
     loop {
         let best = s.best;
-        let low = lower_bound(bounds, s.rows, best.cost);
+        let low = lower_bound(bounds, s.rows, best.cost, front);
         let solved = is_solved(job.t, best.cost - low.bound, s.rows);
         let spent = s.count == job.budget;
         if solved {
@@ -119,6 +135,8 @@ pub fn run(
         if next.full {
             return answer(Kind::Full, s, low.bound);
         }
+        let known = low.front;
+        front = kept_front(next.stayed, known, low.at);
         s = next.state;
     }
 }

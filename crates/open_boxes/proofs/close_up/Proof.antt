@@ -1,99 +1,45 @@
--- The invariant: of the rows passed those that stay are the first, and the rest is as it was. The measure is the rows left.
-use mathlib.Core.Path.{_≡_, sym, _∙_}
-use mathlib.Core.Logic.{⊎-elim}
-use mathlib.Core.Bool.{true, false}
-use lib.ListN.{length}
-use Prim.Native.Nat.{_+_, _-_, _≤_, _<_}
-use native.Mathlib.Omega.{arith}
-use Rattle.rows.specs.Rows.{rowCount, rowAt}
-use Rattle.open_boxes.specs.OpenBoxes.{staysAt, picked, entryAt, Held}
-use Rattle.open_boxes.proofs.Listing.{all-held, same-row, same-entry, row-held}
+-- By whether all others stay.
+use borrow.Author.Needs.{needs}
 use Rattle.open_boxes.proofs.close_up.Statement.{statement}
 use Rattle.open_boxes.proofs.close_up.Tie as tie
 
-abbrev Inv-loop : tie.InvT-loop
-Inv-loop table₀ bounds₀ n at mark stay₀ i₀ table bounds stay i =
-    (i ≤ n) × Held table₀ bounds₀ i (picked (rowAt table₀) (staysAt table₀ bounds₀ at mark) i) (picked (entryAt bounds₀) (staysAt table₀ bounds₀ at mark) i) stay table bounds
+take-out-requires : tie.Need-take-out-requires
+take-out-requires c κs = search needs
 
-abbrev μ-loop : tie.MeasureT-loop
-μ-loop table₀ bounds₀ n at mark stay₀ i₀ table bounds stay i = n - i
+sort-out-requires : tie.Need-sort-out-requires
+sort-out-requires c κs = search needs
 
-loop-holds : tie.Need-loop-holds Inv-loop μ-loop
-loop-holds c =
-    let u = c .unmoved .ensures in
-    let a = c .before .before .before .before .args in
-    (u .few, all-held (a .table .now) (a .bounds .now) (staysAt (a .table .now) (a .bounds .now) (a .at) (a .mark)) (c .unmoved .result) (omega (arith, u .few)) (u .stay))
+same-length : tie.Need-same-length
+same-length c = search needs
 
-unmoved-requires : tie.Need-unmoved-requires Inv-loop μ-loop
-unmoved-requires c κs = omega arith
+same-length-2 : tie.Need-same-length-2
+same-length-2 c = search needs
 
-stays-requires : tie.Need-stays-requires Inv-loop μ-loop
-stays-requires c κs = let l = c .before .before .before in omega (arith, l .loop .inv .1 .long-entries)
-
-move-box-requires : tie.Need-move-box-requires Inv-loop μ-loop
-move-box-requires c κs =
-    let l = c .before .before .before .before .before .before .before in
-    (l .loop .inv .1 .few, omega (arith, l .loop .inv .1 .long), omega (arith, l .loop .inv .1 .long-entries))
-
-add-stay : tie.Need-add-stay Inv-loop μ-loop
-add-stay c = let l = c .before .before .before .before .before .before .before .before .before .before .before in omega (arith, l .loop .inv .1 .few)
-
-add-i : tie.Need-add-i Inv-loop μ-loop
-add-i c = omega arith
-
-loop-less : tie.Need-loop-less Inv-loop μ-loop
-loop-less c = omega arith
-
-loop-again : tie.Need-loop-again Inv-loop μ-loop
-loop-again c =
-    let l = c .before .before .before .before .before in
-    let a = l .before .before .before .before .before .args in
-    let t = a .table .now in
-    let d = a .bounds .now in
-    let q = staysAt t d (a .at) (a .mark) in
-    let i = l .loop .i in
-    let there : i < rowCount t = omega arith in
-    let entry : i < length d = omega arith in
-    let p = l .loop .inv .1 in
-    let is : c .before .stays .result ≡ q i = rw (same-row t d q i (l .loop .stay) (l .loop .table) (l .loop .bounds) there entry p, same-entry t d q i (l .loop .stay) (l .loop .table) (l .loop .bounds) there entry p) at (c .before .stays .ensures) in (
-      omega arith,
-      ⊎-elim
-          (λ w.
-          rw (w .7, w .8, w .9, w .3 .ensures .0, w .3 .ensures .1)
-          (row-held t d q i (l .loop .stay) (l .loop .table) (l .loop .bounds) there entry p true (sym (w .0 .taken) ∙ is)))
-          (λ w.
-          let none : l .loop .stay + 0 ≡ l .loop .stay = omega arith in
-          rw (w .1, w .2, w .3)
-          (rw none at (row-held t d q i (l .loop .stay) (l .loop .table) (l .loop .bounds) there entry p false (sym (w .0 .left) ∙ is))))
-          (c .if1 .came),
-    )
-
-same-length : tie.Need-same-length Inv-loop μ-loop
-same-length c = c .before .loop .inv .1 .long
-
-same-length-2 : tie.Need-same-length-2 Inv-loop μ-loop
-same-length-2 c = c .before .loop .inv .1 .long-entries
-
-returns : tie.Need-returns Inv-loop μ-loop
+returns : tie.Need-returns
 returns c =
-    let l = c .before in
-    let all : l .loop .i ≡ l .before .before .before .before .before .args .n = omega arith in
-    rw all at (l .loop .inv .1)
+    let done = c .before .before .before in
+    rw (done .before .before .before .if1 .taken) (done .take-out .ensures)
+
+same-length-3 : tie.Need-same-length-3
+same-length-3 c = search needs
+
+same-length-4 : tie.Need-same-length-4
+same-length-4 c = search needs
+
+returns-2 : tie.Need-returns-2
+returns-2 c =
+    let done = c .before .before .before in
+    rw (done .before .before .before .if1 .left) (done .sort-out .ensures)
 
 pub close-up-spec : {M : Type 1} → statement M
 close-up-spec =
     tie.close
     (tie.spec
-    Inv-loop
-    μ-loop
-    unmoved-requires
-    loop-holds
-    stays-requires
-    move-box-requires
-    add-stay
-    add-i
-    loop-less
-    loop-again
+    take-out-requires
+    sort-out-requires
     same-length
     same-length-2
-    returns)
+    returns
+    same-length-3
+    same-length-4
+    returns-2)

@@ -39,7 +39,7 @@ module _ (c : tie.After-added2) where
   listed = min (start .args .n) room
 
   abbrev stay : ℕ
-  stay = number (staysAt (start .args .table .now) (start .args .bounds .now) (start .args .at) (start .args .mark)) listed
+  stay = number (staysAt (start .args .table .now) (start .args .bounds .now) (start .args .at) (start .args .mark) (start .args .all)) listed
 
   abbrev more : ℕ
   more = cond (start .args .left .kept) 1 0 + cond (start .args .right .kept) 1 0
@@ -77,18 +77,18 @@ module _ (c : tie.After-too-many) where
 
   told :
       let a = start counts .args in
-      c .too-many .result ≡ ltb (room counts) (length (boxesLeft (a .table .now) (a .bounds .now) (listed counts) (a .at) (a .mark) (a .left) (a .right)))
+      c .too-many .result ≡ ltb (room counts) (length (boxesLeft (a .table .now) (a .bounds .now) (listed counts) (a .at) (a .mark) (a .all) (a .left) (a .right)))
   told =
       let a = start counts .args in
-      full-is ∙ ap (ltb (room counts)) (sym (left-number (a .table .now) (a .bounds .now) (a .at) (a .mark) (a .left) (a .right) (listed counts)))
+      full-is ∙ ap (ltb (room counts)) (sym (left-number (a .table .now) (a .bounds .now) (a .at) (a .mark) (a .all) (a .left) (a .right) (listed counts)))
 
 -- the halves have sixteen numbers each
 module _ (s : tie.Start) where
   left-whole : Whole (s .args .left .half)
-  left-whole = let left = s .good .1 .1 .1 .1 .1 .0 in record { low = search (needs, left); high = search (needs, left) }
+  left-whole = let left = s .good .1 .1 .1 .1 .1 .1 .0 in record { low = search (needs, left); high = search (needs, left) }
 
   right-whole : Whole (s .args .right .half)
-  right-whole = let right = s .good .1 .1 .1 .1 .1 .1 .0 in record { low = search (needs, right); high = search (needs, right) }
+  right-whole = let right = s .good .1 .1 .1 .1 .1 .1 .1 .0 in record { low = search (needs, right); high = search (needs, right) }
 
 one-answer : {P : Type 0} → true ≡ false → P
 one-answer e = let z : _≡_ {A = ℕ} 1 0 = ap (λ (b : Bool). cond b 1 0) e in absurd (omega arith)
@@ -141,7 +141,7 @@ returns-2 c =
       kept = λ e. one-answer (sym e);
       kept-entries = λ e. one-answer (sym e);
       held = λ e.
-          both-placed (a .table .now) (a .bounds .now) (a .at) (a .mark) (a .left) (a .right) (listed (counts q)) (left-whole s) (right-whole s) fits
+          both-placed (a .table .now) (a .bounds .now) (a .at) (a .mark) (a .all) (a .left) (a .right) (listed (counts q)) (left-whole s) (right-whole s) fits
           (stays .close-up .result) (stays .close-up .last .0) (stays .close-up .last .1 .0) (rw (listed-is (counts q)) at (stays .close-up .ensures))
           (first .put .result) (first .put .last .0) (first .put .last .1 .0) (first .put .ensures)
           (last .put2 .result) (last .put2 .last .0) (last .put2 .last .1 .0) (last .put2 .ensures);

@@ -9,10 +9,10 @@ use Rattle.open_boxes.proofs.staying.Statement.{statement}
 use Rattle.open_boxes.proofs.staying.Tie as tie
 
 abbrev Inv-loop : tie.InvT-loop
-Inv-loop table bounds n at mark stay₀ i₀ stay i = (i ≤ n) × (stay ≡ number (staysAt table bounds at mark) i)
+Inv-loop table bounds n at mark all stay₀ i₀ stay i = (i ≤ n) × (stay ≡ number (staysAt table bounds at mark all) i)
 
 abbrev μ-loop : tie.MeasureT-loop
-μ-loop table bounds n at mark stay₀ i₀ stay i = n - i
+μ-loop table bounds n at mark all stay₀ i₀ stay i = n - i
 
 loop-holds : tie.Need-loop-holds Inv-loop μ-loop
 unfolding number
@@ -25,7 +25,7 @@ add-stay : tie.Need-add-stay Inv-loop μ-loop
 add-stay c =
     let l = c .before .before .before in
     let a = l .before .before .args in
-    omega (arith, l .loop .inv .1, number-few (staysAt (a .table .now) (a .bounds .now) (a .at) (a .mark)) (l .loop .i))
+    omega (arith, l .loop .inv .1, number-few (staysAt (a .table .now) (a .bounds .now) (a .at) (a .mark) (a .all)) (l .loop .i))
 
 add-i : tie.Need-add-i Inv-loop μ-loop
 add-i c = omega arith
@@ -38,7 +38,7 @@ loop-again c =
     let s = c .before .before in
     let l = s .before in
     let a = l .before .before .args in
-    let more = number-more (staysAt (a .table .now) (a .bounds .now) (a .at) (a .mark)) (l .loop .i) in (
+    let more = number-more (staysAt (a .table .now) (a .bounds .now) (a .at) (a .mark) (a .all)) (l .loop .i) in (
       omega arith,
       ⊎-elim
           (λ w. let is = rw (sym (c .before .stays .ensures) ∙ w .0 .taken) at more in omega (arith, w .1, l .loop .inv .1))

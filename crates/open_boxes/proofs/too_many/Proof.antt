@@ -15,7 +15,7 @@ returns : tie.Need-returns
 returns c =
     let s = c .before .before in
     let a = s .args in
-    sym (le-ltb (a .room) _ (omega (arith, number-few (staysAt (a .table .now) (a .bounds .now) (a .at) (a .mark)) (a .n), c .if1 .taken, s .pre)))
+    sym (le-ltb (a .room) _ (omega (arith, number-few (staysAt (a .table .now) (a .bounds .now) (a .at) (a .mark) (a .all)) (a .n), c .if1 .taken, s .pre)))
 
 staying-requires : tie.Need-staying-requires
 staying-requires c κs = search needs
@@ -24,7 +24,7 @@ add-result : tie.Need-add-result
 add-result c =
     let s = c .before .before .before in
     let a = s .args in
-    omega (arith, number-few (staysAt (a .table .now) (a .bounds .now) (a .at) (a .mark)) (a .n), c .staying .ensures, s .pre)
+    omega (arith, number-few (staysAt (a .table .now) (a .bounds .now) (a .at) (a .mark) (a .all)) (a .n), c .staying .ensures, s .pre)
 
 returns-2 : tie.Need-returns-2
 returns-2 c = rw (c .staying .ensures)

@@ -15,7 +15,7 @@ use Rattle.open_boxes.specs.OpenBoxes.{ReplacedBy}
 use Rattle.certificate.specs.Search as Search
 use Rattle.certificate.specs.Search.{split}
 use Rattle.search.specs.Inside.{markOf, Cut, stateIn}
-use Rattle.search.proofs.Stepping.{step-told, step-moved}
+use Rattle.search.proofs.Stepping.{best-stays, step-told, step-moved, step-front}
 use borrow.Author.Needs.{needs}
 use borrow.Author.Tests.{eqb-false}
 use Rattle.search.proofs.branch.step.Statement.{statement}
@@ -33,6 +33,9 @@ cut-box-requires c κs =
       rw (read .read-row .ensures) (s .pre .1 .wide),
       λ e. let some = eqb-false (s .args .s .count) _ e in rw (read .read-row .ensures) (s .pre .1 .costed (omega arith)),
     )
+
+stayed-requires : tie.Need-stayed-requires
+stayed-requires c κs = search needs
 
 mark-of-requires : tie.Need-mark-of-requires
 mark-of-requires c κs = search needs
@@ -63,7 +66,17 @@ module _ (c : tie.After-cut-box) where
 -- and once its halves have taken its place
 module _ (c : tie.After-replace) where
   abbrev cuts : tie.After-cut-box
-  cuts = c .before .before .before .before .before .before .before
+  cuts = c .before .before .before .before .before .before .before .before
+
+  -- whether best stayed
+  abbrev all : Bool
+  all = c .before .before .before .before .stayed .result
+
+  stay : all ≡ true → cuts .cut-box .result .best ≡ start cuts .args .s .best
+  stay =
+      let a = start cuts .args in
+      best-stays (C cuts) (a .t) (a .s .best) (cuts .cut-box .result .best) _ _ (start cuts .pre .1 .best) (made cuts .best) all
+      (c .before .before .before .before .stayed .ensures)
 
   abbrev after : Search.State
   after = split (C cuts) (B cuts) (start cuts .args .t) (stateIn (start cuts .args .table .now) (start cuts .args .s))
@@ -71,14 +84,14 @@ module _ (c : tie.After-replace) where
   replaced :
       let a = start cuts .args in
       let br = cuts .cut-box .result in
-      ReplacedBy (a .table .now) (a .bounds .now) (a .s .rows) (a .at) (markOf (a .t) (br .best)) (br .left) (br .right) (c .replace .result)
+      ReplacedBy (a .table .now) (a .bounds .now) (a .s .rows) (a .at) (markOf (a .t) (br .best)) all (br .left) (br .right) (c .replace .result)
       (c .replace .last .0) (c .replace .last .1 .0)
   replaced = rw (c .before .mark-of .ensures) at (c .replace .ensures)
 
   told : c .replace .result .full ≡ ltb (rowCount (start cuts .args .table .now)) (length (after .list))
   told =
       let a = start cuts .args in
-      step-told (C cuts) (B cuts) (a .t) (a .table .now) (a .bounds .now) (a .s) (a .at) (start cuts .pre .1) (cuts .cut-box .result) (made cuts)
+      step-told (C cuts) (B cuts) (a .t) (a .table .now) (a .bounds .now) (a .s) (a .at) (start cuts .pre .1) (cuts .cut-box .result) (made cuts) all stay
       (c .replace .result) (c .replace .last .0) (c .replace .last .1 .0) replaced
 
 one-answer : {P : Type 0} → true ≡ false → P
@@ -92,10 +105,11 @@ returns c =
       kept-entries = λ e. r .replace .ensures .kept-entries (c .if1 .taken);
       told = sym (c .if1 .taken) ∙ told r;
       moved = λ e. one-answer e;
+      front = λ e. one-answer e;
     }
 
-add-t24 : tie.Need-add-t24
-add-t24 c =
+add-t25 : tie.Need-add-t25
+add-t25 c =
     let r = c .before .before .before .before .before in
     omega (arith, start (cuts r) .pre .1 .countable)
 
@@ -119,9 +133,12 @@ returns-2 c =
       kept-entries = λ e. one-answer (sym e);
       told = sym (else .if1 .left) ∙ told r;
       moved = λ e.
-          step-moved (C q) (B q) (a .t) (a .table .now) (a .bounds .now) (a .s) (a .at) (start q .pre .1) (q .cut-box .result) (made q)
+          step-moved (C q) (B q) (a .t) (a .table .now) (a .bounds .now) (a .s) (a .at) (start q .pre .1) (q .cut-box .result) (made q) (all r) (stay r)
           (r .replace .result) (r .replace .last .0) (r .replace .last .1 .0) (replaced r)
           (else .if1 .left) _ (c .larger .result) (omega arith) (omega (arith, c .larger .ensures));
+      front = λ e.
+          step-front (C q) (B q) (a .t) (a .table .now) (a .bounds .now) (a .s) (a .at) (start q .pre .1) (q .cut-box .result) (made q) (all r) (stay r)
+          (r .replace .result) (r .replace .last .0) (r .replace .last .1 .0) (replaced r) (else .if1 .left);
     }
 
 pub step-spec : {M : Type 1} → statement M
@@ -130,12 +147,13 @@ step-spec =
     (tie.spec
     read-row-requires
     cut-box-requires
+    stayed-requires
     mark-of-requires
     replace-requires
     same-length
     same-length-2
     returns
-    add-t24
+    add-t25
     larger-requires
     same-length-3
     same-length-4

@@ -1,5 +1,5 @@
--- The invariant: the run of the definition has come to the state, the table and the list of bounds. The measure is what is left of the
--- split budget.
+-- The invariant: the run of the definition has come to the state, the table and the list of bounds, and what is known of the list's front
+-- holds of it. The measure is what is left of the split budget.
 use borrow.Author.Needs.{needs}
 use borrow.Author.Tests.{eqb-true, eqb-false}
 use mathlib.Core.Bool.{false, cond}
@@ -14,11 +14,12 @@ use Rattle.jobs.specs.declared.Job.{Job}
 use Rattle.points.specs.Points.{pointsOf}
 use Rattle.residuals.specs.Cost.{cost, bound}
 use Rattle.residuals.proofs.Bounds.{bound-laws}
-use Rattle.open_boxes.specs.declared.Lowest.{Lowest}
-use Rattle.open_boxes.specs.OpenBoxes.{LowestOf}
+use Rattle.first_smallest.specs.declared.Lowest.{Lowest}
+use Rattle.first_smallest.specs.FirstSmallest.{Known, LowestFrom, LowestOf}
+use Rattle.first_smallest.proofs.Least.{lowest-known, front-known}
 use Rattle.search.specs.declared.branch.State.{State}
 use Rattle.search.specs.Search.{searched}
-use Rattle.search.proofs.Going.{Run, Ready, Going, going-begins, open-entries, low-le, going-solved, going-spent, going-steppable, going-full, going-on, going-counts}
+use Rattle.search.proofs.Going.{Run, Ready, Going, going-begins, open-entries, low-le, going-solved, going-spent, going-steppable, going-full, going-on, going-front, going-counts}
 use Rattle.search.proofs.run.run.Statement.{statement}
 use Rattle.search.proofs.run.run.Tie as tie
 
@@ -38,10 +39,10 @@ runOf store job t d first =
     }
 
 abbrev Inv-loop : tie.InvT-loop
-Inv-loop store lanes job table₀ bounds₀ m s₀ table bounds s = Going (runOf store job table₀ bounds₀ s₀) s table bounds
+Inv-loop store lanes job table₀ bounds₀ m s₀ front₀ table bounds s front = Going (runOf store job table₀ bounds₀ s₀) s table bounds × Known bounds front
 
 abbrev μ-loop : tie.MeasureT-loop
-μ-loop store lanes job table₀ bounds₀ m s₀ table bounds s = job .budget - s .count
+μ-loop store lanes job table₀ bounds₀ m s₀ front₀ table bounds s front = job .budget - s .count
 
 -- what is known from the start on
 module _ (s : tie.Start Inv-loop μ-loop) where
@@ -58,7 +59,7 @@ module _ (s : tie.Start Inv-loop μ-loop) where
       }
 
 loop-holds : tie.Need-loop-holds Inv-loop μ-loop
-loop-holds c = let s = c .before .before .before in going-begins (run s) (s .pre .1)
+loop-holds c = let s = c .before .before .before in (going-begins (run s) (s .pre .1), λ h. absurd (omega arith))
 
 lower-bound-requires : tie.Need-lower-bound-requires Inv-loop μ-loop
 lower-bound-requires c κs = search needs
@@ -80,12 +81,18 @@ module _ (c : tie.After-lower-bound Inv-loop μ-loop) where
   abbrev low : Lowest
   low = c .lower-bound .result
 
-  found : LowestOf (turn .loop .bounds) (s .rows) (s .best .cost) low
-  found =
+  read : LowestFrom (turn .loop .bounds) (s .rows) (s .best .cost) (turn .loop .front) low
+  read =
       let all : min (s .rows) (length (turn .loop .bounds)) ≡ s .rows =
-      omega (arith, open-entries (run begun) (ready begun) s (turn .loop .table) (turn .loop .bounds) (turn .loop .inv))
+      omega (arith, open-entries (run begun) (ready begun) s (turn .loop .table) (turn .loop .bounds) (turn .loop .inv .0))
       in
-      subst (λ (k : ℕ). LowestOf (turn .loop .bounds) k (s .best .cost) low) all (c .lower-bound .ensures)
+      subst (λ (k : ℕ). LowestFrom (turn .loop .bounds) k (s .best .cost) (turn .loop .front) low) all (c .lower-bound .ensures)
+
+  found : LowestOf (turn .loop .bounds) (s .rows) (s .best .cost) low
+  found = lowest-known (turn .loop .bounds) (s .rows) (s .best .cost) (turn .loop .front) low (turn .loop .inv .1) read
+
+  known : Known (turn .loop .bounds) (low .front)
+  known = front-known (turn .loop .bounds) (s .rows) (s .best .cost) (turn .loop .front) low (turn .loop .inv .1) read
 
   -- C − L
   abbrev gap : ℕ
@@ -95,7 +102,7 @@ sub-is-solved : tie.Need-sub-is-solved Inv-loop μ-loop
 sub-is-solved c =
     let o = c .before .before in
     let l = turn o in
-    low-le (run (begun o)) (ready (begun o)) (s o) (l .loop .table) (l .loop .bounds) (l .loop .inv) (low o) (found o)
+    low-le (run (begun o)) (ready (begun o)) (s o) (l .loop .table) (l .loop .bounds) (l .loop .inv .0) (low o) (found o)
 
 is-solved-requires : tie.Need-is-solved-requires Inv-loop μ-loop
 is-solved-requires c κs = search needs
@@ -104,10 +111,10 @@ answer-requires : tie.Need-answer-requires Inv-loop μ-loop
 answer-requires c κs = search needs
 
 same-length : tie.Need-same-length Inv-loop μ-loop
-same-length c = turn (c .before .before .before .before .before .before .before) .loop .inv .long
+same-length c = turn (c .before .before .before .before .before .before .before) .loop .inv .0 .long
 
 same-length-2 : tie.Need-same-length-2 Inv-loop μ-loop
-same-length-2 c = turn (c .before .before .before .before .before .before .before) .loop .inv .long-entries
+same-length-2 c = turn (c .before .before .before .before .before .before .before) .loop .inv .0 .long-entries
 
 returns : tie.Need-returns Inv-loop μ-loop
 unfolding searched
@@ -116,7 +123,7 @@ returns c =
     let o = near .before .before .before .before .before .before in
     let l = turn o in
     rw (c .answer .ensures)
-    (going-solved (run (begun o)) (ready (begun o)) (s o) (l .loop .table) (l .loop .bounds) (l .loop .inv) (low o) (found o)
+    (going-solved (run (begun o)) (ready (begun o)) (s o) (l .loop .table) (l .loop .bounds) (l .loop .inv .0) (low o) (found o)
     (sym (near .before .before .before .is-solved .ensures) ∙ near .if1 .taken))
 
 -- what a turn knows where the search is not solved
@@ -131,10 +138,10 @@ answer-requires-2 : tie.Need-answer-requires-2 Inv-loop μ-loop
 answer-requires-2 c κs = search needs
 
 same-length-3 : tie.Need-same-length-3 Inv-loop μ-loop
-same-length-3 c = turn (lows (c .before .before)) .loop .inv .long
+same-length-3 c = turn (lows (c .before .before)) .loop .inv .0 .long
 
 same-length-4 : tie.Need-same-length-4 Inv-loop μ-loop
-same-length-4 c = turn (lows (c .before .before)) .loop .inv .long-entries
+same-length-4 c = turn (lows (c .before .before)) .loop .inv .0 .long-entries
 
 returns-2 : tie.Need-returns-2 Inv-loop μ-loop
 unfolding searched
@@ -143,7 +150,7 @@ returns-2 c =
     let o = lows (spent .before) in
     let l = turn o in
     rw (c .answer2 .ensures)
-    (going-spent (run (begun o)) (ready (begun o)) (s o) (l .loop .table) (l .loop .bounds) (l .loop .inv) (low o) (found o) (unsolved (spent .before))
+    (going-spent (run (begun o)) (ready (begun o)) (s o) (l .loop .table) (l .loop .bounds) (l .loop .inv .0) (low o) (found o) (unsolved (spent .before))
     (eqb-true (s o .count) (j o .budget) (spent .if2 .taken)))
 
 -- and where the count is another number than the budget
@@ -160,7 +167,7 @@ step-requires c κs =
     let o = near two in
     let l = turn o in (
       begun o .pre .0 .0,
-      going-steppable (run (begun o)) (ready (begun o)) (s o) (l .loop .table) (l .loop .bounds) (l .loop .inv) (low o) (found o) (unsolved (two .before)) (left two)
+      going-steppable (run (begun o)) (ready (begun o)) (s o) (l .loop .table) (l .loop .bounds) (l .loop .inv .0) (low o) (found o) (unsolved (two .before)) (left two)
           (search (needs, begun o .good .1 .1 .0)),
     )
 
@@ -174,12 +181,12 @@ stepping c = c .before .before .before
 same-length-5 : tie.Need-same-length-5 Inv-loop μ-loop
 same-length-5 c =
     let q = c .before .before .before .before .before in
-    ap length (q .step .ensures .kept (c .before .if3 .taken)) ∙ turn (near (stepping q)) .loop .inv .long
+    ap length (q .step .ensures .kept (c .before .if3 .taken)) ∙ turn (near (stepping q)) .loop .inv .0 .long
 
 same-length-6 : tie.Need-same-length-6 Inv-loop μ-loop
 same-length-6 c =
     let q = c .before .before .before .before .before in
-    ap length (q .step .ensures .kept-entries (c .before .if3 .taken)) ∙ turn (near (stepping q)) .loop .inv .long-entries
+    ap length (q .step .ensures .kept-entries (c .before .if3 .taken)) ∙ turn (near (stepping q)) .loop .inv .0 .long-entries
 
 returns-3 : tie.Need-returns-3 Inv-loop μ-loop
 unfolding searched
@@ -189,26 +196,34 @@ returns-3 c =
     let o = near two in
     let l = turn o in
     rw (c .answer3 .ensures)
-    (going-full (run (begun o)) (ready (begun o)) (s o) (l .loop .table) (l .loop .bounds) (l .loop .inv) (low o) (found o) (unsolved (two .before)) (left two)
+    (going-full (run (begun o)) (ready (begun o)) (s o) (l .loop .table) (l .loop .bounds) (l .loop .inv .0) (low o) (found o) (unsolved (two .before)) (left two)
     (q .step .result) (q .step .last .1 .1 .1 .1 .0) (q .step .last .1 .1 .1 .1 .1 .0) (q .step .ensures) (c .before .if3 .taken))
+
+kept-front-requires : tie.Need-kept-front-requires Inv-loop μ-loop
+kept-front-requires c κs = search needs
 
 loop-less : tie.Need-loop-less Inv-loop μ-loop
 loop-less c =
-    let q = c .before .before .before .before .before in
+    let q = c .before .before .before .before .before .before .before in
     let two = stepping q in
     let o = near two in
     let l = turn o in
-    going-counts (run (begun o)) (ready (begun o)) (s o) (l .loop .table) (l .loop .bounds) (l .loop .inv) (low o) (found o) (unsolved (two .before)) (left two)
-    (q .step .result) (q .step .last .1 .1 .1 .1 .0) (q .step .last .1 .1 .1 .1 .1 .0) (q .step .ensures) (c .before .if3 .left)
+    going-counts (run (begun o)) (ready (begun o)) (s o) (l .loop .table) (l .loop .bounds) (l .loop .inv .0) (low o) (found o) (unsolved (two .before)) (left two)
+    (q .step .result) (q .step .last .1 .1 .1 .1 .0) (q .step .last .1 .1 .1 .1 .1 .0) (q .step .ensures) (c .before .before .before .if3 .left)
 
 loop-again : tie.Need-loop-again Inv-loop μ-loop
 loop-again c =
-    let q = c .before .before .before .before .before in
+    let q = c .before .before .before .before .before .before .before in
     let two = stepping q in
     let o = near two in
     let l = turn o in
-    going-on (run (begun o)) (ready (begun o)) (s o) (l .loop .table) (l .loop .bounds) (l .loop .inv) (low o) (found o) (unsolved (two .before)) (left two)
-    (q .step .result) (q .step .last .1 .1 .1 .1 .0) (q .step .last .1 .1 .1 .1 .1 .0) (q .step .ensures) (c .before .if3 .left)
+    let is = c .before .before .before .if3 .left in (
+      going-on (run (begun o)) (ready (begun o)) (s o) (l .loop .table) (l .loop .bounds) (l .loop .inv .0) (low o) (found o) (unsolved (two .before)) (left two)
+          (q .step .result) (q .step .last .1 .1 .1 .1 .0) (q .step .last .1 .1 .1 .1 .1 .0) (q .step .ensures) is,
+      rw (c .before .kept-front .ensures)
+          (going-front (run (begun o)) (ready (begun o)) (s o) (l .loop .table) (l .loop .bounds) (l .loop .inv .0) (low o) (found o) (unsolved (two .before)) (left two)
+          (q .step .result) (q .step .last .1 .1 .1 .1 .0) (q .step .last .1 .1 .1 .1 .1 .0) (q .step .ensures) is (low o .front) (known o)),
+    )
 
 pub run-spec : {M : Type 1} → statement M
 run-spec =
@@ -233,5 +248,6 @@ run-spec =
     same-length-5
     same-length-6
     returns-3
+    kept-front-requires
     loop-less
     loop-again)

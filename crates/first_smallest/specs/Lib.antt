@@ -1,0 +1,2 @@
+pub mod FirstSmallest
+pub mod Inside
