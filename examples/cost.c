@@ -1,4 +1,5 @@
-/* The library from C: the cost of a vector, also beacon by beacon, the bound of a box, and which line each point belongs to.
+/* The library from C: the cost of a vector, also beacon by beacon and with a limit on spoiled samples, the bound of a box, and which line
+ * each point belongs to.
  *
  *   rt staticlib capi
  *   cc -std=c99 -Wall -Iinclude examples/cost.c target/staticlib/libcapi.a -o target/cost && target/cost
@@ -61,6 +62,14 @@ int main(void)
     printf("cost %llu\n", (unsigned long long)value);
     if ((code = print_beacons(store)) != 0)
         return printf("refused %u\n", (unsigned)VENGUTARI_NUMBER(code)), 1;
+
+    /* With p = 3 it is the largest distance but for so many spoiled samples, here of none and of one. */
+    for (uint32_t spoiled = 0; spoiled < 2; spoiled++) {
+        code = vengutari_cost(store, sizeof store, n, d, scale, 3, spoiled, vector, 8, &value);
+        if (code != 0)
+            return printf("refused %u\n", (unsigned)VENGUTARI_NUMBER(code)), 1;
+        printf("cost with %u spoiled %llu\n", (unsigned)spoiled, (unsigned long long)value);
+    }
 
     /* No vector with line 1 from 0 to 8 and line 2 from -8 to -1 is cheaper than this. */
     const int16_t corners[16] = {0, -8, 0, 0, 0, 0, 0, 0, 8, -1};

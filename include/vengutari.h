@@ -12,13 +12,17 @@
  *
  * A length counts elements, not bytes. No pointer is null, each points to as many elements as its length says, and what one argument
  * lends for writing no other argument reaches. Nothing is allocated or kept, so calls on different memory may run at the same time.
- * A search takes less than 180,000 bytes of stack, every other call less than 8,000.
+ * A search takes less than 180,000 bytes of stack, with p = 3 less than 215,000; a cost or bound with p = 3 less than 45,000, every other
+ * call less than 8,000.
  *
  * store    point records of 12 bytes, 1 to 4,096 of them; one whose y is -32,768 is a gap, a sample that the board didn't take: it adds 0
  *          to every cost and bound, and is a record as any other: it counts, and its x after the d-th are 0
  * n, d     lines (1 to 4) and x used (1 to 4), n * d at most 8
  * scale    S, 0 to 15: a parameter w stands for w / 2^S
- * p, eps   the loss (0, 1 or 2) and its threshold (0 to 16,777,215, at least 1 where p is 1 or 2)
+ * p, eps   the loss (0, 1 or 2) and its threshold (0 to 16,777,215, at least 1 where p is 1 or 2); or p = 3, where eps is q, how many
+ *          samples may be spoiled, from 0 to one less than the number of records, gaps counted: the cost is then the (q + 1)-th largest of
+ *          the points' least |e| over the lines, a gap counting as 0, and the bound of a box the (q + 1)-th largest of the least sizes.
+ *          The loss of a single e, labels and the cost beacon by beacon refuse p = 3 by 4
  * vector   8 numbers, line after line, d each; those after n * d are 0
  * corners  a box, 16 numbers: its low vector, then its high vector
  */
@@ -48,20 +52,21 @@ extern "C" {
 #define VENGUTARI_BEACON_RECORDS 19
 #define VENGUTARI_MOST_BEACONS 216
 
-/* The loss of a residual e. Refusal 4. */
+/* The loss of a residual e. Refusal 4, also for p = 3. */
 uint32_t vengutari_loss(uint8_t p, uint32_t eps, int64_t e, uint64_t *value);
 
-/* The cost of a vector. Refusals 1 to 4, 6 and 7; 255 where vector_len is not 8. */
+/* The cost of a vector, with p = 3 the (q + 1)-th largest of the points' least |e|. Refusals 1 to 4, 6 and 7; 255 where vector_len is
+ * not 8. */
 uint32_t vengutari_cost(const uint8_t *store, size_t store_len, uint8_t n, uint8_t d, uint8_t scale, uint8_t p, uint32_t eps,
                         const int16_t *vector, size_t vector_len, uint64_t *value);
 
 /* The cost of a vector beacon by beacon: sums[g] takes the cost of records 19 g to 19 g + 18, the last group taking what is left, and the
- * further entries are kept; *value is the total, which is the cost. Refusals 1 to 4, 6, 7, and 10 where sums has fewer entries than there
- * are groups; 255 where vector_len is not 8. */
+ * further entries are kept; *value is the total, which is the cost. Refusals 1 to 4 (4 also for p = 3), 6, 7, and 10 where sums has fewer
+ * entries than there are groups; 255 where vector_len is not 8. */
 uint32_t vengutari_cost_by_beacon(const uint8_t *store, size_t store_len, uint8_t n, uint8_t d, uint8_t scale, uint8_t p, uint32_t eps,
                                   const int16_t *vector, size_t vector_len, uint64_t *sums, size_t sums_len, uint64_t *value);
 
-/* The bound of a box. Refusals 1 to 5 and 7; 255 where corners_len is not 16. */
+/* The bound of a box, with p = 3 the (q + 1)-th largest of the least sizes. Refusals 1 to 5 and 7; 255 where corners_len is not 16. */
 uint32_t vengutari_bound(const uint8_t *store, size_t store_len, uint8_t n, uint8_t d, uint8_t scale, uint8_t p, uint32_t eps,
                          const int16_t *corners, size_t corners_len, uint64_t *value);
 
@@ -70,19 +75,19 @@ uint32_t vengutari_bound(const uint8_t *store, size_t store_len, uint8_t n, uint
 uint32_t vengutari_split(uint8_t n, uint8_t d, const int16_t *corners, size_t corners_len, int16_t *halves, size_t halves_len);
 
 /* One label for each point into the front of labels, whose rest is kept; *value is how many. A gap has 6; a sample within eps of more than
- * one line has 5, undecided; within eps of one line alone, that line, 1 to n; else 0. Refusals 1 to 4, 6, 7 and 10; 255 where vector_len
- * is not 8. */
+ * one line has 5, undecided; within eps of one line alone, that line, 1 to n; else 0. Refusals 1 to 4 (4 also for p = 3), 6, 7 and
+ * 10; 255 where vector_len is not 8. */
 uint32_t vengutari_labels(const uint8_t *store, size_t store_len, uint8_t n, uint8_t d, uint8_t scale, uint8_t p, uint32_t eps,
                           const int16_t *vector, size_t vector_len, uint8_t *labels, size_t labels_len, uint64_t *value);
 
-/* Searches a box for the cheapest vector, splitting boxes at most budget times, until C - L is at most t; with t = 0 until no box is open,
- * where the vector is the first of all vectors of least cost, comparing coordinate 1 first. The rows of 16 numbers that table has hold the
- * open boxes, and the entries of bounds beside them their bounds. *value is the kind of the answer: 1 solved, 2 spent, 3 full; with t = 0
- * a spent or full answer may have C = L. vector takes the best vector, and numbers takes its cost C, the lower bound L for every vector of
- * the box, the splits counted, the open boxes and the peak of their number. The first rows of table are then the open boxes, and the first
- * entries of bounds their bounds; those from there up to the peak may hold leftovers; everything behind keeps what it held. Refusals 1 to
- * 8, and 14 where bounds has fewer entries than table has rows; 255 where corners_len is not 16, start_len or vector_len not 8, or
- * numbers_len not 5. */
+/* Searches a box for the cheapest vector, with p = 3 too, splitting boxes at most budget times, until C - L is at most t; with t = 0 until
+ * no box is open, where the vector is the first of all vectors of least cost, comparing coordinate 1 first. The rows of 16 numbers that
+ * table has hold the open boxes, and the entries of bounds beside them their bounds. *value is the kind of the answer: 1 solved, 2 spent,
+ * 3 full; with t = 0 a spent or full answer may have C = L. vector takes the best vector, and numbers takes its cost C, the lower bound L
+ * for every vector of the box, the splits counted, the open boxes and the peak of their number. The first rows of table are then the open
+ * boxes, and the first entries of bounds their bounds; those from there up to the peak may hold leftovers; everything behind keeps what it
+ * held. Refusals 1 to 8, and 14 where bounds has fewer entries than table has rows; 255 where corners_len is not 16, start_len or
+ * vector_len not 8, or numbers_len not 5. */
 uint32_t vengutari_search(const uint8_t *store, size_t store_len, uint8_t n, uint8_t d, uint8_t scale, uint8_t p, uint32_t eps,
                           uint64_t t, uint32_t budget, const int16_t *corners, size_t corners_len, const int16_t *start, size_t start_len,
                           int16_t *table, size_t table_len, uint64_t *bounds, size_t bounds_len, int16_t *vector, size_t vector_len,
@@ -145,7 +150,7 @@ static inline const char *vengutari_message(uint32_t code)
     case 1: return "length: a store or beacon is empty, too long or not whole records, or a job record is not whole";
     case 2: return "shape: lines, dimensions or their product out of range";
     case 3: return "scale: over 15";
-    case 4: return "loss: loss or threshold out of range";
+    case 4: return "loss: loss, threshold or number of spoiled samples out of range";
     case 5: return "box: low over high, an unused coordinate not 0, or one vector where a box is to be split";
     case 6: return "start: outside the box, or an unused coordinate not 0";
     case 7: return "stray: an x after the last dimension is not 0";

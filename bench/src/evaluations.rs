@@ -20,6 +20,7 @@ const SHAPES: [(usize, usize); 9] = [
 ];
 const SCALE: u32 = 7;
 const EPS: u32 = 40_000;
+const NO_CAP: u64 = u64::MAX;
 
 /// What an evaluation is handed.
 struct Case {
@@ -86,9 +87,12 @@ fn case(n: usize, d: usize, p: u8) -> Case {
 fn compare(c: &Case) {
     let cost = plain::cost(&c.store, c.model, &c.domain.low);
     let bound = plain::bound(&c.store, c.model, &c.domain.low, &c.domain.high);
-    assert_eq!(rattle::cost(&c.store, &c.lanes, c.model, &c.corners), cost);
     assert_eq!(
-        rattle::bound(&c.store, &c.lanes, c.model, &c.corners),
+        rattle::cost(&c.store, &c.lanes, c.model, &c.corners, NO_CAP),
+        cost
+    );
+    assert_eq!(
+        rattle::bound(&c.store, &c.lanes, c.model, &c.corners, NO_CAP),
         bound
     );
     assert_eq!(
@@ -102,7 +106,7 @@ fn compare(c: &Case) {
 }
 
 /// The smaller of `least` and the time that `f` takes, in nanoseconds.
-fn timed(least: f64, f: impl FnOnce() -> u64) -> f64 {
+pub fn timed(least: f64, f: impl FnOnce() -> u64) -> f64 {
     let start = Instant::now();
     black_box(f());
     least.min(start.elapsed().as_nanos() as f64)
@@ -127,11 +131,13 @@ fn least_times(c: &Case, rounds: usize) -> [f64; 6] {
         let m = black_box(c.model);
         let (low, high) = (&c.domain.low, &c.domain.high);
         least[0] = timed(least[0], || plain::cost(&c.store, m, low));
-        least[1] = timed(least[1], || rattle::cost(&c.store, &c.lanes, m, &c.corners));
+        least[1] = timed(least[1], || {
+            rattle::cost(&c.store, &c.lanes, m, &c.corners, NO_CAP)
+        });
         least[2] = timed(least[2], || rattle::cost_call(&c.store, m, low).1);
         least[3] = timed(least[3], || plain::bound(&c.store, m, low, high));
         least[4] = timed(least[4], || {
-            rattle::bound(&c.store, &c.lanes, m, &c.corners)
+            rattle::bound(&c.store, &c.lanes, m, &c.corners, NO_CAP)
         });
         least[5] = timed(least[5], || rattle::bound_call(&c.store, m, &c.corners).1);
     }
@@ -168,7 +174,7 @@ pub fn once(n: usize, d: usize, p: u8) {
     let c = case(n, d, p);
     let m = black_box(c.model);
     black_box(plain::cost(&c.store, m, &c.domain.low));
-    black_box(rattle::cost(&c.store, &c.lanes, m, &c.corners));
+    black_box(rattle::cost(&c.store, &c.lanes, m, &c.corners, NO_CAP));
     black_box(plain::bound(&c.store, m, &c.domain.low, &c.domain.high));
-    black_box(rattle::bound(&c.store, &c.lanes, m, &c.corners));
+    black_box(rattle::bound(&c.store, &c.lanes, m, &c.corners, NO_CAP));
 }

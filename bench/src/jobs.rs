@@ -4,7 +4,8 @@ use crate::random::Random;
 use crate::search::{Domain, Job};
 
 /// What a job is made from. Each side of its box goes from -side to side, the hidden lines lie from -hidden to hidden in it, and each x goes
-/// from -reach to reach; with an offset the last x is a constant. Noise and ε are in units of y, outliers in percent.
+/// from -reach to reach; with an offset the last x is a constant. Noise and ε are in units of y, outliers in percent; with p = 3 ε is how
+/// many samples may be spoiled.
 #[derive(Clone, Copy)]
 pub struct Shape {
     pub n: usize,
@@ -88,7 +89,19 @@ const PUBLISHED: Shape = Shape {
     ..lines(2, 2, 2, 500)
 };
 
-pub static SHAPES: [Shape; 14] = [
+/// The same with a limit on the spoiled samples instead of a threshold.
+const fn spoiled(q: u32, shape: Shape) -> Shape {
+    Shape {
+        p: 3,
+        eps: q,
+        ..shape
+    }
+}
+
+/// The points that evaluations with p = 3 are timed on.
+pub const SPOILED: Shape = spoiled(0, noisy(lines(1, 1, 3, 4096)));
+
+pub static SHAPES: [Shape; 16] = [
     rough(lines(1, 1, 1, 1024)),
     rough(lines(1, 1, 2, 512)),
     noisy(lines(1, 2, 0, 256)),
@@ -101,6 +114,8 @@ pub static SHAPES: [Shape; 14] = [
     budget(300, lines(2, 2, 2, 128)),
     lines(1, 4, 1, 128),
     budget(200, lines(4, 2, 1, 128)),
+    budget(300, spoiled(120, noisy(lines(1, 2, 3, 512)))),
+    budget(300, spoiled(60, noisy(lines(2, 1, 3, 256)))),
     PUBLISHED,
     growing(12_000),
 ];
@@ -120,13 +135,26 @@ const SCALE: u32 = 7;
 /// The last x where there are several, so that a line has an offset.
 const OFFSET: i16 = 100;
 
+const SEED: u64 = 4711;
+
 impl Shape {
+    fn hidden_by(&self, random: &mut Random) -> [i16; 8] {
+        let mut hidden = [0; 8];
+        for w in &mut hidden[..self.n * self.d] {
+            *w = random.between(-self.hidden, self.hidden);
+        }
+        hidden
+    }
+
+    /// The lines that the points are made from.
+    pub fn hidden(&self) -> [i16; 8] {
+        self.hidden_by(&mut Random::new(SEED))
+    }
+
     fn store(&self) -> Vec<u8> {
-        let mut random = Random::new(4711);
-        let hidden: Vec<i64> = (0..self.n * self.d)
-            .map(|_| i64::from(random.between(-self.hidden, self.hidden)))
-            .collect();
-        let lines: Vec<&[i64]> = hidden.chunks_exact(self.d).collect();
+        let mut random = Random::new(SEED);
+        let hidden = self.hidden_by(&mut random);
+        let lines: Vec<&[i16]> = hidden.chunks_exact(self.d).collect();
         let mut store = Vec::with_capacity(12 * self.points);
         for frame in 0..self.points {
             let line = lines[frame % self.n];
@@ -137,7 +165,11 @@ impl Shape {
             if self.offset {
                 x[self.d - 1] = OFFSET;
             }
-            let dot: i64 = line.iter().zip(x).map(|(w, x)| w * i64::from(x)).sum();
+            let products = line
+                .iter()
+                .zip(x)
+                .map(|(w, x)| i64::from(*w) * i64::from(x));
+            let dot: i64 = products.sum();
             let noise = random.between(-self.noise, self.noise);
             let far = random.between(-5000, 5000);
             let y = if random.between(0, 99) < self.outliers {
@@ -167,7 +199,11 @@ impl Shape {
                 d: self.d,
                 scale: SCALE,
                 p: self.p,
-                eps: self.eps << SCALE,
+                eps: if self.p == 3 {
+                    self.eps
+                } else {
+                    self.eps << SCALE
+                },
             },
             t: self.t,
             budget: self.budget,

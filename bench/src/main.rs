@@ -1,6 +1,7 @@
 //! Times the proved code against plain Rust.
 //!
 //!     bench evaluations [ROUNDS]     one evaluation of a cost and of a bound: the least of 400 interleaved rounds, or of ROUNDS
+//!     bench ranks [ROUNDS]           the same with p = 3, against p = 1 as well
 //!     bench search [ROUNDS]          whole searches, the least of 10 rounds
 //!     bench growth [ROUNDS]          what a split takes by how many boxes are open, the least of 3 rounds
 //!     bench compare                  that both sides give the same, without times; the last line is 'N passed, M failed'
@@ -13,13 +14,14 @@ mod jobs;
 mod keeping;
 mod plain;
 mod random;
+mod ranks;
 mod rattle;
 mod search;
 mod searches;
 
 /// A difference stops the program.
 fn compare() {
-    let passed = evaluations::compare_all() + searches::compare_all();
+    let passed = evaluations::compare_all() + ranks::compare_all() + searches::compare_all();
     println!("{passed} passed, 0 failed");
 }
 
@@ -29,6 +31,8 @@ fn main() {
     match (words.first().map_or("", String::as_str), words.len()) {
         ("evaluations", 1) => evaluations::table(400),
         ("evaluations", 2) => evaluations::table(number(1)),
+        ("ranks", 1) => ranks::table(400),
+        ("ranks", 2) => ranks::table(number(1)),
         ("search", 1) => searches::table(10),
         ("search", 2) => searches::table(number(1)),
         ("growth", 1) => searches::growth(3),
@@ -39,7 +43,7 @@ fn main() {
         ("once-growth", 2) => searches::once_growing(number(1) as u32),
         _ => {
             eprintln!(
-                "bench evaluations|search|growth [ROUNDS] | compare | once N D P | once-search NUMBER | once-growth SPLITS"
+                "bench evaluations|ranks|search|growth [ROUNDS] | compare | once N D P | once-search NUMBER | once-growth SPLITS"
             );
             std::process::exit(2);
         }

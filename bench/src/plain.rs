@@ -1,6 +1,6 @@
 //! The same loops in plain Rust: the measure that the proved ones are held to.
 
-/// What a job fixes of the loss and the shape.
+/// What a job fixes of the loss and the shape. With p = 3 `eps` is how many samples may be spoiled.
 #[derive(Clone, Copy, Debug)]
 pub struct Model {
     pub n: usize,
@@ -67,7 +67,43 @@ fn nearest_over(record: &[u8], d: usize, power: i64, low: &[i16], high: &[i16]) 
     least
 }
 
-/// The cost of a vector.
+/// The (q + 1)-th largest size, or `cap` if that is less: no more sizes are made once more than q reach the cap.
+#[inline(always)]
+fn rank(sizes: impl ExactSizeIterator<Item = u64>, q: usize, cap: u64) -> u64 {
+    let mut kept = Vec::with_capacity(sizes.len());
+    let mut reached = 0;
+    for size in sizes {
+        reached += usize::from(size >= cap);
+        if reached > q {
+            return cap;
+        }
+        kept.push(size);
+    }
+    let place = kept.len() - 1 - q;
+    *kept.select_nth_unstable(place).1
+}
+
+/// The cost of a vector with p = 3, or `cap` if that is less.
+#[inline(never)]
+pub fn rank_cost(store: &[u8], m: Model, v: &[i16; 8], cap: u64) -> u64 {
+    let v = &v[..m.n * m.d];
+    let power = 1i64 << m.scale;
+    let records = store.chunks_exact(12);
+    let sizes = records.map(|record| nearest(record, m.d, power, v));
+    rank(sizes, m.eps as usize, cap)
+}
+
+/// The bound of a box with p = 3, or `cap` if that is less.
+#[inline(never)]
+pub fn rank_bound(store: &[u8], m: Model, low: &[i16; 8], high: &[i16; 8], cap: u64) -> u64 {
+    let (low, high) = (&low[..m.n * m.d], &high[..m.n * m.d]);
+    let power = 1i64 << m.scale;
+    let records = store.chunks_exact(12);
+    let sizes = records.map(|record| nearest_over(record, m.d, power, low, high));
+    rank(sizes, m.eps as usize, cap)
+}
+
+/// The cost of a vector, where p is not 3.
 #[inline(never)]
 pub fn cost(store: &[u8], m: Model, v: &[i16; 8]) -> u64 {
     let v = &v[..m.n * m.d];
@@ -79,7 +115,7 @@ pub fn cost(store: &[u8], m: Model, v: &[i16; 8]) -> u64 {
     sum
 }
 
-/// The bound of a box.
+/// The bound of a box, where p is not 3.
 #[inline(never)]
 pub fn bound(store: &[u8], m: Model, low: &[i16; 8], high: &[i16; 8]) -> u64 {
     let (low, high) = (&low[..m.n * m.d], &high[..m.n * m.d]);
@@ -98,6 +134,9 @@ pub fn bound(store: &[u8], m: Model, low: &[i16; 8], high: &[i16; 8]) -> u64 {
 /// The cost of a vector, or `cap` if that is less: the rest of the store is not read then.
 #[inline(never)]
 pub fn cost_up_to(store: &[u8], m: Model, v: &[i16; 8], cap: u64) -> u64 {
+    if m.p == 3 {
+        return rank_cost(store, m, v, cap);
+    }
     let v = &v[..m.n * m.d];
     let power = 1i64 << m.scale;
     let mut sum = 0;
@@ -113,6 +152,9 @@ pub fn cost_up_to(store: &[u8], m: Model, v: &[i16; 8], cap: u64) -> u64 {
 /// The bound of a box, or `cap` if that is less.
 #[inline(never)]
 pub fn bound_up_to(store: &[u8], m: Model, low: &[i16; 8], high: &[i16; 8], cap: u64) -> u64 {
+    if m.p == 3 {
+        return rank_bound(store, m, low, high, cap);
+    }
     let (low, high) = (&low[..m.n * m.d], &high[..m.n * m.d]);
     let power = 1i64 << m.scale;
     let mut sum = 0;

@@ -108,8 +108,8 @@ pub fn decode(lanes: &mut [Chunk], store: &[u8], m: Model) {
     }
 }
 
-/// The cost of the low vector of a box over lanes, as a search asks for it.
-pub fn cost(store: &[u8], lanes: &[Chunk], m: Model, corners: &[i16; 16]) -> u64 {
+/// The cost of the low vector of a box over lanes, or `cap` if that is less, as a search asks for it.
+pub fn cost(store: &[u8], lanes: &[Chunk], m: Model, corners: &[i16; 16], cap: u64) -> u64 {
     // As above.
     unsafe {
         bench_cost_in(
@@ -124,13 +124,13 @@ pub fn cost(store: &[u8], lanes: &[Chunk], m: Model, corners: &[i16; 16]) -> u64
             m.eps,
             corners.as_ptr(),
             corners.len(),
-            u64::MAX,
+            cap,
         )
     }
 }
 
-/// The bound over lanes.
-pub fn bound(store: &[u8], lanes: &[Chunk], m: Model, corners: &[i16; 16]) -> u64 {
+/// The bound over lanes, or `cap` if that is less.
+pub fn bound(store: &[u8], lanes: &[Chunk], m: Model, corners: &[i16; 16], cap: u64) -> u64 {
     // As above.
     unsafe {
         bench_bound_in(
@@ -145,7 +145,7 @@ pub fn bound(store: &[u8], lanes: &[Chunk], m: Model, corners: &[i16; 16]) -> u6
             m.eps,
             corners.as_ptr(),
             corners.len(),
-            u64::MAX,
+            cap,
         )
     }
 }

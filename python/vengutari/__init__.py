@@ -8,8 +8,8 @@
 __version__ = "0.1.0"
 
 
-def fit(path, x, y, epsilon, frame=None, **settings):
-    """A certified fit of the points of a file, by one column x or a list of them.
+def fit(path, x, y, epsilon=None, frame=None, **settings):
+    """A certified fit of the points of a file, by one column x or a list of them, with a threshold epsilon or spoiled=Q.
 
     Settings are those of fitting.Settings, in the user's units; limits=run.Limits(seconds=60) ends a search after that time.
     """
@@ -17,7 +17,8 @@ def fit(path, x, y, epsilon, frame=None, **settings):
     from . import fitting, library, points
 
     columns = [x] if isinstance(x, str) else list(x)
-    asked = fitting.Settings(x=columns, y=y, frame=frame, epsilon=Fraction(str(epsilon)), **settings)
+    threshold = None if epsilon is None else Fraction(str(epsilon))
+    asked = fitting.Settings(x=columns, y=y, frame=frame, epsilon=threshold, **settings)
     return fitting.fit_table(library.find(), points.read_table(str(path)), asked)
 
 

@@ -118,7 +118,8 @@ def record_text(calls, data, saved):
 def job_text(calls, data):
     (n, d, scale, p, epsilon, t, budget, rows), low, high, start = calls.read_job(data)
     count = (len(data) - JOB_BYTES) // RECORD_BYTES
-    text = [f"job with {count} points: {n} lines of {d}, S = {scale}, p = {p}, epsilon = {epsilon}, t = {t}, budget {budget}, {rows} rows"]
+    limit = "spoiled" if p == library.SPOILED else "epsilon"
+    text = [f"job with {count} points: {n} lines of {d}, S = {scale}, p = {p}, {limit} = {epsilon}, t = {t}, budget {budget}, {rows} rows"]
     text += [f"{name}: {', '.join(map(str, values[: n * d]))}" for name, values in (("low", low), ("high", high), ("start", start))]
     return "\n".join(text) + "\n"
 

@@ -18,13 +18,17 @@ ANY_OF_THE_BEST = Fraction(1, 2**64)
 
 @dataclass
 class Settings:
-    """What the user asks for, in the user's units. Steps, scale, box and start may be None: they are then found."""
+    """What the user asks for, in the user's units. Steps, scale, box and start may be None: they are then found.
+
+    Either epsilon or spoiled, the number of samples that may be spoiled, is given; the loss is with epsilon alone.
+    """
 
     x: list
     y: str
     frame: str = None
     lines: int = 1
-    epsilon: Fraction = Fraction(1)
+    epsilon: Fraction = None
+    spoiled: int = None
     loss: str = "square"
     offset: bool = None
     x_steps: list = None
@@ -76,6 +80,17 @@ class Fit:
         """The coefficients of a line, in the user's units."""
         return self.scaling.line(self.vector, j)
 
+    @property
+    def labelled(self):
+        """The model of the labels."""
+        return label_model(self.model, self.answer.cost)
+
+    @property
+    def reach(self):
+        """How far from its line a sample is labelled as the line's, in y's units."""
+        spoiled = self.settings.spoiled is not None
+        return self.labelled.epsilon * self.scaling.cost_unit(calls.SPOILED) if spoiled else self.settings.epsilon
+
 
 @dataclass
 class Beacon:
@@ -111,7 +126,12 @@ def check_shape(settings):
     if settings.lines * settings.d > 8:
         count = settings.lines * settings.d
         raise BadUse(f"--lines, --x: {settings.lines} lines of {settings.d} coefficients are {count}, at most 8 are taken")
-    if settings.epsilon < 0 or (settings.epsilon == 0 and settings.loss != "count"):
+    if (settings.epsilon is None) == (settings.spoiled is None):
+        raise BadUse("--epsilon, --spoiled: give one of the two")
+    if settings.spoiled is not None:
+        if settings.spoiled < 0:
+            raise BadUse(f"--spoiled: {settings.spoiled} is less than 0")
+    elif settings.epsilon < 0 or (settings.epsilon == 0 and settings.loss != "count"):
         raise BadUse("--epsilon: a threshold is more than 0; about 3 to 4 times the noise is a good choice")
 
 
@@ -137,6 +157,36 @@ def whole_epsilon(settings, scales, notes):
         used = scaling.digits_of(epsilon * scales.y.unit / 2**scales.scale, 6)
         notes.append(f"epsilon is rounded to the grid: {used} is used")
     return epsilon
+
+
+def label_model(model, cost):
+    """What labels are made with. Spoiled samples have no threshold: it is then the cost, which no other sample's distance exceeds."""
+    return model._replace(p=0, epsilon=min(cost, calls.LARGEST_EPSILON)) if model.p == calls.SPOILED else model
+
+
+def spoiled_in(settings, rows, points, samples):
+    """How many samples of the store may be spoiled: those that 16 bits do not hold are spoiled too, and are not in it."""
+    far = sum(row is None and y is not None for row, y in zip(rows, points.y))
+    if far > settings.spoiled:
+        raise BadInput(f"--spoiled: {far} rows lie far beyond the others, outside 16 bits, but only {settings.spoiled} may be spoiled")
+    if settings.spoiled - far >= len(samples):
+        raise BadInput(f"--spoiled: {settings.spoiled} of {len(samples) + far} samples: at least one must be sound")
+    return settings.spoiled - far
+
+
+def guessed(library, settings, scales, samples, spoiled):
+    """A first guess where it is needed, and the threshold in whole numbers before the scale: the user's, or by the lines at hand."""
+    needed = None in (settings.box, settings.start)
+    if spoiled is None:
+        epsilon = settings.epsilon / scales.y.unit
+        return proposal.propose(library, samples, settings.lines, float(epsilon)) if needed else None, epsilon
+    if needed:
+        guess, epsilon = proposal.propose_spoiled(library, samples, settings.lines, spoiled)
+    else:
+        guess, start = None, whole_units(settings.start, scales)
+        lines = [[float(c) for c in start[k : k + scales.d]] for k in range(0, len(start), scales.d)]
+        epsilon = proposal.spoiled_cost(library, samples, lines, spoiled) or 0
+    return guess, Fraction(epsilon)
 
 
 def start_of(library, settings, scales, job, guess, notes):
@@ -184,8 +234,8 @@ def row_labels(library, model, scales, vector, points, rows):
 
 
 def beacons_of(library, model, vector, store, kept):
-    """What each beacon costs, in the order of the file; a row that is not in the store is in none."""
-    if not calls.BEACONS:
+    """What each beacon costs, in the order of the file; a row that is not in the store is in none. A largest distance is no sum."""
+    if not calls.BEACONS or model.p == calls.SPOILED:
         return []
     groups = [kept[k : k + calls.BEACON_RECORDS] for k in range(0, len(kept), calls.BEACON_RECORDS)]
     return [Beacon(rows[0], rows[-1], cost) for rows, cost in zip(groups, library.cost_by_beacon(store, model, vector))]
@@ -219,16 +269,18 @@ def fit(library, points, settings, progress=None):
     store, kept = scaling.store_of(rows, points.frame)
     if len(kept) > calls.MOST_RECORDS:
         raise BadInput(f"{len(kept):,} points, but a search takes at most {calls.MOST_RECORDS:,}: give a part, or every second row")
-    epsilon = settings.epsilon / scales.y.unit
-    guess = proposal.propose(library, samples, settings.lines, float(epsilon)) if None in (settings.box, settings.start) else None
+    spoiled = None if settings.spoiled is None else spoiled_in(settings, rows, points, samples)
+    guess, epsilon = guessed(library, settings, scales, samples, spoiled)
     low, high = box_of(settings, scales, samples, guess, epsilon)
     scales.scale = scaling.choose_scale(samples, epsilon, [abs(value) for value in [*low, *high]], settings.scale)
-    notes += points.notes + offset_notes(settings) + row_notes(rows, points, settings.y) + coarse_notes(samples, epsilon, scales)
-    model = calls.Model(settings.lines, scales.d, scales.scale, calls.LOSSES[settings.loss], whole_epsilon(settings, scales, notes))
+    notes += points.notes + offset_notes(settings) + row_notes(rows, points, settings.y) + coarse_notes(settings, samples, epsilon, scales)
+    model = model_of(settings, scales, spoiled, notes)
     job = run.Job(store, model, *scaling.outward(low, high, scales.scale), [])
     job.start = start_of(library, settings, scales, job, guess, notes)
     outcome = run.search(library, job, settings.limits, progress and progress(scales.cost_unit(model.p)))
-    labels = row_labels(library, model, scales, outcome.answer.vector, points, rows)
+    labelled = label_model(model, outcome.answer.cost)
+    notes += label_notes(model, scales, outcome.answer.cost)
+    labels = row_labels(library, labelled, scales, outcome.answer.vector, points, rows)
     beacons = beacons_of(library, model, outcome.answer.vector, store, kept)
     made = Fit(settings, scales, model, job.low, job.high, outcome, notes, points, labels, beacons)
     if settings.wide and outcome.stopped != "interrupt":
@@ -236,13 +288,32 @@ def fit(library, points, settings, progress=None):
     return made
 
 
-def coarse_notes(samples, epsilon, scales):
+def model_of(settings, scales, spoiled, notes):
+    shape = settings.lines, scales.d, scales.scale
+    if spoiled is not None:
+        return calls.Model(*shape, calls.SPOILED, spoiled)
+    return calls.Model(*shape, calls.LOSSES[settings.loss], whole_epsilon(settings, scales, notes))
+
+
+def label_notes(model, scales, cost):
+    """A cost that is more than labels can be told by."""
+    if model.p != calls.SPOILED or cost <= calls.LARGEST_EPSILON:
+        return []
+    most = scaling.digits_of(calls.LARGEST_EPSILON * scales.cost_unit(model.p), 4)
+    return [f"the cost is more than labels can be told by: they go by a distance of {most}; "
+            "more samples may be spoiled than --spoiled says"]
+
+
+def coarse_notes(settings, samples, epsilon, scales):
     """A grid that 16 bits keep coarser than it should be."""
     reach = max(abs(value) for x, _ in samples for value in x)
     if epsilon and reach * scaling.GRID_PART > 2 * epsilon * 2**scales.scale:
         moved = reach * scales.y.unit / 2**scales.scale
-        return [f"the grid is coarse: one step moves a line by up to {scaling.digits_of(moved, 3)}, where epsilon is "
-                f"{scaling.shown(epsilon * scales.y.unit)}; a narrower box or a larger --scale makes it finer"]
+        near = f"epsilon is {scaling.shown(epsilon * scales.y.unit)}"
+        if settings.spoiled is not None:
+            near = f"the first guess lies within {scaling.digits_of(epsilon * scales.y.unit, 3)}"
+        return [f"the grid is coarse: one step moves a line by up to {scaling.digits_of(moved, 3)}, where {near}; "
+                "a narrower box or a larger --scale makes it finer"]
     return []
 
 
@@ -268,7 +339,7 @@ def wide_search(library, made, samples, store, progress):
     """Counts points over a wide box, from the lines found: no others fit more than the samples less its bound."""
     settings, n = made.settings, made.settings.lines
     low, high = wide_box(samples, made.scaling, n)
-    epsilon = settings.epsilon / made.scaling.y.unit
+    epsilon = made.reach / made.scaling.y.unit
     scale = min(made.scaling.scale, scaling.choose_scale(samples, epsilon, [abs(value) for value in high], None))
     scales = dataclasses.replace(made.scaling, scale=scale)
     model = calls.Model(n, scales.d, scale, 0, scaling.rounded(epsilon * 2**scale, Fraction(1)))

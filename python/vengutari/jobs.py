@@ -19,7 +19,7 @@ import struct
 import subprocess
 from fractions import Fraction
 
-from .library import ANSWER_BYTES, GAP_Y, KINDS, LARGEST_EPSILON, LOSSES, MESSAGES, MOST_RECORDS
+from .library import ANSWER_BYTES, GAP_Y, KINDS, LARGEST_EPSILON, LOSSES, MESSAGES, MOST_RECORDS, SPOILED
 from .outputs import Outputs, say
 from .points import NO_SAMPLE, read_bytes
 from .problems import BadUse
@@ -32,6 +32,8 @@ LARGEST_COST = 1_152_921_367_167_897_600
 COLUMNS = ("x1", "x2", "x3", "x4", "y", "frame")
 # A loss by its name or its number.
 NAMED_LOSSES = {**LOSSES, **{str(p): p for p in LOSSES.values()}}
+# Those of an answer: a limit on spoiled samples too, which a job has in place of loss and threshold.
+ANSWERED_LOSSES = {**NAMED_LOSSES, "spoiled": SPOILED, str(SPOILED): SPOILED}
 SOLVED = "no vector of the box costs less than the bound, and the cost is within the tolerance of it"
 # Why a search ended before it was solved.
 ENDS = {"spent": "the split budget is used up", "full": "the table has no row left"}
@@ -78,7 +80,7 @@ def on_grid(value, unit, what):
 
 def cost_unit(scale, loss):
     """What a cost of 1 stands for: a point, or 1 / 2^S, or its square."""
-    return Fraction(1, 2**scale) ** loss
+    return Fraction(1, 2**scale) ** (1 if loss == SPOILED else loss)
 
 
 # Points
@@ -199,6 +201,18 @@ def read_epsilon(text, unit, loss):
     return epsilon
 
 
+def read_loss(options, unit):
+    """The loss and its threshold, or in their place the number of samples that may be spoiled."""
+    if options.spoiled is None:
+        if options.loss is None or options.epsilon is None:
+            raise BadInput("--loss, --epsilon: both are needed, or --spoiled in place of both")
+        loss = NAMED_LOSSES[options.loss]
+        return loss, read_epsilon(options.epsilon, unit, loss)
+    if options.loss is not None or options.epsilon is not None:
+        raise BadInput("--spoiled: takes the place of --loss and --epsilon; give the one or the two")
+    return SPOILED, whole(options.spoiled, "--spoiled", 0, MOST_RECORDS - 1)
+
+
 def read_tolerance(text, unit):
     """A tolerance may fall between two costs; the smaller one then says the same."""
     t = number(text, "--tolerance") / unit
@@ -215,15 +229,15 @@ def job_of(options):
     if n * d > 8:
         raise BadInput(f"--lines, --dimensions: {n} lines of {d} are {n * d} coordinates, but at most 8 are taken")
     scale = whole(options.scale, "--scale", 0, 15)
-    loss = NAMED_LOSSES[options.loss]
     unit = Fraction(1) if options.integers else Fraction(1, 2**scale)
+    loss, epsilon = read_loss(options, unit)
     low, high = read_box(options.box, n * d, unit)
     return {
         "n": n,
         "d": d,
         "S": scale,
         "p": loss,
-        "epsilon": read_epsilon(options.epsilon, unit, loss),
+        "epsilon": epsilon,
         "t": read_tolerance(options.tolerance, Fraction(1) if options.integers else cost_unit(scale, loss)),
         "budget": whole(options.budget, "--budget", 0, 2**32 - 1),
         "rows": whole(options.rows, "--rows", 1, MOST_ROWS),
@@ -327,7 +341,10 @@ def command_job(options):
         text = read_bytes(options.points).decode("utf-8-sig")
     except UnicodeDecodeError:
         raise BadInput(f"{options.points}: not a text file") from None
-    data = job_bytes(job) + store_bytes(read_points(text.splitlines(), job["d"], options.points))
+    points = read_points(text.splitlines(), job["d"], options.points)
+    if job["p"] == SPOILED and job["epsilon"] >= len(points):
+        raise BadInput(f"--spoiled: {job['epsilon']} is not below the number of points, {len(points)}")
+    data = job_bytes(job) + store_bytes(points)
     outputs.stage("--output", data)
     outputs.place()
     if options.fit is None:
@@ -345,7 +362,7 @@ def command_job(options):
 
 def command_answer(options):
     answer = decode_answer(read_bytes(options.record))
-    loss = None if options.loss is None else NAMED_LOSSES[options.loss]
+    loss = None if options.loss is None else ANSWERED_LOSSES[options.loss]
     say(report(answer, answer["d"], answer["S"], loss) + "\n")
     return 0
 
@@ -358,10 +375,12 @@ def add_commands(commands):
     job.add_argument("--dimensions", required=True, metavar="D", help="number of x used, 1 to 4; N x D is at most 8")
     job.add_argument("--scale", default="0", metavar="S", help="coefficients are multiples of 1 / 2^S, S from 0 to 15 (default 0)")
     job.add_argument(
-        "--loss", required=True, choices=sorted(NAMED_LOSSES),
+        "--loss", choices=sorted(NAMED_LOSSES),
         help="0 or count: points farther than epsilon; 1 or absolute: distance, at most epsilon; 2 or square: its square",
     )
-    job.add_argument("--epsilon", required=True, metavar="E", help="the threshold, in the units of y")
+    job.add_argument("--epsilon", metavar="E", help="the threshold, in the units of y")
+    job.add_argument("--spoiled", metavar="Q", help="in place of loss and threshold: so many points may be spoiled, fewer than there are, "
+                     "gaps counted; the cost is the largest distance of the others")
     job.add_argument(
         "--box", required=True, metavar="LOW:HIGH[,..]",
         help="range of the coefficients: one for all, or one each, line after line; write --box=-1:1 where it begins with -",
@@ -379,4 +398,4 @@ def add_commands(commands):
     answer = commands.add_parser("answer", help="print an answer record")
     answer.set_defaults(run=command_answer)
     answer.add_argument("record", metavar="RECORD", help="the 40 bytes; - for standard input")
-    answer.add_argument("--loss", choices=sorted(NAMED_LOSSES), help="the job's loss, to print costs in the units of y")
+    answer.add_argument("--loss", choices=sorted(ANSWERED_LOSSES), help="the job's loss, to print costs in the units of y")

@@ -39,12 +39,14 @@ OUTLIER, UNDECIDED = 0, 5
 GAP = 6 if GAPS else None
 KINDS = {1: "solved", 2: "spent", 3: "full"}
 LOSSES = {"count": 0, "absolute": 1, "square": 2}
+# The p with a limit q on spoiled samples, which stands in the place of epsilon: the cost is the (q + 1)-th largest distance.
+SPOILED = 3
 
 MESSAGES = {
     1: "length: a store or beacon is empty, too long or not whole records, or a job record is not whole",
     2: "shape: lines, dimensions or their product out of range",
     3: "scale: over 15",
-    4: "loss: loss or threshold out of range",
+    4: "loss: loss, threshold or number of spoiled samples out of range",
     5: "box: low over high, an unused coordinate not 0, or one vector where a box is to be split",
     6: "start: outside the box, or an unused coordinate not 0",
     7: "stray: an x after the last dimension is not 0",

@@ -5,7 +5,7 @@ import re
 from fractions import Fraction
 
 from . import __version__, fitting, jobs, run
-from .library import LOSSES, MOST_SPLITS
+from .library import LOSSES, MOST_RECORDS, MOST_SPLITS
 from .points import number
 from .problems import BadInput, BadUse
 
@@ -56,9 +56,11 @@ def add_fit(commands):
     points.add_argument("--y-step", metavar="STEP", help="what y is a multiple of (default: found from the data)")
     lines = fit.add_argument_group("lines")
     lines.add_argument("--lines", default="1", metavar="N", help="how many lines, 1 to 4 (default 1)")
-    lines.add_argument("--epsilon", required=True, metavar="E",
-                       help="how far from its line a point may lie, in y's units; 3 to 4 times the noise")
-    lines.add_argument("--loss", choices=list(LOSSES), default="square",
+    limit = lines.add_mutually_exclusive_group(required=True)
+    limit.add_argument("--epsilon", metavar="E", help="how far from its line a point may lie, in y's units; 3 to 4 times the noise")
+    limit.add_argument("--spoiled", metavar="Q",
+                       help="in place of a threshold: so many samples may be spoiled; the cost is the largest distance of the others")
+    lines.add_argument("--loss", choices=list(LOSSES), default=None,
                        help="what a point adds to the cost: 1 if outside epsilon, or its distance or square, cut there (default square)")
     lines.add_argument("--offset", action=argparse.BooleanOptionalAction, default=None,
                        help="lines need not pass through 0 (default: on where --x names one column)")
@@ -177,11 +179,15 @@ def names_of(text, what="--x"):
 def settings_of(options):
     """The settings of a fit, in the user's units."""
     x = names_of(options.x)
+    if options.spoiled is not None and options.loss is not None:
+        raise BadUse("--spoiled, --loss: a number of spoiled samples takes the place of threshold and loss; give one of the two")
     if options.margin is not None and options.box is not None:
         raise BadUse("--margin, --box: a margin is for a box that is found; give one of the two")
     made = fitting.Settings(
         x=x, y=options.y, frame=options.frame, lines=whole(options.lines, "--lines", 1, 4), offset=options.offset,
-        epsilon=decimal(options.epsilon, "--epsilon", least=0), loss=options.loss, wide=options.wide, limits=limits_of(options),
+        epsilon=None if options.epsilon is None else decimal(options.epsilon, "--epsilon", least=0),
+        spoiled=None if options.spoiled is None else whole(options.spoiled, "--spoiled", 0, MOST_RECORDS - 1),
+        loss=options.loss or "square", wide=options.wide, limits=limits_of(options),
         y_step=None if options.y_step is None else decimal(options.y_step, "--y-step", positive=True),
         scale=None if options.scale is None else whole(options.scale, "--scale", 0, 15),
         margin=fitting.MARGIN if options.margin is None else decimal(options.margin, "--margin", positive=True),

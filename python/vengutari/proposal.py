@@ -11,7 +11,7 @@ import math
 import random
 
 from . import scaling
-from .library import LARGEST_EPSILON, Model
+from .library import LARGEST_EPSILON, SPOILED, Model
 from .problems import BadInput
 
 SEED = 1
@@ -20,6 +20,11 @@ DRAWS = {1: 40, 2: 120, 3: 250, 4: 500}
 # So many points at most are drawn from and costed while sampling.
 SAMPLE = 400
 TURNS = 40
+# Without a threshold, guesses are made by several, each so many times smaller than the one before.
+THRESHOLDS = 8
+SMALLER = 3
+# So many points at most are guessed from by each of them.
+FEWER = 1000
 
 
 def solve(matrix, right):
@@ -134,6 +139,36 @@ def propose(library, points, n, epsilon):
         raise BadInput(f"{len(points)} points are too few for lines of {len(points[0][0])} coefficients: give --box")
     lines = Search(library, points, n, epsilon).best()
     return sorted(lines, key=lambda line: -line[0])
+
+
+def spoiled_cost(library, points, lines, spoiled):
+    """The largest distance of a point to its nearest line but for so many, in whole units of y, or None where no scale holds the lines."""
+    scale = scaling.widest_scale([abs(c) for line in lines for c in line], 0)
+    if scale < 0:
+        return None
+    store, _ = scaling.store_of(points, [0] * len(points))
+    vector = [round(c * 2**scale) for line in lines for c in line]
+    return library.cost(store, Model(len(lines), len(lines[0]), scale, SPOILED, spoiled), vector) / 2**scale
+
+
+def propose_spoiled(library, points, n, spoiled):
+    """Lines that all points but so many lie near, and how near: the best guess by several thresholds, and then by its own distance."""
+    fewer = points if len(points) <= FEWER else random.Random(SEED).sample(points, FEWER)
+    y = [value for _, value in points]
+    threshold, best = float(max(1, max(y) - min(y))), None
+    for _ in range(THRESHOLDS):
+        threshold /= SMALLER
+        lines = propose(library, fewer, n, threshold)
+        cost = spoiled_cost(library, points, lines, spoiled)
+        if cost is not None and (best is None or cost < best[1]):
+            best = (lines, cost)
+        if threshold < 1 or (best is not None and threshold < best[1] / SMALLER):
+            break
+    if best is None:
+        raise BadInput("no lines to begin with were found in these points: give --box and --start")
+    lines = propose(library, points, n, best[1])
+    cost = spoiled_cost(library, points, lines, spoiled)
+    return (lines, cost) if cost is not None and cost < best[1] else best
 
 
 def margins(points, scaling_, epsilon, margin):

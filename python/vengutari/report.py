@@ -7,8 +7,8 @@ from fractions import Fraction
 from . import __version__
 from .library import BEACON_RECORDS, GAP, OUTLIER, UNDECIDED
 from .picture import Picture, reach
-from .result import LABELS, SUMMED, advice, box_text, certificate, cost_text, equation, gap_text, grid_text, headline, line_value
-from .result import root_mean_square, rows_of, rows_text, settled, wide_sentence
+from .result import LABELS, advice, box_text, certificate, cost_text, equation, gap_text, grid_text, headline, line_value, loss_text
+from .result import root_mean_square, rows_of, rows_text, settled, spoiled_text, wide_sentence
 from .scaling import digits_of, on_step, shown
 
 # Colours that people with any colour sight tell apart, and a shape for each, for prints without colour.
@@ -48,7 +48,12 @@ class Report:
         self.lines = [fit.line(j) for j in range(self.n)]
         self.rows = rows_of(self.lines, fit.points, fit.labels)
         self.labels = [label for label in (*range(1, self.n + 1), *LABELS) if label in fit.labels]
-        self.epsilon = float(fit.settings.epsilon)
+        self.epsilon = float(fit.reach)
+        self.near = "epsilon" if fit.settings.spoiled is None else "the cost"
+
+    def reach(self):
+        """How far from a line its samples lie at most."""
+        return f"{shown(self.fit.reach)} {self.fit.settings.y}"
 
     def tip(self, k):
         """What a point says when it is pointed at."""
@@ -80,7 +85,7 @@ class Report:
             x = {k: self.rows[k].fitted for k in samples}
             both = reach([*x.values(), *y.values()])
             picture = Picture(both, both, f"{fit.settings.y} by the lines", fit.settings.y, "points against the lines")
-            picture.band([(v, v) for v in picture.x], self.epsilon, "#777777", "equal, within epsilon")
+            picture.band([(v, v) for v in picture.x], self.epsilon, "#777777", f"equal, within {self.near}")
         self.put_points(picture, [(k, x[k], y[k]) for k in samples])
         return picture.svg(520)
 
@@ -91,7 +96,7 @@ class Report:
         inside = [abs(residual) for _, residual in samples if abs(residual) <= 4 * self.epsilon]
         most = 1.2 * max([self.epsilon, *inside]) or 1.0
         picture = Picture(reach(fit.points.counted), (-most, most), "frame", f"residual of {fit.settings.y}", "residuals by frame")
-        picture.band([(v, 0.0) for v in picture.x], self.epsilon, "#777777", "within epsilon")
+        picture.band([(v, 0.0) for v in picture.x], self.epsilon, "#777777", f"within {self.near}")
         edge = 0.95 * most
         places = [(k, fit.points.counted[k], max(-edge, min(edge, residual))) for k, residual in samples]
         places += [(k, fit.points.counted[k], -most) for k, row in enumerate(self.rows) if row.residual is None]
@@ -143,8 +148,7 @@ class Report:
         pairs = [
             ("file", fit.source), ("rows", len(self.rows)), ("columns", fit.scaling.steps()),
             ("offset", f"a column of {fit.scaling.x[-1].factor}" if fit.scaling.offset else "none: lines through 0"),
-            ("loss", f"{fit.settings.loss}: the sum of each point's {SUMMED[fit.model.p]}" + (", cut at epsilon" if fit.model.p else "")),
-            ("epsilon", f"{shown(fit.settings.epsilon)} {fit.settings.y}"),
+            ("loss", loss_text(fit)), ("epsilon" if fit.settings.spoiled is None else "labelled within", self.reach()),
             ("cost C", cost_text(fit, answer.cost)), ("bound L", cost_text(fit, answer.bound)), ("gap", gap_text(answer)),
             ("splits, open boxes, peak", f"{answer.splits:,}, {answer.open:,}, {answer.peak:,}"),
             ("grid", grid_text(fit.scaling)), ("scale S", fit.scaling.scale), ("vector w", ", ".join(map(str, fit.vector))),
@@ -164,12 +168,16 @@ class Report:
             parts.append(f"Next: {escaped(advice(fit))}.")
         return f'<div class="verdict {"solved" if settled(fit) else "open"}">' + "<br>".join(parts) + "</div>"
 
+    def said(self):
+        spoiled = [] if self.fit.settings.spoiled is None else [spoiled_text(self.fit)]
+        return [rows_text(self.fit.labels), *spoiled, *self.fit.notes]
+
     def notes(self):
-        return "<ul>" + "".join(f"<li>{escaped(note)}</li>" for note in [rows_text(self.fit.labels), *self.fit.notes]) + "</ul>"
+        return "<ul>" + "".join(f"<li>{escaped(note)}</li>" for note in self.said()) + "</ul>"
 
     def page(self):
         title = f"{self.fit.settings.y}: {self.n} line{'s' if self.n > 1 else ''} from {os.path.basename(self.fit.source)}"
-        band = f"epsilon, {shown(self.fit.settings.epsilon)} {escaped(self.fit.settings.y)}, to either side."
+        band = f"{self.near}, {escaped(self.reach())}, to either side."
         several = len(self.fit.settings.x) > 1
         caption = f"A point on the diagonal lies on its line; the band reaches {band}" if several else f"Bands reach {band}"
         return (

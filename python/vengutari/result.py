@@ -18,6 +18,7 @@ LABELS = {
     GAP: ("gap", "gaps") if library.GAPS else ("no y", "without y"),
 }
 SUMMED = ("points outside epsilon", "distance", "squared distance")
+UNITS = ("", " {}", " {}²", " {}")
 
 
 # Lines and rows
@@ -86,7 +87,21 @@ def cost_text(fit, cost):
     """A cost in the user's units."""
     if fit.model.p == 0:
         return f"{cost:,} points"
-    return digits_of(cost * fit.scaling.cost_unit(fit.model.p), 6) + ("", f" {fit.settings.y}", f" {fit.settings.y}²")[fit.model.p]
+    return digits_of(cost * fit.scaling.cost_unit(fit.model.p), 6) + UNITS[fit.model.p].format(fit.settings.y)
+
+
+def loss_text(fit):
+    """What the cost is."""
+    p, spoiled = fit.model.p, fit.settings.spoiled
+    if p == library.SPOILED:
+        return f"spoiled: the largest distance of a sample to its nearest line, but for the {spoiled} that lie farthest"
+    return f"{fit.settings.loss}: the sum of each point's {SUMMED[p]}" + (", cut at epsilon" if p else "")
+
+
+def spoiled_text(fit):
+    """What a limit on spoiled samples says of the samples."""
+    several = "lines" if fit.model.n > 1 else "line"
+    return f"all samples but at most {fit.settings.spoiled} lie within {cost_text(fit, fit.answer.cost)} of the {several}"
 
 
 def side_text(scaling, k, low, high):
@@ -175,6 +190,8 @@ def summary(fit):
         rms = "" if not residuals else f", RMS {digits_of(Fraction(root_mean_square(residuals)), 3)}"
         text.append(f"line {j + 1}: {equation(fit.scaling, line)}   ({len(residuals)} points{rms})")
     text.append(rows_text(fit.labels))
+    if fit.settings.spoiled is not None:
+        text.append("spoiled: " + spoiled_text(fit))
     boxes = box_text(fit.scaling, fit.low, fit.high)
     text.append("box: " + "; ".join(f"line {j + 1} {box}" for j, box in enumerate(boxes)))
     text.append("grid: " + grid_text(fit.scaling))
@@ -250,7 +267,8 @@ def as_json(fit):
         "beacons": beacons_json(fit), "box": box_json(fit.scaling, fit.low, fit.high),
         "settings": {
             "x": settings.x, "y": settings.y, "frame": settings.frame, "lines": fit.model.n, "offset": fit.scaling.offset,
-            "loss": settings.loss, "p": fit.model.p, "epsilon": shown_exactly(settings.epsilon), "epsilon_whole": fit.model.epsilon,
+            "loss": settings.loss if settings.spoiled is None else "spoiled", "p": fit.model.p, "spoiled": settings.spoiled,
+            "epsilon": shown_exactly(fit.reach), "epsilon_whole": fit.labelled.epsilon,
             "tolerance": fit.outcome.t,
         },
         "scaling": scaling_json(fit.scaling), "notes": fit.notes, "next": advice(fit), "wide": None,

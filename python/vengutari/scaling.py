@@ -67,7 +67,7 @@ class Scaling:
 
     def cost_unit(self, p):
         """What a cost of 1 stands for: a point, or a distance in y, or its square."""
-        return (self.y.unit / 2**self.scale) ** p
+        return (self.y.unit / 2**self.scale) ** (1 if p == library.SPOILED else p)
 
 
 def decimals(value):

@@ -3,7 +3,7 @@
 use mathlib.Core.Bool.{true}
 use mathlib.Core.List.{List}
 use mathlib.Core.Path.{_≡_, refl, _∙_}
-use Prim.Native.Nat.{ℕ, _≤_}
+use Prim.Native.Nat.{ℕ, zero, suc, _≤_}
 use native.Mathlib.Omega.{arith}
 use borrow.Author.Tests.{le-leb}
 use lib.Dec.{T}
@@ -12,6 +12,7 @@ use lib.ListN.{length}
 use mir.Syntax.{w16}
 use mir.Val.{SFits}
 use Rattle.integers.specs.Lists.{All, none, also}
+use Rattle.integers.proofs.Parts.{abs-fits}
 use Rattle.integers.proofs.Signed.{fits-between}
 use Rattle.integers.proofs.Tests.{is-true}
 use Rattle.codes.specs.declared.Check.the-variants.{Pass, Refuse}
@@ -26,6 +27,7 @@ use Rattle.boxes.proofs.Volume.{between-length}
 use Rattle.scale.specs.Scale.{checkScale}
 use Rattle.fields.specs.Fields.{IsVector}
 use Rattle.jobs.specs.declared.Job.{Job}
+use Rattle.residuals.specs.Laws.{Small}
 use Rattle.model.specs.Calls.{checkModel}
 use Rattle.model.proofs.Passed.{cost-limit}
 use Rattle.rows.specs.Rows.{rowCount}
@@ -59,6 +61,15 @@ vector-between i low high = record {
   eight = between-length (i .between) .0 ∙ low .eight;
   signed = signed-between (i .between) (low .signed) (high .signed);
 }
+
+-- its coordinates have 16 bits
+each-small : {v : List ℤ} → All (λ w. SFits w16 w) v → Small v
+each-small none k = omega arith
+each-small (also f fs) zero = abs-fits w16 f
+each-small (also f fs) (suc k) = each-small fs k
+
+vector-small : {v : List ℤ} → IsVector v → Small v
+vector-small is = each-small (is .signed)
 
 module _ (store : List ℕ) (job : Job) (table : List ℤ) (bounds : List ℕ) where
   -- a refused answer's kind has the number 0
@@ -103,39 +114,43 @@ module _ (store : List ℕ) (job : Job) (table : List ℤ) (bounds : List ℕ) w
     unfolding recordOf
     ordered = demand .ordered
 
-    cost-in-range : written .cost ≤ 1152921367167897600
-    unfolding recordOf
-    cost-in-range = omega (arith, demand .exact, cost-limit store (job .model) .most (runs .checked) (found .vector))
-
     unused-zero : T (unusedZero (written .n) (written .d) (written .vector))
     unfolding recordOf
     unused-zero = in-unused (job .model .n) (job .model .d) (job .domain) (found .vector) (runs .boxed) (demand .inside)
 
-    passes-9 : checkAnswer written ≡ Pass
-    unfolding recordOf checkAnswer
-    passes-9 =
-        rw (
-          kind-in-range (found .kind),
-          shape-checked,
-          scale-checked,
-          is-true (unusedZero (written .n) (written .d) (written .vector)) unused-zero,
-          le-leb (written .bound) (written .cost) ordered,
-          le-leb (written .cost) 1152921367167897600 cost-in-range,
-        )
+    module _ (is : IsJob job) where
+      vector-is : IsVector (found .vector)
+      vector-is = vector-between (demand .inside) (is .low) (is .high)
 
-    fits : IsJob job → IsAnswer written
-    unfolding recordOf
-    fits is = record {
-      vector = vector-between (demand .inside) (is .low) (is .high);
-      cost = record { fits = omega (arith, cost-in-range) };
-      bound = record { fits = omega (arith, cost-in-range, ordered) };
-      count = record { fits = omega (arith, within-budget, is .budget .fits) };
-    }
+      cost-in-range : written .cost ≤ 1152921367167897600
+      unfolding recordOf
+      cost-in-range = omega (arith, demand .exact, cost-limit store (job .model) .most (runs .checked) (found .vector) (vector-small vector-is))
+
+      passes-9 : checkAnswer written ≡ Pass
+      unfolding recordOf checkAnswer
+      passes-9 =
+          rw (
+            kind-in-range (found .kind),
+            shape-checked,
+            scale-checked,
+            is-true (unusedZero (written .n) (written .d) (written .vector)) unused-zero,
+            le-leb (written .bound) (written .cost) ordered,
+            le-leb (written .cost) 1152921367167897600 cost-in-range,
+          )
+
+      fits : IsAnswer written
+      unfolding recordOf
+      fits = record {
+        vector = vector-is;
+        cost = record { fits = omega (arith, cost-in-range) };
+        bound = record { fits = omega (arith, cost-in-range, ordered) };
+        count = record { fits = omega (arith, within-budget, is .budget .fits) };
+      }
 
   pub record-fits : RecordFits store job table bounds
   record-fits = record {
-    accepted = λ ok. rw (tells ok) (passes-9 ok);
+    accepted = λ ok is. rw (tells ok) (passes-9 ok is);
     refused = refused-by-9;
     numbers = λ ok is. rw (tells ok) (fits ok is);
-    reads = λ ok is. rw (tells ok) (answer-round-trip .written-reads (written ok) (fits ok is) (passes-9 ok));
+    reads = λ ok is. rw (tells ok) (answer-round-trip .written-reads (written ok) (fits ok is) (passes-9 ok is));
   }

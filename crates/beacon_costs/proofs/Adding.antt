@@ -1,5 +1,5 @@
--- The costs of groups add up to the plain cost, and a store has at most 216 groups. Assumes nothing.
-use mathlib.Core.Path.{_≡_, refl, ap, _∙_}
+-- For p of 0, 1 or 2 the costs of groups add up to the plain cost, and a store has at most 216 groups. Assumes nothing.
+use mathlib.Core.Path.{_≡_, sym, ap, _∙_}
 use mathlib.Core.Bool.{_&&_}
 use mathlib.Core.List.{List, [], _∷_, _++_}
 use Prim.Native.Nat.{ℕ, zero, suc, _+_, _*_, _/_, _%_, _≤_}
@@ -17,28 +17,32 @@ use Rattle.jobs.specs.declared.Model.{Model}
 use Rattle.points.specs.declared.Point.{Point}
 use Rattle.points.specs.Points.{firstPoints, pointsOf, checkStore}
 use Rattle.points.proofs.Laws.{points-length}
-use Rattle.residuals.specs.Cost.{totalLoss, cost}
+use Rattle.residuals.specs.Cost.{sizeAt, totalLoss, cost}
 use Rattle.residuals.specs.Inside.{sumOf}
+use Rattle.residuals.proofs.Bounds.{cost-sum}
 use Rattle.beacon_costs.specs.BeaconCosts.{group, groups, groupCost, total}
 use Rattle.beacon_costs.specs.Laws.{AllGrouped}
 
 module _ (m : Model) (v : List ℤ) where
-  cost-append : (ps qs : List Point) → cost m (ps ++ qs) v ≡ cost m ps v + cost m qs v
-  unfolding cost totalLoss
-  cost-append [] qs = omega arith
-  cost-append (p ∷ ps) qs = omega (arith, cost-append ps qs)
+  total-append : (ps qs : List Point) → totalLoss m (sizeAt m v) (ps ++ qs) ≡ totalLoss m (sizeAt m v) ps + totalLoss m (sizeAt m v) qs
+  unfolding totalLoss
+  total-append [] qs = omega arith
+  total-append (p ∷ ps) qs = omega (arith, total-append ps qs)
 
-module _ (m : Model) (qs : List Point) (v : List ℤ) where
+  cost-append : m .p ≤ 2 → (ps qs : List Point) → cost m (ps ++ qs) v ≡ cost m ps v + cost m qs v
+  cost-append picked ps qs = omega (arith, total-append ps qs, cost-sum m (ps ++ qs) picked v, cost-sum m ps picked v, cost-sum m qs picked v)
+
+module _ (m : Model) (picked : m .p ≤ 2) (qs : List Point) (v : List ℤ) where
   -- one group more
   pub one-group : (n : ℕ) → cost m (take (n * 19 + 19) qs) v ≡ cost m (take (n * 19) qs) v + groupCost m qs v n
   unfolding groupCost group
   one-group n =
       ap (λ (ps : List Point). cost m ps v) (take-add (n * 19) 19 qs)
-      ∙ cost-append m v (take (n * 19) qs) (take 19 (drop (n * 19) qs))
+      ∙ cost-append m v picked (take (n * 19) qs) (take 19 (drop (n * 19) qs))
 
   first-groups : (n : ℕ) → sumOf (groupCost m qs v) n ≡ cost m (take (n * 19) qs) v
-  unfolding sumOf cost totalLoss
-  first-groups zero = refl
+  unfolding sumOf totalLoss
+  first-groups zero = sym (cost-sum m [] picked v)
   first-groups (suc n) =
       let e : suc n * 19 ≡ n * 19 + 19 = omega arith in
       omega (arith, first-groups n, one-group n, ap (λ (k : ℕ). cost m (take k qs) v) e)
@@ -55,4 +59,4 @@ few-groups store e =
     omega (arith, leb→le n 49152 (and-parts (leb 1 n) (leb n 49152) fits .1), points-length store (n / 12))
 
 pub all-grouped : AllGrouped
-all-grouped store m v = record { plain = λ p. all-groups m (pointsOf store) v; few = few-groups store }
+all-grouped store m v = record { plain = λ picked. all-groups m picked (pointsOf store) v; few = few-groups store }

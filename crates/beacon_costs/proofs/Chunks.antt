@@ -17,7 +17,8 @@ use Rattle.points.specs.Points.{pointAt, firstPoints, pointsOf}
 use Rattle.points.proofs.Laws.{points-length}
 use Rattle.residuals.specs.Cost.{least, unlessGap, totalLoss, sizeAt, cost}
 use Rattle.residuals.specs.Inside.{Ready, sumOf}
-use Rattle.residuals.proofs.Sums.{Summed, none-summed, one-summed}
+use Rattle.residuals.proofs.Bounds.{cost-sum}
+use Rattle.residuals.proofs.Sums.{threshold-small, Summed, none-summed, one-summed}
 use Rattle.columns.specs.Columns.{nowhere, slot, ChunkOf}
 use Rattle.losses.proofs.Exact.{sum-parts, groups-small}
 use Rattle.slots.proofs.Empty.{empty-slot}
@@ -42,7 +43,7 @@ first-taken s (suc n) a =
     take-all a (firstPoints s (suc n)) (omega (arith, points-length s (suc n))) ∙ ap (firstPoints s) e)
     (le-or-lt a n)
 
-module _ {m : Model} (store : List ℕ) (ready : Ready (length store) m) (v : List ℤ) where
+module _ {m : Model} (store : List ℕ) (ready : Ready (length store) m) (picked : m .p ≤ 2) (v : List ℤ) where
   -- the cost of the first i points, and that it is a sum that a loop has
   abbrev first : ℕ → ℕ
   first i = totalLoss m (sizeAt m v) (firstPoints store i)
@@ -58,12 +59,12 @@ module _ {m : Model} (store : List ℕ) (ready : Ready (length store) m) (v : Li
   summed (suc i) h =
       let e : i + 1 ≡ suc i = omega arith in
       let loss = lossOf (m .p) (m .eps) (unlessGap (pointAt store i) (least (sizeAt m v (pointAt store i)) (m .n))) in
-      let one = one-summed m (sizeAt m v) store loss (ready .cut) h refl (summed i (omega arith)) in
+      let one = one-summed m (sizeAt m v) store loss (threshold-small (m .p) (m .eps) (ready .cut)) h refl (summed i (omega arith)) in
       of-first (subst (λ (n : ℕ). Sum n (first i + loss)) e one)
 
   -- the points in the first k slots of chunk t, behind those of the chunks before it
   abbrev losses : ℕ → ℕ → ℕ
-  losses = slotLoss m (sizeAt m v) store (ready .lines) (ready .cut) (empty-slot m .at-vector v)
+  losses = slotLoss m (sizeAt m v) store (ready .lines) (threshold-small (m .p) (m .eps) (ready .cut)) (empty-slot m .at-vector v)
 
   slots-first : (t k : ℕ) → let N = length store / 12 in
       first (min N (t * 76)) + sumOf (losses t) k ≡ first (min N (t * 76 + k / 20 * 19 + min (k % 20) 19))
@@ -72,11 +73,12 @@ module _ {m : Model} (store : List ℕ) (ready : Ready (length store) m) (v : Li
       let i = min N (t * 76) in
       let e : i ≡ min N (t * 76 + 0 / 20 * 19 + min (0 % 20) 19) = omega arith in
       let before = subst (λ (n : ℕ). Sum n (first i)) e (summed i (omega arith)) in
-      slots-summed m (sizeAt m v) store (ready .lines) (ready .cut) (empty-slot m .at-vector v) t k (first i) before .total
+      slots-summed m (sizeAt m v) store (ready .lines) (threshold-small (m .p) (m .eps) (ready .cut)) (empty-slot m .at-vector v) t k (first i) before .total
 
   cost-first : (a : ℕ) → cost m (take a (pointsOf store)) v ≡ first (min (length store / 12) a)
-  unfolding cost pointsOf
-  cost-first a = ap (totalLoss m (sizeAt m v)) (first-taken store (length store / 12) a)
+  unfolding pointsOf
+  cost-first a =
+      cost-sum m (take a (pointsOf store)) picked v ∙ ap (totalLoss m (sizeAt m v)) (first-taken store (length store / 12) a)
 
   group-slots : (t g : ℕ) → sumOf (λ k. losses t (g * 20 + k)) 20 ≡ groupCost m (pointsOf store) v (t * 4 + g)
   group-slots t g =
@@ -92,19 +94,19 @@ module _ {m : Model} (store : List ℕ) (ready : Ready (length store) m) (v : Li
         ap first b,
         cost-first ((t * 4 + g) * 19),
         cost-first ((t * 4 + g) * 19 + 19),
-        one-group m (pointsOf store) v (t * 4 + g),
+        one-group m picked (pointsOf store) v (t * 4 + g),
       )
 
-pub chunk-sums : {m : Model} (store : List ℕ) → Ready (length store) m
+pub chunk-sums : {m : Model} (store : List ℕ) → Ready (length store) m → m .p ≤ 2
     → {t power : ℕ} {s : List (List Float)} {w : List Float} {sums : List ℕ}
     → power ≡ 2 ^ m .scale → ChunkOf store t (m .d) power s → sums ≡ groupLosses false s w w m → ChunkSums m store w t sums
 unfolding groupLosses
-chunk-sums {m} store ready {t} {s = s} {w} p chunk e =
+chunk-sums {m} store ready picked {t} {s = s} {w} p chunk e =
     let here = subst (λ (n : ℕ). ChunkOf store t (m .d) n s) p chunk in
     record {
       costs = λ v d g h.
           ap (λ (l : List ℕ). getD l g 0) e
-          ∙ groups-in false s w w m (ready .cut) (slot store t) (sizeAt m v) (λ j k l i. size-in ready here w w j k l i v d) g h
-          ∙ group-slots store ready v t g;
+          ∙ groups-in false s w w m (slot store t) (sizeAt m v) (λ j k l i. size-in ready here w w j k l i v d) (ready .cut) g h
+          ∙ group-slots store ready picked v t g;
       small = λ g h. subst (λ (l : List ℕ). getD l g 0 < 9007199254740992) (sym e) (groups-small _ g);
     }

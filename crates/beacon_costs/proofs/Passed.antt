@@ -12,18 +12,22 @@ use Rattle.codes.proofs.Checks.{passed, first-passed, others-passed}
 use Rattle.jobs.specs.declared.Model.{Model}
 use Rattle.points.specs.Points.{pointsOf}
 use Rattle.residuals.specs.Inside.{Ready}
-use Rattle.model.specs.Calls.{checkCost}
-use Rattle.model.proofs.Passed.{ready, cost-model}
+use Rattle.model.specs.Calls.{checkThreshold}
+use Rattle.model.proofs.Passed.{ready, threshold-model, threshold-picked}
 use Rattle.beacon_costs.specs.BeaconCosts.{groups, checkByBeacon}
 
 module _ (store : List ℕ) (m : Model) (v : List ℤ) (entries : ℕ) (e : checkByBeacon store m v entries ≡ Pass) where
   pub all-ready : Ready (length store) m
   unfolding checkByBeacon
-  all-ready = ready store m (cost-model store m v (first-passed (checkCost store m v) _ e))
+  all-ready = ready store m (threshold-model store m v (first-passed (checkThreshold store m v) _ e))
+
+  pub picked : m .p ≤ 2
+  unfolding checkByBeacon
+  picked = threshold-picked store m v (first-passed (checkThreshold store m v) _ e)
 
   pub room : groups (pointsOf store) ≤ entries
   unfolding checkByBeacon
   room =
       let check = passIf (leb (groups (pointsOf store)) entries) Short in
-      let pass : check ≡ Pass = first-passed check [] (others-passed (checkCost store m v) (check ∷ []) e) in
+      let pass : check ≡ Pass = first-passed check [] (others-passed (checkThreshold store m v) (check ∷ []) e) in
       leb→le _ _ (passed (leb (groups (pointsOf store)) entries) Short pass)

@@ -14,7 +14,7 @@ use Rattle.points.specs.declared.Point.{Point}
 use Rattle.points.specs.Points.{pointsOf}
 use Rattle.residuals.specs.Cost.{cost}
 use Rattle.residuals.specs.Inside.{sumOf}
-use Rattle.model.specs.Calls.{checkCost}
+use Rattle.model.specs.Calls.{checkThreshold}
 
 -- "groups of 19 records, as a full beacon holds": records 19 g to 19 g + 18
 unfoldable pub group : List Point → ℕ → List Point
@@ -39,7 +39,7 @@ total m qs v = sumOf (groupCost m qs v) (groups qs)
 
 -- Checks 1 to 4, 6 and 7, and then 10: "p = 3 gets 4, a list too small 10". The list has so many entries.
 unfoldable pub checkByBeacon : List ℕ → Model → List ℤ → ℕ → Check
-checkByBeacon store m v entries = inOrder (checkCost store m v ∷ passIf (leb (groups (pointsOf store)) entries) Short ∷ [])
+checkByBeacon store m v entries = inOrder (checkThreshold store m v ∷ passIf (leb (groups (pointsOf store)) entries) Short ∷ [])
 
 -- The answer is the total.
 unfoldable pub costByBeacon : List ℕ → Model → List ℤ → List ℕ → Outcome

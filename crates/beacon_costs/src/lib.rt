@@ -36,7 +36,7 @@ fn chunk_sums(
     g: usize,
     before: [u64; 4],
 ) -> [u64; 4]
-    requires { ⌜ Ready (length (now store)) m × (power ≡ 2 ^ m .scale) × (g < 1024) ⌝ }
+    requires { ⌜ Ready (length (now store)) m × (power ≡ 2 ^ m .scale) × (g < 1024) × (m .p ≤ 2) ⌝ }
     requires { ⌜ (1 ≤ g % 4 → ChunkSums m (now store) (now w) (g / 4) before) ⌝ }
     ensures { λ r. ⌜ ChunkSums m (now (store .entry)) (now (w .entry)) (g / 4) r ⌝ }
 {
@@ -49,7 +49,7 @@ fn chunk_sums(
 
 // The sums into the front of the list, and their total.
 fn write_sums(store: &[u8], m: Model, v: [i16; 8], sums: &mut [u64]) -> u64
-    requires { ⌜ Ready (length (now store)) m × (groups (pointsOf (now store)) ≤ length (now sums)) ⌝ }
+    requires { ⌜ Ready (length (now store)) m × (groups (pointsOf (now store)) ≤ length (now sums)) × (m .p ≤ 2) ⌝ }
     ensures total { λ r. ⌜ r ≡ total m (pointsOf (now (store .entry))) v ⌝ }
     ensures sums { λ _. ⌜ now (sums .exit)
         ≡ over (partialSums m (pointsOf (now (store .entry))) v (groups (pointsOf (now (store .entry))))) (now (sums .entry)) ⌝ }
@@ -83,12 +83,12 @@ fn check_room(bytes: usize, entries: usize) -> Check
     }
 }
 
-// The checks of a cost, and then check 10.
+// The checks of a call with a threshold, and then check 10.
 fn check_by_beacon(store: &[u8], m: Model, v: [i16; 8], entries: usize) -> Check
     ensures { λ r. ⌜ r ≡ checkByBeacon (now (store .entry)) m v entries ⌝ }
 {
     in_order(
-        model::check_cost(store, m, v),
+        model::check_threshold(store, m, v),
         check_room(store.len(), entries),
     )
 }

@@ -1,3 +1,4 @@
 pub mod Fits
 pub mod Starred
 pub mod Gaps
+pub mod Spoiled

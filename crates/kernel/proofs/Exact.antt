@@ -1,21 +1,23 @@
 -- The losses of a chunk of a store are those of the points in its slots, exactly. Assumes nothing.
-use mathlib.Core.Path.{_≡_, refl, ap, subst}
-use mathlib.Core.Bool.{Bool, true, false}
+use mathlib.Core.Path.{_≡_, refl, sym, ap, _∙_, subst}
+use mathlib.Core.Bool.{Bool, true, false, cond}
 use mathlib.Core.List.{List}
 use Prim.Native.Nat.{ℕ, zero, suc, _+_, _*_, _^_, _≤_, _<_, min}
 use native.Mathlib.Omega.{arith}
+use borrow.Author.Tests.{le-ltb}
 use lib.IntN.{ℤ, pos, _*ℤ_}
 use lib.ListN.{getD}
-use lib.Ieee.{Float, binary64, ofInt}
+use lib.Ieee.{Float, binary64, ofInt, lt}
 use Rattle.jobs.specs.declared.Model.{Model}
 use Rattle.loss.specs.Loss.{lossOf}
 use Rattle.points.specs.declared.Point.{Point}
 use Rattle.points.specs.Points.{xs}
 use Rattle.residuals.specs.Cost.{at, residual, sizeAt, eMin, eMax, leastSize}
 use Rattle.residuals.specs.Inside.{Ready, boxOf, leastFrom, sumOf}
-use Rattle.residuals.proofs.Least.{line-room}
+use Rattle.residuals.proofs.Least.{line-room, from-le, from-large, loss-from}
+use Rattle.residuals.proofs.Sums.{sum-same}
 use Rattle.whole.specs.Whole.{Whole, Within}
-use Rattle.whole.proofs.Laws.{cast-whole}
+use Rattle.whole.proofs.Laws.{most, cast-whole, lt-whole}
 use Rattle.whole.proofs.Picks.{least-whole}
 use Rattle.lanes.specs.Lanes.{lane, xsAt, taken}
 use Rattle.columns.specs.Columns.{slot, ChunkOf}
@@ -24,7 +26,7 @@ use Rattle.sizes.proofs.Exact.{size-exact}
 use Rattle.box_ends.specs.Ends.{leastIn}
 use Rattle.box_ends.proofs.Exact.{least-exact}
 use Rattle.losses.proofs.Exact.{loss-exact, groups-exact, chunk-exact}
-use Rattle.kernel.specs.Kernel.{Doubles, line, sizeBy, leastBy, lossBy, groupLosses, chunkLoss}
+use Rattle.kernel.specs.Kernel.{Doubles, line, sizeBy, leastBy, lossBy, chunkSize, groupLosses, chunkLoss}
 
 -- the coordinates of a line, and the x of a point, by their places
 line-within : (v : List ℤ) (u : List Float) (b d : ℕ) → Doubles v u → d ≤ 4 → b + d ≤ 8 → (k : ℕ) → k < d → Within (line u b k) (at v (b + k)) 32768
@@ -54,38 +56,69 @@ module _ {bytes : ℕ} {m : Model} (ready : Ready bytes m) {store : List ℕ} {t
   uses : taken (m .d) ≡ m .d
   uses = let a = ready .some in let b = ready .used in omega arith
 
-  pub size-in : (v : List ℤ) → Doubles v low → Whole (sizeBy false s low high (m .d) (min (j * m .d) 8) k) (pos (sizeAt m v (slot store t k) j))
+  pub size-in : (v : List ℤ) → Doubles v low → Within (sizeBy false s low high (m .d) (min (j * m .d) 8) k) (pos (sizeAt m v (slot store t k) j)) 6442450944
   unfolding sizeAt residual
   size-in v w =
       rw (begins, uses)
       (size-exact v (j * m .d) (xs (slot store t k)) (chunk .target k h) (m .d) (ready .used) (line-within v low (j * m .d) (m .d) w (ready .used) room) (point-within chunk k h (ready .used)))
 
-  pub least-in : (l u : List ℤ) → Doubles l low → Doubles u high → Whole (sizeBy true s low high (m .d) (min (j * m .d) 8) k) (pos (leastSize m (boxOf l u) (slot store t k) j))
+  pub least-in : (l u : List ℤ) → Doubles l low → Doubles u high → Within (sizeBy true s low high (m .d) (min (j * m .d) 8) k) (pos (leastSize m (boxOf l u) (slot store t k) j)) 6442450944
   unfolding leastSize eMin eMax
   least-in l u w x =
       rw (begins, uses)
       (least-exact (boxOf l u) (j * m .d) (xs (slot store t k)) (chunk .target k h) (m .d) (ready .used)
       (line-within l low (j * m .d) (m .d) w (ready .used) room) (line-within u high (j * m .d) (m .d) x (ready .used) room) (point-within chunk k h (ready .used)))
 
+zeros : (n : ℕ) → sumOf (λ k. 0) n ≡ 0
+unfolding sumOf
+zeros zero = refl
+zeros (suc n) = omega (arith, zeros n)
+
 -- ---- of all points, for any sizes that the lines' steps find
-module _ (over : Bool) (s : List (List Float)) (low high : List Float) (m : Model) (cut : m .eps ≤ 16777215) (point : ℕ → Point) (size : Point → ℕ → ℕ)
-    (exact : (j k : ℕ) → j < m .n → k < 80 → Whole (sizeBy over s low high (m .d) (min (j * m .d) 8) k) (pos (size (point k) j))) where
-  least-whole-by : (k : ℕ) → k < 80 → (n : ℕ) → n ≤ m .n → Whole (leastBy over s low high (m .d) (ofInt binary64 (pos (m .eps + 1))) n k) (pos (leastFrom (m .eps + 1) (size (point k)) n))
+module _ (over : Bool) (s : List (List Float)) (low high : List Float) (m : Model) (point : ℕ → Point) (size : Point → ℕ → ℕ)
+    (exact : (j k : ℕ) → j < m .n → k < 80 → Within (sizeBy over s low high (m .d) (min (j * m .d) 8) k) (pos (size (point k) j)) 6442450944) where
+  -- the least of them and a first number
+  least-whole-by : (first : ℕ) → first ≤ most → (k : ℕ) → k < 80 → (n : ℕ) → n ≤ m .n
+      → Whole (leastBy over s low high (m .d) (ofInt binary64 (pos first)) n k) (pos (leastFrom first (size (point k)) n))
   unfolding leastBy leastFrom
-  least-whole-by k h zero l = cast-whole (pos (m .eps + 1)) (omega arith)
-  least-whole-by k h (suc n) l = least-whole (least-whole-by k h n (omega arith)) (exact n k (omega arith) h)
+  least-whole-by first f k h zero l = cast-whole (pos first) f
+  least-whole-by first f k h (suc n) l = least-whole (least-whole-by first f k h n (omega arith)) (exact n k (omega arith) h .whole)
 
   -- the loss of the point in slot k
   abbrev lossAt : ℕ → ℕ
   lossAt k = lossOf (m .p) (m .eps) (leastFrom (m .eps + 1) (size (point k)) (m .n))
 
-  losses-within : (k : ℕ) → k < 80 → Within (lossBy over s low high m k) (pos (lossAt k)) 281474943156225
-  losses-within k h = loss-exact (least-whole-by k h (m .n) (omega arith)) cut (m .p)
+  losses-within : m .eps ≤ 16777215 → (k : ℕ) → k < 80 → Within (lossBy over s low high m k) (pos (lossAt k)) 281474943156225
+  losses-within cut k h = loss-exact (least-whole-by (m .eps + 1) (omega arith) k h (m .n) (omega arith)) cut (m .p)
 
-  pub groups-in : (g : ℕ) → g < 4 → getD (groupLosses over s low high m) g 0 ≡ sumOf (λ k. lossAt (g * 20 + k)) 20
+  pub groups-in : m .eps ≤ 16777215 → (g : ℕ) → g < 4 → getD (groupLosses over s low high m) g 0 ≡ sumOf (λ k. lossAt (g * 20 + k)) 20
   unfolding groupLosses
-  groups-in = groups-exact losses-within
+  groups-in cut = groups-exact (losses-within cut)
 
-  pub loss-in : chunkLoss over s low high m ≡ sumOf lossAt 80
+  pub loss-in : m .eps ≤ 16777215 → chunkLoss over s low high m ≡ sumOf lossAt 80
   unfolding chunkLoss
-  loss-in = chunk-exact losses-within
+  loss-in cut = chunk-exact (losses-within cut)
+
+  -- whether the least size of a point exceeds a whole number: as its loss for p = 0 tells
+  exceeds : 1 ≤ m .n → (a : ℕ) → a ≤ most → (k : ℕ) → k < 80
+      → cond (lt (ofInt binary64 (pos a)) (chunkSize over s low high m k)) 1 0 ≡ lossOf 0 a (leastFrom (a + 1) (size (point k)) (m .n))
+  unfolding chunkSize lossOf
+  exceeds lines a h k l =
+      ap (λ (t : Bool). cond {A = ℕ} t 1 0) (lt-whole (cast-whole (pos a) h) (least-whole-by 8589934592 (omega arith) k l (m .n) (omega arith)))
+      ∙ ap (lossOf 0 a) (from-large 8589934592 (size (point k)) (m .n) lines (omega (arith, exact 0 k lines l .small)))
+      ∙ sym (loss-from 0 a (size (point k)) (m .n) lines)
+
+  pub exceeding-chunk : 1 ≤ m .n → (a : ℕ) → a ≤ most
+      → sumOf (λ k. cond (lt (ofInt binary64 (pos a)) (chunkSize over s low high m k)) 1 0) 80 ≡ sumOf (λ k. lossOf 0 a (leastFrom (a + 1) (size (point k)) (m .n))) 80
+  exceeding-chunk lines a h = sum-same _ _ 80 (λ k l. exceeds lines a h k l)
+
+  none : (k : ℕ) → k < 80 → cond {A = ℕ} (lt (ofInt binary64 (pos 8589934592)) (chunkSize over s low high m k)) 1 0 ≡ 0
+  unfolding chunkSize
+  none k l =
+      let least = leastFrom 8589934592 (size (point k)) (m .n) in
+      ap (λ (t : Bool). cond {A = ℕ} t 1 0) (lt-whole (cast-whole (pos 8589934592) (omega arith)) (least-whole-by 8589934592 (omega arith) k l (m .n) (omega arith)))
+      ∙ ap (λ (t : Bool). cond {A = ℕ} t 1 0) (le-ltb 8589934592 least (from-le 8589934592 (size (point k)) (m .n)))
+
+  -- none exceeds 2^33
+  pub none-exceed : sumOf (λ k. cond (lt (ofInt binary64 (pos 8589934592)) (chunkSize over s low high m k)) 1 0) 80 ≡ 0
+  none-exceed = sum-same _ (λ k. 0) 80 none ∙ zeros 80

@@ -51,3 +51,7 @@ groupLosses over s low high m = groupSums (lossBy over s low high m)
 
 unfoldable pub chunkLoss : Bool → List (List Float) → List Float → List Float → Model → ℕ
 chunkLoss over s low high m = chunkSum (lossBy over s low high m)
+
+-- the least size of point k, not cut: from 2^33 on, which no size reaches
+unfoldable pub chunkSize : Bool → List (List Float) → List Float → List Float → Model → ℕ → Float
+chunkSize over s low high m k = leastBy over s low high (m .d) (ofInt binary64 (pos 8589934592)) (m .n) k

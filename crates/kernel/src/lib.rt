@@ -73,7 +73,7 @@ fn lessen(
 }
 
 // Each lane becomes the least of itself and the sizes of its point under the n lines.
-fn lessen_all(
+pub fn lessen_all(
     least: &mut Lanes,
     s: &Chunk,
     low: &Coordinates,

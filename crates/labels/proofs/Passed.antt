@@ -1,4 +1,4 @@
--- Which checks of a labelling decide: those of a cost, then the room. Assumes nothing.
+-- Which checks of a labelling decide: those of a call with a threshold, then the room. Assumes nothing.
 use mathlib.Core.Path.{_≡_, refl}
 use mathlib.Core.List.{List}
 use Prim.Native.Nat.{ℕ}
@@ -12,14 +12,14 @@ use Rattle.codes.specs.Codes.{passIf, inOrder}
 use Rattle.codes.proofs.Laws.{in-order-one}
 use Rattle.jobs.specs.declared.Model.{Model}
 use Rattle.points.specs.Points.{pointsOf}
-use Rattle.model.specs.Calls.{checkCost}
+use Rattle.model.specs.Calls.{checkThreshold}
 use Rattle.labels.specs.Labels.{checkLabels}
 
 module _ (store : List ℕ) (m : Model) (v : List ℤ) (out : List ℕ) where
-  pub room-decides : checkCost store m v ≡ Pass → checkLabels store m v out ≡ passIf (leb (length (pointsOf store)) (length out)) Short
+  pub room-decides : checkThreshold store m v ≡ Pass → checkLabels store m v out ≡ passIf (leb (length (pointsOf store)) (length out)) Short
   unfolding checkLabels inOrder
   room-decides e = rw e (in-order-one (passIf (leb (length (pointsOf store)) (length out)) Short))
 
-  pub cost-refuses : (r : Refusal) → checkCost store m v ≡ Refuse r → checkLabels store m v out ≡ Refuse r
+  pub first-refuses : (r : Refusal) → checkThreshold store m v ≡ Refuse r → checkLabels store m v out ≡ Refuse r
   unfolding checkLabels inOrder
-  cost-refuses r e = rw e refl
+  first-refuses r e = rw e refl

@@ -14,7 +14,7 @@ use Rattle.jobs.specs.declared.Model.{Model}
 use Rattle.points.specs.declared.Point.{Point}
 use Rattle.points.specs.Points.{isGap, pointsOf}
 use Rattle.residuals.specs.Cost.{least, sizeAt}
-use Rattle.model.specs.Calls.{checkCost}
+use Rattle.model.specs.Calls.{checkThreshold}
 
 -- the first of the places 0, …, n − 1 at which f is least
 unfoldable pub firstLeast : (ℕ → ℕ) → ℕ → ℕ
@@ -39,9 +39,9 @@ sampleLabel m v q = cond (leb 2 (fitting (sizeAt m v q) (m .eps) (m .n))) 5 (nea
 unfoldable pub label : Model → List ℤ → Point → ℕ
 label m v q = cond (isGap q) 6 (sampleLabel m v q)
 
--- "labelling 1 to 4, 6, 7 and 10"; 10: "output too small"
+-- "labelling 1 to 4, 6, 7 and 10"; 10: "output too small". Document 02: "Labels .. refuse p = 3 by 4."
 unfoldable pub checkLabels : List ℕ → Model → List ℤ → List ℕ → Check
-checkLabels store m v out = inOrder (checkCost store m v ∷ passIf (leb (length (pointsOf store)) (length out)) Short ∷ [])
+checkLabels store m v out = inOrder (checkThreshold store m v ∷ passIf (leb (length (pointsOf store)) (length out)) Short ∷ [])
 
 -- The answer is the number of bytes written.
 unfoldable pub labelsAnswer : List ℕ → Model → List ℤ → List ℕ → Outcome

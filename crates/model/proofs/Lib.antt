@@ -1,2 +1,5 @@
 pub mod Passed
 pub mod Summing
+pub mod Counting
+pub mod Picked
+pub mod Kept

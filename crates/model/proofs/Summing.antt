@@ -10,7 +10,7 @@ use lib.ListN.{length, getD}
 use lib.Ieee.{Float}
 use Rattle.jobs.specs.declared.Model.{Model}
 use Rattle.residuals.specs.Inside.{Ready, boxOf, sumOf}
-use Rattle.residuals.proofs.Sums.{Summed, all-total}
+use Rattle.residuals.proofs.Sums.{threshold-small, Summed, all-total}
 use Rattle.columns.specs.Columns.{nowhere, slot, chunks, decodedChunks, ChunkOf}
 use Rattle.slots.proofs.Empty.{empty-slot}
 use Rattle.slots.proofs.Summing.{slotLoss, chunk-summed, none-yet}
@@ -20,7 +20,7 @@ use Rattle.model.specs.Inside.{sizesBy, SumIn}
 use Rattle.model.specs.Calls.{DecodedFor}
 
 -- an empty slot has no size
-nothing : (over : Bool) (m : Model) (low high : List ℤ) (j : ℕ) → sizesBy over m low high nowhere j ≡ 0
+pub nothing : (over : Bool) (m : Model) (low high : List ℤ) (j : ℕ) → sizesBy over m low high nowhere j ≡ 0
 nothing true m low high j = empty-slot m .over-box (boxOf low high) j
 nothing false m low high j = empty-slot m .at-vector low j
 
@@ -35,17 +35,17 @@ module _ {bytes : ℕ} {m : Model} (ready : Ready bytes m) (store : List ℕ) (l
     (from to : List Float) (lows : Doubles low from) (highs : Doubles high to) where
   -- the losses of a chunk, by the definitions
   losses-of : (over : Bool) {t : ℕ} {s : List (List Float)} → ChunkOf store t (m .d) (2 ^ m .scale) s
-      → chunkLoss over s from to m ≡ sumOf (slotLoss m (sizesBy over m low high) store (ready .lines) (ready .cut) (nothing over m low high) t) 80
+      → chunkLoss over s from to m ≡ sumOf (slotLoss m (sizesBy over m low high) store (ready .lines) (threshold-small (m .p) (m .eps) (ready .cut)) (nothing over m low high) t) 80
   losses-of true {t} {s} chunk =
-      loss-in true s from to m (ready .cut) (slot store t) (sizesBy true m low high) (λ j k l h. least-in ready chunk from to j k l h low high lows highs)
+      loss-in true s from to m (slot store t) (sizesBy true m low high) (λ j k l h. least-in ready chunk from to j k l h low high lows highs) (ready .cut)
   losses-of false {t} {s} chunk =
-      loss-in false s from to m (ready .cut) (slot store t) (sizesBy false m low high) (λ j k l h. size-in ready chunk from to j k l h low lows)
+      loss-in false s from to m (slot store t) (sizesBy false m low high) (λ j k l h. size-in ready chunk from to j k l h low lows) (ready .cut)
 
   pub one-through : (over : Bool) {t sum r power : ℕ} {s : List (List Float)} → power ≡ 2 ^ m .scale → ChunkOf store t (m .d) power s → r ≡ chunkLoss over s from to m
       → Through over m store low high t sum → Through over m store low high (t + 1) (sum + r)
   one-through over {t} {sum} {r} {s = s} p chunk e g =
       let here = subst (λ (n : ℕ). ChunkOf store t (m .d) n s) p chunk in
-      chunk-summed m (sizesBy over m low high) store (ready .lines) (ready .cut) (nothing over m low high) t sum r (e ∙ losses-of over here) g
+      chunk-summed m (sizesBy over m low high) store (ready .lines) (threshold-small (m .p) (m .eps) (ready .cut)) (nothing over m low high) t sum r (e ∙ losses-of over here) g
 
 -- ---- lanes
 -- the losses of chunk t, by the doubles of the coordinates

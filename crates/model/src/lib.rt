@@ -1,5 +1,7 @@
 // The cost of a vector and the bound of a box, over a store of point records.
+mod ranking;
 mod sums;
+mod values;
 
 use boxes::Box;
 use codes::Check;
@@ -9,9 +11,10 @@ use jobs::Model;
 use lanes::Chunk;
 ghost use mathlib.Core.List.{[], _∷_};
 ghost use mathlib.Core.Path.{_≡_};
+ghost use Prim.Native.Nat.{_≤_};
 ghost use Rattle.codes.specs.Codes.{inOrder};
 ghost use Rattle.points.specs.Points.{pointsOf, checkStray};
-ghost use Rattle.model.specs.Calls.{checkModel, checkCost, costAnswer, checkBound, boundAnswer, costUpTo, boundUpTo, DecodedFor, costIn, boundIn};
+ghost use Rattle.model.specs.Calls.{checkModel, checkCost, checkThreshold, costAnswer, checkBound, boundAnswer, costUpTo, boundUpTo, DecodedFor, costIn, boundIn};
 
 // A cap that no cost and no bound reaches.
 pub const NO_CAP: u64 = 18446744073709551615;
@@ -24,7 +27,10 @@ pub fn check_model(store: &[u8], m: Model) -> Check
         points::check_store(store.len()),
         boxes::check_shape(m.n, m.d),
     );
-    let second = in_order(scale::check_scale(m.scale), loss::check_loss(m.p, m.eps));
+    let second = in_order(
+        scale::check_scale(m.scale),
+        loss::check_loss_for(store.len() / 12, m.p, m.eps),
+    );
     in_order(first, second)
 }
 
@@ -49,12 +55,24 @@ pub fn check_cost(store: &[u8], m: Model, v: [i16; 8]) -> Check
     )
 }
 
+// The checks of a call over a vector that takes ε for a threshold.
+pub fn check_threshold(store: &[u8], m: Model, v: [i16; 8]) -> Check
+    ensures { λ r. ⌜ r ≡ checkThreshold (now (store .entry)) m v ⌝ }
+{
+    let chosen = in_order(check_model(store, m), loss::check_loss(m.p, m.eps));
+    then_stray(
+        in_order(chosen, boxes::check_vector(m.n, m.d, v)),
+        store,
+        m.d,
+    )
+}
+
 // The cost of a vector.
 pub fn cost(store: &[u8], m: Model, v: [i16; 8]) -> Outcome
     ensures { λ r. ⌜ r ≡ costAnswer (now (store .entry)) m v ⌝ }
 {
     match check_cost(store, m, v) {
-        Check::Pass => Outcome::Value(sums::sum(store, m, v, v, false)),
+        Check::Pass => Outcome::Value(values::whole(store, m, v, v, false)),
         Check::Refuse(r) => Outcome::Refused(r),
     }
 }
@@ -78,20 +96,22 @@ pub fn bound(store: &[u8], m: Model, b: Box) -> Outcome
         Check::Pass => {
             let low = b.low;
             let high = b.high;
-            Outcome::Value(sums::sum(store, m, low, high, true))
+            Outcome::Value(values::whole(store, m, low, high, true))
         }
         Check::Refuse(r) => Outcome::Refused(r),
     }
 }
 
 // For a search, which decodes its store once and asks only whether a vector is cheaper: over lanes, the cost of a vector, or `cap` if that
-// is less. The first clause says for any lanes what it gives, the second that of the store's own lanes it is the cost.
+// is less. The first clause says for any lanes what it gives, the second that of the store's own lanes it is the cost, the third that check 9
+// takes every cost.
 pub fn cost_in(store: &[u8], lanes: &[Chunk], m: Model, v: [i16; 8], cap: u64) -> u64
     ensures lanes { λ r. ⌜ r ≡ costIn (now (store .entry)) (now (lanes .entry)) m v cap ⌝ }
     ensures store { λ r. ⌜ (DecodedFor (now (store .entry)) m (now (lanes .entry)) → r ≡ costUpTo (now (store .entry)) m v cap) ⌝ }
+    ensures limit { λ r. ⌜ (DecodedFor (now (store .entry)) m (now (lanes .entry)) → r ≤ 1152921367167897600) ⌝ }
 {
     match check_model(store, m) {
-        Check::Pass => sums::lanes_up_to(store, lanes, m, v, v, false, cap),
+        Check::Pass => values::up_to(store, lanes, m, v, v, false, cap),
         Check::Refuse(_) => 0,
     }
 }
@@ -105,7 +125,7 @@ pub fn bound_in(store: &[u8], lanes: &[Chunk], m: Model, b: Box, cap: u64) -> u6
         Check::Pass => {
             let low = b.low;
             let high = b.high;
-            sums::lanes_up_to(store, lanes, m, low, high, true, cap)
+            values::up_to(store, lanes, m, low, high, true, cap)
         }
         Check::Refuse(_) => 0,
     }

@@ -1,4 +1,4 @@
--- A cost is the sum of the costs of a store's parts, and one record costs at most the cap. Assumes nothing.
+-- For p of 0, 1 or 2 a cost is the sum of the costs of a store's parts, and one record costs at most the cap. Assumes nothing.
 use mathlib.Core.Path.{_≡_, ap, _∙_}
 use mathlib.Core.List.{List, [], _∷_, _++_}
 use Prim.Native.Nat.{ℕ, zero, suc, _+_, _/_, _%_, _≤_}
@@ -12,6 +12,7 @@ use Rattle.loss.specs.Loss.{lossOf}
 use Rattle.points.specs.declared.Point.{Point}
 use Rattle.points.specs.Points.{pointAt, firstPoints, pointsOf}
 use Rattle.residuals.specs.Cost.{least, sizeAt, unlessGap, totalLoss, cost}
+use Rattle.residuals.proofs.Bounds.{cost-sum}
 use Rattle.residuals.proofs.Least.{loss-of-point}
 use Rattle.one_record.specs.OneRecord.{DifferInOne, cap}
 use Rattle.one_record.proofs.Points.{points-append}
@@ -31,18 +32,25 @@ unfolding totalLoss
 total-append m size [] rs = omega arith
 total-append m size (q ∷ qs) rs = omega (arith, total-append m size qs rs)
 
-module _ (m : Model) (v : List ℤ) where
+module _ (m : Model) (picked : m .p ≤ 2) (v : List ℤ) where
   abbrev costOf : List ℕ → ℕ
   costOf store = cost m (pointsOf store) v
 
   cost-append : (a b : List ℕ) → length a % 12 ≡ 0 → costOf (a ++ b) ≡ costOf a + costOf b
-  unfolding cost
-  cost-append a b whole = ap (totalLoss m (sizeAt m v)) (points-append a b whole) ∙ total-append m (sizeAt m v) (pointsOf a) (pointsOf b)
+  cost-append a b whole =
+      omega (
+        arith,
+        ap (λ (qs : List Point). cost m qs v) (points-append a b whole),
+        cost-sum m (pointsOf a ++ pointsOf b) picked v,
+        total-append m (sizeAt m v) (pointsOf a) (pointsOf b),
+        cost-sum m (pointsOf a) picked v,
+        cost-sum m (pointsOf b) picked v,
+      )
 
   -- a record, sample or gap
-  record-capped : (r : List ℕ) → length r ≡ 12 → costOf r ≤ cap (m .p) (m .eps)
-  unfolding cost pointsOf firstPoints totalLoss
-  record-capped r twelve =
+  loss-of-record : (r : List ℕ) → length r ≡ 12 → totalLoss m (sizeAt m v) (pointsOf r) ≤ cap (m .p) (m .eps)
+  unfolding pointsOf firstPoints totalLoss
+  loss-of-record r twelve =
       let q = pointAt r 0 in
       let one : length r / 12 ≡ 1 = omega arith in
       rw one
@@ -51,6 +59,9 @@ module _ (m : Model) (v : List ℤ) where
         loss-of-point (m .p) (m .eps) q (sizeAt m v q) (m .n),
         loss-capped (m .p) (m .eps) (unlessGap q (least (sizeAt m v q) (m .n))),
       ))
+
+  record-capped : (r : List ℕ) → length r ≡ 12 → costOf r ≤ cap (m .p) (m .eps)
+  record-capped r twelve = omega (arith, cost-sum m (pointsOf r) picked v, loss-of-record r twelve)
 
   split-cost : (a r b : List ℕ) → length a % 12 ≡ 0 → length r ≡ 12 → costOf (a ++ (r ++ b)) ≡ costOf a + (costOf r + costOf b)
   split-cost a r b whole twelve = omega (arith, cost-append a (r ++ b) whole, cost-append r b (omega arith))

@@ -37,11 +37,12 @@ one-way :
     (store store′ : List ℕ) (job job′ : Job) (table table′ : List ℤ) (bounds bounds′ : List ℕ) →
     DifferInOne store store′ →
     SameSettings job job′ →
+    job .model .p ≤ 2 →
     (searchAnswer store job table bounds) .kind ≡ Solved →
     (searchAnswer store′ job′ table′ bounds′) .kind ≡ Solved →
     (searchAnswer store job table bounds) .cost
     ≤ (searchAnswer store′ job′ table′ bounds′) .cost + job .t + cap (job .model .p) (job .model .eps)
-one-way store store′ job job′ table table′ bounds bounds′ differ same is is′ =
+one-way store store′ job job′ table table′ bounds bounds′ differ same picked is is′ =
     let m = job .model in
     let C = cost m (pointsOf store) in
     let C′ = cost m (pointsOf store′) in
@@ -55,7 +56,7 @@ one-way store store′ job job′ table table′ bounds bounds′ differ same is
     rw (same .model, same .box) (solved-certified store′ job′ table′ bounds′ is′)
     in
     rw (solved-told store job table bounds is, solved-told store′ job′ table′ bounds′ is′)
-    (solved-near C C′ (job .domain) (cap (m .p) (m .eps)) (λ v inside. differing-cost m v store store′ differ)
+    (solved-near C C′ (job .domain) (cap (m .p) (m .eps)) (λ v inside. differing-cost m picked v store store′ differ)
     L L′ (job .budget) (job′ .budget) rows rows′ (job .t) (job′ .t) (job .start) (job′ .start) r r′
     (solved-certified store job table bounds is) certified′ (solved-kind store job table bounds is))
 
@@ -63,7 +64,8 @@ pub one-record : OneRecord
 one-record store store′ job job′ table table′ bounds bounds′ differ same picked is is′ =
     let back : SameSettings job′ job = record { model = sym (same .model); box = sym (same .box) } in
     let same-cap = ap (λ (m : Model). cap (m .p) (m .eps)) (same .model) in
+    let picked′ : job′ .model .p ≤ 2 = omega (arith, picked, ap (λ (m : Model). m .p) (same .model)) in
     record {
-      one = omega (arith, one-way store store′ job job′ table table′ bounds bounds′ differ same is is′);
-      other = omega (arith, same-cap, one-way store′ store job′ job table′ table bounds′ bounds (swapped differ) back is′ is);
+      one = omega (arith, one-way store store′ job job′ table table′ bounds bounds′ differ same picked is is′);
+      other = omega (arith, same-cap, one-way store′ store job′ job table′ table bounds′ bounds (swapped differ) back picked′ is′ is);
     }

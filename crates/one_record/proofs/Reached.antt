@@ -13,7 +13,7 @@ use Rattle.boxes.specs.Boxes.{atMost, before, sideSize, sides, product, checkBo
 use Rattle.boxes.specs.Split.{firstLargest, leftHalf, rightHalf}
 use Rattle.jobs.specs.declared.Job.{Job}
 use Rattle.scale.specs.Scale.{checkScale}
-use Rattle.loss.specs.Loss.{lossOf, checkLoss}
+use Rattle.loss.specs.Loss.{lossOf, checkLoss, checkLossFor}
 use Rattle.fields.specs.Fields.{fromBigEndian}
 use Rattle.points.specs.Points.{unsignedAt, signedAt, pointAt, skipped, firstPoints, pointsOf, checkStore, strayFrom, checkStray}
 use Rattle.residuals.specs.Cost.{dot, residual, sizeAt, dotMax, dotMin, eMin, eMax, nearestTo0, leastSize}
@@ -98,5 +98,5 @@ reached p ε is is′ most =
     }
 
 pub all-reached : AllReached
-unfolding maxZ minZ floorHalf allZero inOrder checkShape atMost before sideSize sides product checkBox checkStart firstLargest leftHalf rightHalf checkScale lossOf checkLoss fromBigEndian unsignedAt signedAt pointAt skipped firstPoints pointsOf checkStore strayFrom checkStray dot residual sizeAt dotMax dotMin eMin eMax nearestTo0 leastSize least unlessGap totalLoss cost bound checkModel ahead lowerBound firstSmallest better begin split isSolved answer ifRoom step follow run search searched checkJob checkSearch searchAnswer cap
+unfolding maxZ minZ floorHalf allZero inOrder checkShape atMost before sideSize sides product checkBox checkStart firstLargest leftHalf rightHalf checkScale lossOf checkLoss checkLossFor fromBigEndian unsignedAt signedAt pointAt skipped firstPoints pointsOf checkStore strayFrom checkStray dot residual sizeAt dotMax dotMin eMin eMax nearestTo0 leastSize least unlessGap totalLoss cost bound checkModel ahead lowerBound firstSmallest better begin split isSolved answer ifRoom step follow run search searched checkJob checkSearch searchAnswer cap
 all-reached = record { outliers = reached 0 0 refl refl refl; sizes = reached 1 3 refl refl refl; squares = reached 2 3 refl refl refl }

@@ -1,11 +1,13 @@
--- The bound of a box is at most the cost of each of its vectors, and equal for a box of one vector; residuals have a limit.
--- Assumes nothing.
-use mathlib.Core.Path.{_≡_, refl, ap, ap₂, _∙_}
+-- The bound of a box is at most the cost of each of its vectors, and equal for a box of one vector: of every cost that is made from the points'
+-- least sizes alone and never falls when one of them grows, and so for the four values of p; residuals have a limit. Assumes nothing.
+use mathlib.Core.Path.{_≡_, refl, sym, ap, ap₂, _∙_}
+use mathlib.Core.Bool.{Bool, true, false, cond}
 use mathlib.Core.List.{List, [], _∷_, map}
 use Prim.Native.Nat.{ℕ, zero, suc, _+_, _*_, _^_, _≤_}
 use native.Mathlib.Nat.{mul-le-mul}
 use native.Mathlib.Omega.{arith}
-use borrow.Author.Tests.{lt-ltb}
+use borrow.Author.Tests.{lt-ltb, ne-eqb}
+use lib.Dec.{eqb}
 use lib.IntN.{ℤ, pos, negsuc, natAbs, _+ℤ_, _-ℤ_, _*ℤ_}
 use lib.Pow.{pow-mono}
 use lib.Signed.{ltZ, _≤ℤ_, ≤ℤ-refl}
@@ -16,14 +18,16 @@ use Rattle.boxes.specs.declared.Box.{Box}
 use Rattle.boxes.specs.Boxes.{InBox}
 use Rattle.boxes.proofs.Volume.{between-at, high-low}
 use Rattle.jobs.specs.declared.Model.{Model}
-use Rattle.loss.specs.Loss.{lossOf}
-use Rattle.loss.proofs.Laws.{loss-mono}
 use Rattle.points.specs.declared.Point.{Point}
 use Rattle.points.specs.Points.{xs}
 use Rattle.residuals.specs.Cost.{at, dot, dotMax, dotMin, least, residual, sizeAt, eMin, eMax, nearestTo0, leastSize, unlessGap, totalLoss, leastAt, cost, leastOver, bound}
-use Rattle.residuals.specs.Laws.{AllBounds, PointBounds, lossSum, LeastLoss, Small, SmallResidual}
+use Rattle.ranks.specs.Largest.{nthLargest}
+use Rattle.ranks.specs.Laws.{Rises}
+use Rattle.ranks.proofs.Largest.{nth-largest-rises}
+use Rattle.residuals.specs.Laws.{AllBounds, PointBounds, AllMade, lossSum, makeOf, Made, Small, SmallResidual}
 use Rattle.residuals.specs.Inside.{boxOf}
 use Rattle.residuals.proofs.Least.{least-mono, loss-of-point, unless-mono}
+use Rattle.residuals.proofs.Rising.{made-mono, losses-rise}
 
 -- the least size between two ends is at most the size of each number between them
 nearest-le : (a b e : ℤ) → a ≤ℤ e → e ≤ℤ b → nearestTo0 a b ≤ natAbs e
@@ -87,34 +91,6 @@ size-one m v q j =
     (λ i. nearestTo0 (y -ℤ dot-max-same v (j * m .d) (xs q) (m .d) i) (y -ℤ dot-min-same v (j * m .d) (xs q) (m .d) i))
     ∙ nearest-same (residual m v q j)
 
--- totals of sizes, point by point
-total-mono : (m : Model) (f g : Point → ℕ → ℕ) → ((q : Point) (j : ℕ) → f q j ≤ g q j) →
-    (qs : List Point) → totalLoss m f qs ≤ totalLoss m g qs
-unfolding totalLoss
-total-mono m f g h [] = omega arith
-total-mono m f g h (q ∷ qs) =
-    let loss = lossOf (m .p) (m .eps) in
-    omega (
-      arith,
-      total-mono m f g h qs,
-      unless-mono q (least-mono (λ j. loss (f q j)) (λ j. loss (g q j)) (λ j. loss-mono (m .p) (m .eps) (h q j)) (m .n)),
-    )
-
-total-same : (m : Model) (f g : Point → ℕ → ℕ) → ((q : Point) (j : ℕ) → f q j ≡ g q j) →
-    (qs : List Point) → totalLoss m f qs ≡ totalLoss m g qs
-total-same m f g h qs = ap (λ (u : Point → ℕ → ℕ). totalLoss m u qs) (λ i q j. h q j i)
-
-pub bound-laws : AllBounds
-unfolding bound cost
-bound-laws m qs =
-    record {
-      sound = λ B v inside. total-mono m (leastSize m B) (sizeAt m v) (size-below m B v inside) qs;
-      tight = λ B e.
-          let v = B .low in
-          ap (λ (h : List ℤ). totalLoss m (leastSize m (boxOf v h)) qs) (high-low B e)
-          ∙ total-same m (leastSize m (boxOf v v)) (sizeAt m v) (size-one m v) qs;
-    }
-
 pub point-bounds : PointBounds
 unfolding leastOver leastAt
 point-bounds m q =
@@ -126,15 +102,55 @@ point-bounds m q =
           ∙ ap (λ (f : ℕ → ℕ). unlessGap q (least f (m .n))) (λ i j. size-one m v q j i);
     }
 
-total-of-least : (m : Model) (f : Point → ℕ → ℕ) (qs : List Point) →
+-- whatever is made of these and rises
+pub all-made : AllMade
+all-made make rises m qs =
+    record {
+      sound = λ B v inside. made-mono make rises (leastOver m B) (leastAt m v) (λ q. point-bounds m q .sound B v inside) qs;
+      tight = λ B e. ap (λ (f : Point → ℕ). make (map f qs)) (λ i q. point-bounds m q .tight B e i);
+    }
+
+pub total-of-least : (m : Model) (f : Point → ℕ → ℕ) (qs : List Point) →
     totalLoss m f qs ≡ lossSum (m .p) (m .eps) (map (λ q. unlessGap q (least (f q) (m .n))) qs)
 unfolding totalLoss lossSum
 total-of-least m f [] = refl
 total-of-least m f (q ∷ qs) = ap₂ _+_ (loss-of-point (m .p) (m .eps) q (f q) (m .n)) (total-of-least m f qs)
 
-pub least-loss : (m : Model) (qs : List Point) → LeastLoss m qs
-unfolding cost bound leastAt leastOver
-least-loss m qs = record { of-cost = λ v. total-of-least m (sizeAt m v) qs; of-bound = λ B. total-of-least m (leastSize m B) qs }
+either-rises : (t : Bool) {f g : List ℕ → ℕ} → Rises f → Rises g → Rises (λ sizes. cond t (f sizes) (g sizes))
+either-rises true a b = a
+either-rises false a b = b
+
+module _ (m : Model) (qs : List Point) where
+  pub made : Made m qs
+  unfolding cost bound leastAt leastOver makeOf
+  made =
+      record {
+        rises = either-rises (eqb (m .p) 3) (nth-largest-rises (m .eps)) (losses-rise (m .p) (m .eps));
+        of-cost = λ v. ap (cond (eqb (m .p) 3) (nthLargest (m .eps) (map (leastAt m v) qs))) (total-of-least m (sizeAt m v) qs);
+        of-bound = λ B. ap (cond (eqb (m .p) 3) (nthLargest (m .eps) (map (leastOver m B) qs))) (total-of-least m (leastSize m B) qs);
+      }
+
+pub bound-laws : AllBounds
+bound-laws m qs =
+    let laws = all-made (makeOf m) (made m qs .rises) m qs in
+    let of = made m qs in
+    record {
+      sound = λ B v inside. omega (arith, of .of-cost v, of .of-bound B, laws .sound B v inside);
+      tight = λ B e. of .of-bound B ∙ laws .tight B e ∙ sym (of .of-cost (B .low));
+    }
+
+-- for p of 0, 1 or 2 they are sums
+module _ (m : Model) (qs : List Point) (h : m .p ≤ 2) where
+  no-rank : eqb (m .p) 3 ≡ false
+  no-rank = ne-eqb (m .p) 3 (λ (e : m .p ≡ 3). omega arith)
+
+  pub cost-sum : (v : List ℤ) → cost m qs v ≡ totalLoss m (sizeAt m v) qs
+  unfolding cost
+  cost-sum v = ap (λ (t : Bool). cond t (nthLargest (m .eps) (map (leastAt m v) qs)) (totalLoss m (sizeAt m v) qs)) no-rank
+
+  pub bound-sum : (B : Box) → bound m qs B ≡ totalLoss m (leastSize m B) qs
+  unfolding bound
+  bound-sum B = ap (λ (t : Bool). cond t (nthLargest (m .eps) (map (leastOver m B) qs)) (totalLoss m (leastSize m B) qs)) no-rank
 
 dot-small : (v : List ℤ) (b : ℕ) (x : List ℤ) → Small v → Small x → (k : ℕ) → natAbs (dot v b x k) ≤ k * 1073741824
 unfolding dot

@@ -85,6 +85,16 @@ from-least most f zero h = absurd (omega arith)
 from-least most f (suc zero) h = refl
 from-least most f (suc (suc n)) h = omega (arith, from-least most f (suc n) (omega arith))
 
+pub least-first : (f : ℕ → ℕ) (n : ℕ) → 1 ≤ n → least f n ≤ f 0
+unfolding least
+least-first f zero h = absurd (omega arith)
+least-first f (suc zero) h = omega arith
+least-first f (suc (suc n)) h = omega (arith, least-first f (suc n) (omega arith))
+
+-- a first value that no other exceeds does not matter
+pub from-large : (most : ℕ) (f : ℕ → ℕ) (n : ℕ) → 1 ≤ n → f 0 ≤ most → leastFrom most f n ≡ least f n
+from-large most f n h k = omega (arith, from-least most f n h, least-first f n h)
+
 -- past ε the loss stays
 loss-past : (p ε a : ℕ) → ε + 1 ≤ a → lossOf p ε (ε + 1) ≡ lossOf p ε a
 unfolding lossOf

@@ -2,5 +2,8 @@ pub mod Least
 pub mod Spans
 pub mod Sums
 pub mod Sizes
+pub mod Rising
 pub mod Bounds
+pub mod Ranks
 pub mod Frames
+pub mod Limit

@@ -1,11 +1,12 @@
 -- Sums, and of losses over the first points of a store: one more, their size, and all of them. Assumes nothing.
 use mathlib.Core.Path.{_≡_, refl, ap, _∙_}
 use mathlib.Core.List.{List, [], _∷_, _++_}
-use Prim.Native.Nat.{ℕ, zero, suc, _+_, _*_, _/_, _≤_, _<_, min}
-use native.Mathlib.Nat.{min-eq-left}
+use Prim.Native.Nat.{ℕ, zero, suc, _+_, _*_, _/_, _≤_, _<_}
 use native.Mathlib.Numerals.{add-one}
 use native.Mathlib.Omega.{arith}
+use lib.Dec.{ltb}
 use lib.ListN.{length}
+use Rattle.integers.proofs.Tests.{by-cond}
 use Rattle.loss.specs.Loss.{lossOf}
 use Rattle.loss.proofs.Laws.{loss-le}
 use Rattle.jobs.specs.declared.Model.{Model}
@@ -24,6 +25,18 @@ pub sum-same : (f g : ℕ → ℕ) (n : ℕ) → ((k : ℕ) → k < n → f k �
 unfolding sumOf
 sum-same f g zero h = refl
 sum-same f g (suc n) h = omega (arith, sum-same f g n (λ k p. h k (omega arith)), h n (omega arith))
+
+-- no loss exceeds 16,777,215²
+abbrev pub LossSmall : ℕ → ℕ → Type 0
+LossSmall p ε = (a : ℕ) → lossOf p ε a ≤ 281474943156225
+
+-- under a threshold that check 4 lets through, or where a loss is 0 or 1
+pub threshold-small : (p ε : ℕ) → ε ≤ 16777215 → LossSmall p ε
+threshold-small p ε cut a = loss-le p ε a cut
+
+pub count-small : (ε : ℕ) → LossSmall 0 ε
+unfolding lossOf
+count-small ε a = by-cond (λ (n : ℕ). n ≤ 281474943156225) (ltb ε a) (λ t. omega arith) (λ t. omega arith)
 
 module _ (m : Model) (size : Point → ℕ → ℕ) where
   -- what a point adds
@@ -49,11 +62,6 @@ module _ (m : Model) (size : Point → ℕ → ℕ) where
     unfolding pointsOf
     total-most lines cut few = omega (arith, total-le cut (firstPoints s (length s / 12)), points-length s (length s / 12))
 
-    -- so that no cap of 64 bits is needed
-    pub total-uncapped : 1 ≤ m .n → m .eps ≤ 16777215 → length s ≤ 49152 →
-        min (totalLoss m size (pointsOf s)) 18446744073709551615 ≡ totalLoss m size (pointsOf s)
-    total-uncapped lines cut few = min-eq-left (omega (arith, total-most lines cut few))
-
     total-more : (i : ℕ) →
         totalLoss m size (firstPoints s (i + 1))
         ≡ totalLoss m size (firstPoints s i) + added (pointAt s i)
@@ -70,7 +78,7 @@ module _ (m : Model) (size : Point → ℕ → ℕ) where
     none-summed = record { few = omega arith; total = refl; small = omega arith }
 
     -- one record more: the loss of its least size
-    pub one-summed : {i sum : ℕ} (loss : ℕ) → m .eps ≤ 16777215 → i < length s / 12 →
+    pub one-summed : {i sum : ℕ} (loss : ℕ) → LossSmall (m .p) (m .eps) → i < length s / 12 →
         loss ≡ lossOf (m .p) (m .eps) (unlessGap (pointAt s i) (least (size (pointAt s i)) (m .n))) → Summed i sum → Summed (i + 1) (sum + loss)
     unfolding added
     one-summed {i} {sum} loss cut h e g =
@@ -79,7 +87,7 @@ module _ (m : Model) (size : Point → ℕ → ℕ) where
         record {
           few = omega arith;
           total = omega (arith, g .total, e, total-more i, loss-of-point (m .p) (m .eps) q (size q) (m .n));
-          small = omega (arith, g .small, e, loss-le (m .p) (m .eps) a cut);
+          small = omega (arith, g .small, e, cut a);
         }
 
     pub all-total : {i sum : ℕ} → Summed i sum → length s / 12 ≤ i → sum ≡ totalLoss m size (pointsOf s)

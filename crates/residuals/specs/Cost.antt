@@ -1,7 +1,8 @@
 -- "Cost and bound". Lines count from 0 here, coordinates of a list too.
 use mathlib.Core.Bool.{cond}
-use mathlib.Core.List.{List, [], _∷_}
+use mathlib.Core.List.{List, [], _∷_, map}
 use Prim.Native.Nat.{ℕ, zero, suc, _+_, _*_, _^_, min}
+use lib.Dec.{eqb}
 use lib.IntN.{ℤ, pos, natAbs, _+ℤ_, _-ℤ_, _*ℤ_}
 use lib.ListN.{getD}
 use lib.Signed.{ltZ}
@@ -11,6 +12,7 @@ use Rattle.jobs.specs.declared.Model.{Model}
 use Rattle.points.specs.declared.Point.{Point}
 use Rattle.points.specs.Points.{isGap, xs}
 use Rattle.loss.specs.Loss.{lossOf}
+use Rattle.ranks.specs.Largest.{nthLargest}
 
 -- coordinate k of a list, counted from 0
 abbrev pub at : List ℤ → ℕ → ℤ
@@ -44,13 +46,14 @@ totalLoss m size (q ∷ qs) = unlessGap q (least (λ j. lossOf (m .p) (m .eps) (
 unfoldable pub sizeAt : Model → List ℤ → Point → ℕ → ℕ
 sizeAt m v q j = natAbs (residual m v q j)
 
--- a point's least |e| over the lines, 0 for a gap
+-- a point's least |e| over the lines; "A gap counts as |e| = 0."
 unfoldable pub leastAt : Model → List ℤ → Point → ℕ
 leastAt m v q = unlessGap q (least (sizeAt m v q) (m .n))
 
--- "The cost of a vector is the sum over the points of the least loss among its lines."
+-- "The cost of a vector is the sum over the points of the least loss among its lines." Document 02: "p = 3: the cost is the (q + 1)-th largest of
+-- the points' least |e| over the lines". "The ε field carries q".
 unfoldable pub cost : Model → List Point → List ℤ → ℕ
-cost m qs v = totalLoss m (sizeAt m v) qs
+cost m qs v = cond (eqb (m .p) 3) (nthLargest (m .eps) (map (leastAt m v) qs)) (totalLoss m (sizeAt m v) qs)
 
 -- "Σ max(low × x, high × x)", over the first k of a line's coordinates, which begin at place b
 unfoldable pub dotMax : Box → ℕ → List ℤ → ℕ → ℤ
@@ -82,6 +85,7 @@ leastSize m B q j = nearestTo0 (eMin m B q j) (eMax m B q j)
 unfoldable pub leastOver : Model → Box → Point → ℕ
 leastOver m B q = unlessGap q (least (leastSize m B q) (m .n))
 
--- "The bound of a box is the same sum with |e| replaced by its least size over the box."
+-- "The bound of a box is the same sum with |e| replaced by its least size over the box." For p = 3, "The box bound takes the (q + 1)-th largest
+-- of the least sizes."
 unfoldable pub bound : Model → List Point → Box → ℕ
-bound m qs B = totalLoss m (leastSize m B) qs
+bound m qs B = cond (eqb (m .p) 3) (nthLargest (m .eps) (map (leastOver m B) qs)) (totalLoss m (leastSize m B) qs)

@@ -20,7 +20,7 @@ pub record Ready (bytes : ℕ) (m : Model) : Type 0 where
   pub room : m .n * m .d ≤ 8
   pub scaled : m .scale < 16
   pub cut : m .eps ≤ 16777215
-  pub kind : m .p ≤ 2
+  pub kind : m .p ≤ 3
 
 -- a box by its low and its high vector
 abbrev pub boxOf : List ℤ → List ℤ → Box

@@ -26,7 +26,7 @@ use Rattle.rows.proofs.Rows.{rest-later, rows-take}
 use Rattle.certificate.specs.Search as Search
 use Rattle.certificate.specs.Certificate.{stateOf}
 use Rattle.certificate.proofs.Reached.{reached-sound}
-use Rattle.certificate.proofs.Certified.{certified}
+use Rattle.made.proofs.Made.{fit-certified}
 use Rattle.search.specs.declared.Answer.{Answer}
 use Rattle.search.specs.declared.branch.State.{State}
 use Rattle.search.specs.Search.{checkJob, checkSearch, searched, refused, CertifiedIn, checkLent, searchAnswer, TableSearched, BoundsSearched, Certified}
@@ -127,8 +127,8 @@ module _ (store : List ℕ) (job : Job) (t : List ℤ) (d : List ℕ) where
     pub certificate : CertifiedIn store job (rowCount t)
     unfolding searched
     certificate =
-        certified (cost (job .model) (pointsOf store)) B (job .budget) (rowCount t) (job .t) (job .start) (job .domain)
-        (bound-laws (job .model) (pointsOf store)) ((runs-accepted store job (length t) (length d) ok) .inside)
+        fit-certified (job .model) (pointsOf store) (job .budget) (rowCount t) (job .t) (job .start) (job .domain)
+        ((runs-accepted store job (length t) (length d) ok) .inside)
 
     -- peak is at most r
     pub peak-accepted : found .peak ≤ rowCount t

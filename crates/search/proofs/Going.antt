@@ -37,7 +37,7 @@ use Rattle.search.specs.declared.branch.Best.{Best}
 use Rattle.search.specs.declared.branch.State.{State}
 use Rattle.search.specs.declared.branch.Stepped.{Stepped}
 use Rattle.search.specs.Search.{kindOf}
-use Rattle.search.specs.Inside.{bestOf, stateIn, Stored, Steppable, Moved, StepOutcome, Begun, answerWith, Ran}
+use Rattle.search.specs.Inside.{bestOf, NextFits, stateIn, Stored, Steppable, Moved, StepOutcome, Begun, answerWith, Ran}
 use Rattle.search.proofs.Lowest.{least-place, least-bound}
 
 -- a run: its cost and bound, what its job asks for, and the table, the list of bounds and the state that it began with
@@ -67,6 +67,7 @@ def r = search (r .cost) (r .bound) (r .budget) (rowCount (r .t)) (r .tol) (r .s
 pub record Going (r : Run) (s : State) (u : List ℤ) (e : List ℕ) : Type 0 where
   pub running : Running (r .cost) (r .bound) (r .budget) (rowCount (r .t)) (r .tol) (r .start) (r .domain) (stateIn u s)
   pub best : s .best ≡ bestOf (r .cost) (s .best .vector)
+  pub fits : NextFits (s .best)
   pub stored : Stored (r .bound) u e (s .rows)
   pub long : length u ≡ length (r .t)
   pub long-entries : length e ≡ length (r .d)
@@ -79,6 +80,7 @@ going-begins r b =
     record {
       running = rw (b .state) (running-begins (r .cost) (r .bound) (r .budget) (rowCount (r .t)) (r .tol) (r .start) (r .domain));
       best = b .best;
+      fits = b .fits;
       stored = b .stored;
       long = refl;
       long-entries = refl;
@@ -206,6 +208,7 @@ module _ (r : Run) (ready : Ready r) (s : State) (u : List ℤ) (e : List ℕ) (
             let there-too : at < length list = omega (arith, rows-length u (s .rows)) in
             record {
               best = g .best;
+              fits = g .fits;
               stored = g .stored;
               first = least-place bound u e (s .rows) (g .stored) at (found .place many);
               inside = there;
@@ -247,6 +250,7 @@ module _ (r : Run) (ready : Ready r) (s : State) (u : List ℤ) (e : List ℕ) (
                     rw (m .state)
                     (running-goes cost bound budget rows (r .tol) (r .start) (r .domain) (stateIn u s) (g .running) unsolved less (omega (arith, g .long)));
                 best = m .best;
+                fits = m .fits;
                 stored = m .stored;
                 long = m .long ∙ g .long;
                 long-entries = m .long-entries ∙ g .long-entries;

@@ -142,6 +142,7 @@ module _
           let j = r .rows in
           record {
             best = rw (made .best);
+            fits = made .fits;
             stored =
                 h .entries
                 ∙ left-bounds bound (keptBy bound mark) t d n at mark all entries decides (leftHalf b) (rightHalf b) (br .left) (br .right) (made .left) (made .right)

@@ -12,7 +12,6 @@ use Rattle.points.specs.Points.{pointsOf}
 use Rattle.residuals.specs.Cost.{bound}
 use Rattle.residuals.specs.Cost as model
 use Rattle.model.specs.Calls.{checkModel, costUpTo, boundUpTo}
-use Rattle.model.proofs.Passed.{cost-limit}
 use Rattle.certificate.specs.Search.{ahead, better}
 use Rattle.certificate.proofs.Ahead.{ahead-capped, ahead-le}
 use Rattle.open_boxes.specs.declared.Mark.{Mark}
@@ -47,10 +46,6 @@ module _ (store : List ℕ) (m : Model) (ok : checkModel store m ≡ Pass) where
   pub bound-up-to : (b : Box) (cap : ℕ) → boundUpTo store m b cap ≡ min (bound m (pointsOf store) b) cap
   unfolding boundUpTo
   bound-up-to b cap = rw ok
-
-  -- no cost reaches the largest number of 64 bits
-  pub best-below : (b : Best) (v : List ℤ) → b ≡ bestOf (model.cost m (pointsOf store)) v → b .cost < 18446744073709551615
-  best-below b v e = rw e (omega (arith, cost-limit store m .most ok v))
 
   -- a box whose bound x was found as far as a cap above the cost, and the outcome k of its test
   pub found-tested :

@@ -51,6 +51,10 @@ pub record Tested (bound : Box → ℕ) (keep : Box → Bool) (b : Box) (child :
 abbrev pub bestOf : (List ℤ → ℕ) → List ℤ → Best
 bestOf cost v = record { vector = v; cost = cost v }
 
+-- C + 1, up to which costs and bounds are found, fits 64 bits
+abbrev pub NextFits : Best → Type 0
+NextFits best = best .cost < 18446744073709551615
+
 -- what other vectors and boxes are held against, where t is `tol`
 abbrev pub markOf : ℕ → Best → Mark
 markOf tol best = record { t = tol; cost = best .cost; best = best .vector }
@@ -58,6 +62,7 @@ markOf tol best = record { t = tol; cost = best .cost; best = best .vector }
 -- What is left of a box b that is cut, where v was the best vector: the new best, and the tested halves.
 pub record Cut (cost : List ℤ → ℕ) (bound : Box → ℕ) (tol : ℕ) (b : Box) (v : List ℤ) (r : Branches) : Type 0 where
   pub best : r .best ≡ bestOf cost (better cost tol (better cost tol v ((leftHalf b) .low)) ((rightHalf b) .low))
+  pub fits : NextFits (r .best)
   pub left : Tested bound (keptBy bound (markOf tol (r .best))) (leftHalf b) (r .left)
   pub right : Tested bound (keptBy bound (markOf tol (r .best))) (rightHalf b) (r .right)
 
@@ -69,6 +74,7 @@ stateIn t s = record { best = s .best .vector; list = rowsOf t (s .rows); count 
 -- is kept beside the best vector. Where a split has been counted, the low vector of the box cut does not become best.
 pub record Steppable (cost : List ℤ → ℕ) (bound : Box → ℕ) (tol : ℕ) (t : List ℤ) (d : List ℕ) (s : State) (at : ℕ) : Type 0 where
   pub best : s .best ≡ bestOf cost (s .best .vector)
+  pub fits : NextFits (s .best)
   pub stored : Stored bound t d (s .rows)
   pub first : at ≡ firstSmallest bound (rowsOf t (s .rows))
   pub inside : at < s .rows
@@ -83,6 +89,7 @@ pub record Steppable (cost : List ℤ → ℕ) (bound : Box → ℕ) (tol : ℕ)
 -- The state s₂, the table u and the list e are those after a split of s₁, t and d.
 pub record Moved (cost : List ℤ → ℕ) (bound : Box → ℕ) (tol : ℕ) (t : List ℤ) (d : List ℕ) (s₁ s₂ : State) (u : List ℤ) (e : List ℕ) : Type 0 where
   pub best : s₂ .best ≡ bestOf cost (s₂ .best .vector)
+  pub fits : NextFits (s₂ .best)
   pub stored : Stored bound u e (s₂ .rows)
   pub state : stateIn u s₂ ≡ split cost bound tol (stateIn t s₁)
   pub long : length u ≡ length t
@@ -102,6 +109,7 @@ pub record StepOutcome (cost : List ℤ → ℕ) (bound : Box → ℕ) (tol : �
 -- The state s, the table u and the list e are those of the beginning, where table and list were t and d.
 pub record Begun (cost : List ℤ → ℕ) (bound : Box → ℕ) (tol : ℕ) (start : List ℤ) (domain : Box) (t : List ℤ) (d : List ℕ) (s : State) (u : List ℤ) (e : List ℕ) : Type 0 where
   pub best : s .best ≡ bestOf cost (s .best .vector)
+  pub fits : NextFits (s .best)
   pub stored : Stored bound u e (s .rows)
   pub state : stateIn u s ≡ begin cost bound tol start domain
   pub long : length u ≡ length t

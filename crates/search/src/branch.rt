@@ -13,7 +13,7 @@ ghost use Rattle.boxes.specs.Boxes.{volume};
 ghost use Rattle.points.specs.Points.{pointsOf};
 ghost use Rattle.residuals.specs.Cost.{bound, cost};
 ghost use Rattle.certificate.specs.Search.{ahead, better};
-ghost use Rattle.search.specs.Inside.{Evaluable, bestOf, markOf, keptBy, Tested, Cut, Steppable, StepOutcome};
+ghost use Rattle.search.specs.Inside.{Evaluable, bestOf, NextFits, markOf, keptBy, Tested, Cut, Steppable, StepOutcome};
 
 // The best vector and its cost, C.
 pub struct Best {
@@ -42,9 +42,10 @@ pub fn mark_of(t: u64, best: Best) -> Mark
 
 // A vector becomes best only if it is cheaper or, for t = 0, as cheap and earlier. Its cost is summed until it is above the best one's.
 fn tried(store: &[u8], lanes: &[Chunk], m: Model, t: u64, best: Best, v: [i16; 8]) -> Best
-    requires { ⌜ Evaluable (now store) (now lanes) m × (best ≡ bestOf (cost m (pointsOf (now store))) (best .vector)) ⌝ }
-    ensures { λ r. ⌜ r
+    requires { ⌜ Evaluable (now store) (now lanes) m × (best ≡ bestOf (cost m (pointsOf (now store))) (best .vector)) × NextFits best ⌝ }
+    ensures best { λ r. ⌜ r
         ≡ bestOf (cost m (pointsOf (now (store .entry)))) (better (cost m (pointsOf (now (store .entry)))) t (best .vector) v) ⌝ }
+    ensures fits { λ r. ⌜ NextFits r ⌝ }
 {
     let c = model::cost_in(store, lanes, m, v, best.cost + 1);
     if ahead(mark_of(t, best), c, v) {
@@ -65,10 +66,11 @@ fn tried_if_new(
     new: bool,
 ) -> Best
     requires { ⌜
-        Evaluable (now store) (now lanes) m × (best ≡ bestOf (cost m (pointsOf (now store))) (best .vector))
+        Evaluable (now store) (now lanes) m × (best ≡ bestOf (cost m (pointsOf (now store))) (best .vector)) × NextFits best
         × (new ≡ false → better (cost m (pointsOf (now store))) t (best .vector) v ≡ best .vector) ⌝ }
-    ensures { λ r. ⌜ r
+    ensures best { λ r. ⌜ r
         ≡ bestOf (cost m (pointsOf (now (store .entry)))) (better (cost m (pointsOf (now (store .entry)))) t (best .vector) v) ⌝ }
+    ensures fits { λ r. ⌜ NextFits r ⌝ }
 {
     if new {
         tried(store, lanes, m, t, best, v)
@@ -104,7 +106,7 @@ fn cut_box(
     given: bool,
 ) -> Branches
     requires { ⌜
-        Evaluable (now store) (now lanes) m × (best ≡ bestOf (cost m (pointsOf (now store))) (best .vector)) × (2 ≤ volume b)
+        Evaluable (now store) (now lanes) m × (best ≡ bestOf (cost m (pointsOf (now store))) (best .vector)) × NextFits best × (2 ≤ volume b)
         × (given ≡ false → better (cost m (pointsOf (now store))) t (best .vector) (b .low) ≡ best .vector) ⌝ }
     ensures { λ r. ⌜
         Cut (cost m (pointsOf (now (store .entry)))) (bound m (pointsOf (now (store .entry)))) t b (best .vector) r ⌝ }

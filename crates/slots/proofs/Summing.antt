@@ -13,13 +13,13 @@ use Rattle.points.specs.Points.{pointAt}
 use Rattle.residuals.specs.Cost.{least, unlessGap}
 use Rattle.residuals.specs.Inside.{leastFrom, sumOf}
 use Rattle.residuals.proofs.Least.{loss-zero, loss-from}
-use Rattle.residuals.proofs.Sums.{Summed, none-summed, one-summed}
+use Rattle.residuals.proofs.Sums.{LossSmall, Summed, none-summed, one-summed}
 use Rattle.columns.specs.Columns.{nowhere, number, placed, slot}
 use Rattle.columns.proofs.Places.{slot-found, slot-full, slot-past}
 use Rattle.slots.proofs.Empty.{least-zero, placed-least}
 
 -- ---- the slots of a chunk, one after the other
-module _ (m : Model) (size : Point → ℕ → ℕ) (s : List ℕ) (lines : 1 ≤ m .n) (cut : m .eps ≤ 16777215) (none : (j : ℕ) → size nowhere j ≡ 0) where
+module _ (m : Model) (size : Point → ℕ → ℕ) (s : List ℕ) (lines : 1 ≤ m .n) (cut : LossSmall (m .p) (m .eps)) (none : (j : ℕ) → size nowhere j ≡ 0) where
   -- the loss of the point in slot k of chunk t
   abbrev pub slotLoss : ℕ → ℕ → ℕ
   slotLoss t k = lossOf (m .p) (m .eps) (leastFrom (m .eps + 1) (size (slot s t k)) (m .n))

@@ -39,6 +39,27 @@ pub struct Input {
     pub store: Vec<u8>,
 }
 
+impl Input {
+    /// Keeps the first records; for p = 3 q stays below their number where it was.
+    pub fn keep(&mut self, records: usize) {
+        let before = self.store.len() / RECORD;
+        self.store.truncate(RECORD.saturating_mul(records));
+        let (model, after) = (&mut self.job.model, self.store.len() / RECORD);
+        if model.p == 3 && after > 0 && (model.epsilon as usize) < before {
+            model.epsilon = model.epsilon.min(after as u32 - 1);
+        }
+    }
+
+    /// p = 3, with any q for the records that there are, often at an end of its range.
+    pub fn limit_spoiled(&mut self, random: &mut Random) {
+        let last = (self.store.len() / RECORD) as i64 - 1;
+        let any = random.between(0, last);
+        let few = last.min(random.between(0, 3));
+        self.job.model.p = 3;
+        self.job.model.epsilon = random.pick(&[0, last, any, any, few, last - few]) as u32;
+    }
+}
+
 pub fn model(random: &mut Random) -> Model {
     let (n, d) = random.pick(&SHAPES);
     let s = match random.below(3) {
@@ -146,7 +167,7 @@ pub fn equal_lines(input: &mut Input) {
 pub fn meet_the_second_line(random: &mut Random, input: &mut Input) {
     let Input { job: Job { model, start, .. }, store } = input;
     let points = points_of(store);
-    if model.check().is_err() || model.n == 1 || points.is_empty() {
+    if model.check_threshold().is_err() || model.n == 1 || points.is_empty() {
         return;
     }
     let point = points[random.size(0, points.len() - 1)];
@@ -164,7 +185,7 @@ pub fn sound(random: &mut Random) -> Input {
     sound_of(random, count)
 }
 
-/// A sound job of any size with a store of so many records.
+/// A sound job of any size with a store of so many records, once in five with a limit on spoiled samples.
 pub fn sound_of(random: &mut Random, count: usize) -> Input {
     let size = Size::random(random);
     let mut model = model(random);
@@ -176,12 +197,25 @@ pub fn sound_of(random: &mut Random, count: usize) -> Input {
     meet_a_residual(random, &mut model, &points, &start);
     let t = random.pick(&[0, 1, 5, u64::MAX]);
     let job = Job { model, t, budget: random.below(40) as u32, rows: random.below(40) as u32, domain, start };
-    Input { job, store: store_of(&points) }
+    let mut input = Input { job, store: store_of(&points) };
+    if random.once_in(5) {
+        input.limit_spoiled(random);
+    }
+    input
 }
 
-/// A sound job with a box of at most `limit` vectors, whose points lie near the lines of a vector in it,
-/// but for noise and outliers.
+/// A sound job with a box of at most `limit` vectors, once in five with a limit on spoiled samples.
 pub fn small(random: &mut Random, limit: u64) -> Input {
+    let mut input = small_with_threshold(random, limit);
+    if random.once_in(5) {
+        input.limit_spoiled(random);
+    }
+    input
+}
+
+/// A sound job with a threshold and a box of at most `limit` vectors, whose points lie near the lines of a vector in it,
+/// but for noise and outliers.
+pub fn small_with_threshold(random: &mut Random, limit: u64) -> Input {
     let mut model = model(random);
     model.s = random.pick(&[0, 0, 0, 1, 2, 5]);
     let used = model.used();
@@ -245,9 +279,14 @@ pub fn damage(random: &mut Random, input: &mut Input) {
                 *random.pick_mut(&mut model.n, &mut model.d) = number;
             }
             2 => model.s = random.pick(&[16, 17, 31, 32, 64, 255]),
-            3 => match random.below(3) {
+            3 => match random.below(4) {
                 0 => model.p = random.pick(&[3, 4, 255]),
-                1 => model.epsilon = random.pick(&[16_777_216, 16_777_217, u32::MAX]),
+                1 => {
+                    let records = (store.len() / RECORD) as u32;
+                    (model.p, model.epsilon) =
+                        (3, random.pick(&[records, records, records + 1, 16_777_215, u32::MAX]));
+                }
+                2 => model.epsilon = random.pick(&[16_777_216, 16_777_217, u32::MAX]),
                 _ => (model.p, model.epsilon) = (random.pick(&[0, 1, 2]), 0),
             },
             4 => damage_box(random, &mut job.domain, used),

@@ -1,6 +1,6 @@
 //! The cost beacon by beacon, request 10 of document 02.
 
-use crate::model::{check_loss, check_scale, check_shape, check_unused, Model, Vector};
+use crate::model::{check_unused, Model, Vector};
 use crate::points::{check_length, check_stray, points_of, BEACON_LIMIT, RECORD};
 use crate::refusal::{refuse_if, Refusal};
 
@@ -11,9 +11,7 @@ pub const BEACON_RECORDS: usize = BEACON_LIMIT / RECORD;
 /// entries are kept; returns their total. Makes checks 1 to 4, where p is 0, 1 or 2, then 6, 7 and 10.
 pub fn cost_by_beacon(model: &Model, store: &[u8], vector: &Vector, sums: &mut [u64]) -> Result<u64, Refusal> {
     check_length(store.len())?;
-    check_shape(model.n, model.d)?;
-    check_scale(model.s)?;
-    check_loss(model.p, model.epsilon)?;
+    model.check_threshold()?;
     check_unused(vector, model.used())?;
     let points = points_of(store);
     check_stray(&points, model.d)?;

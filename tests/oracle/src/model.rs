@@ -1,7 +1,7 @@
 //! Shape, scale and loss; the residual, the cost of a vector, the bound of a box and the labels.
 
 use crate::boxes::{check_box, Box8};
-use crate::points::{check_length, check_stray, points_of, Point};
+use crate::points::{check_length, check_stray, points_of, Point, RECORD};
 use crate::refusal::{refuse_if, Refusal};
 
 /// A vector: line after line, d coordinates each, then zeros.
@@ -11,7 +11,8 @@ pub const GAP_LABEL: u8 = 6;
 /// The label of a sample that is undecided between lines, request 8 of document 02.
 pub const UNDECIDED_LABEL: u8 = 5;
 
-/// What a cost is made with: n lines in d dimensions, the scale S, the loss p and its threshold ε.
+/// What a cost is made with: n lines in d dimensions, the scale S, the loss p and its threshold ε, which for p = 3 is q, the
+/// number of samples that may be spoiled.
 #[derive(Clone, Copy, Debug, PartialEq, Eq)]
 pub struct Model {
     pub n: u8,
@@ -32,10 +33,25 @@ pub fn check_scale(s: u8) -> Result<(), Refusal> {
     refuse_if(s > 15, Refusal::Scale)
 }
 
-/// Check 4.
+/// Check 4 of calls with a threshold: the loss of a single e, labels and the cost by beacon, which refuse p = 3.
 pub fn check_loss(p: u8, epsilon: u32) -> Result<(), Refusal> {
     let least = if p == 0 { 0 } else { 1 };
     refuse_if(p > 2 || epsilon < least || epsilon > 16_777_215, Refusal::Loss)
+}
+
+/// Check 4 of a cost, a bound, a search and fit: with p = 3, request 5 of document 02, ε carries q, from 0 to one less than
+/// the number of records, gaps included.
+pub fn check_loss_over(p: u8, epsilon: u32, records: usize) -> Result<(), Refusal> {
+    match p {
+        3 => refuse_if(epsilon as usize >= records, Refusal::Loss),
+        _ => check_loss(p, epsilon),
+    }
+}
+
+/// The (q + 1)-th largest, as q-max in source document 002: sorted downward with repeats, place q counted from 0.
+pub fn nth_largest(q: usize, mut sizes: Vec<u64>) -> u64 {
+    sizes.sort_by(|one, other| other.cmp(one));
+    sizes[q]
 }
 
 /// Check 6 of calls without a box: the coordinates after n × d are 0.
@@ -49,8 +65,15 @@ impl Model {
         self.n as usize * self.d as usize
     }
 
-    /// Checks 2, 3 and 4.
-    pub fn check(&self) -> Result<(), Refusal> {
+    /// Checks 2, 3 and 4, over so many records.
+    pub fn check(&self, records: usize) -> Result<(), Refusal> {
+        check_shape(self.n, self.d)?;
+        check_scale(self.s)?;
+        check_loss_over(self.p, self.epsilon, records)
+    }
+
+    /// Checks 2, 3 and 4 of calls with a threshold.
+    pub fn check_threshold(&self) -> Result<(), Refusal> {
         check_shape(self.n, self.d)?;
         check_scale(self.s)?;
         check_loss(self.p, self.epsilon)
@@ -114,28 +137,37 @@ impl Model {
         }
     }
 
-    /// The cost of a vector over points, without checks. No loss falls where |e| grows, so that the least loss among
-    /// the lines is that of the least |e|.
+    /// A cost or bound from the points' least sizes: for p = 3 the (q + 1)-th largest, else the sum of their losses. No
+    /// loss falls where |e| grows, so that the least loss among the lines is that of the least |e|.
+    pub fn made_of(&self, sizes: impl Iterator<Item = i64>) -> u64 {
+        match self.p {
+            3 => nth_largest(self.epsilon as usize, sizes.map(i64::unsigned_abs).collect()),
+            _ => sizes.map(|size| self.loss_of(size)).sum(),
+        }
+    }
+
+    /// The cost of a vector over points, without checks.
     pub fn cost_of(&self, points: &[Point], vector: &Vector) -> u64 {
-        points.iter().map(|point| self.loss_of(self.least_at(point, vector))).sum()
+        self.made_of(points.iter().map(|point| self.least_at(point, vector)))
     }
 
     /// The bound of a box over points, without checks.
     pub fn bound_of(&self, points: &[Point], domain: &Box8) -> u64 {
-        points.iter().map(|point| self.loss_of(self.least_over(point, domain))).sum()
+        self.made_of(points.iter().map(|point| self.least_over(point, domain)))
     }
 
-    /// The loss of e, without checks.
+    /// The loss of e, where p is 0, 1 or 2, without checks.
     pub fn loss_of(&self, e: i64) -> u64 {
         let size = e.unsigned_abs();
         let epsilon = self.epsilon as u64;
         match self.p {
             0 => (size > epsilon) as u64,
             1 => size.min(epsilon),
-            _ => {
+            2 => {
                 let square = size as u128 * size as u128;
                 square.min(epsilon as u128 * epsilon as u128) as u64
             }
+            p => panic!("p = {p} has no loss of a single e"),
         }
     }
 
@@ -158,7 +190,7 @@ impl Model {
     }
 }
 
-/// The loss of any signed 64-bit e; makes check 4.
+/// The loss of any signed 64-bit e; makes check 4, where p is 0, 1 or 2.
 pub fn loss(p: u8, epsilon: u32, e: i64) -> Result<u64, Refusal> {
     check_loss(p, epsilon)?;
     Ok(Model { n: 1, d: 1, s: 0, p, epsilon }.loss_of(e))
@@ -167,7 +199,7 @@ pub fn loss(p: u8, epsilon: u32, e: i64) -> Result<u64, Refusal> {
 /// The cost of a vector; makes checks 1 to 4, 6 and 7.
 pub fn cost(model: &Model, store: &[u8], vector: &Vector) -> Result<u64, Refusal> {
     check_length(store.len())?;
-    model.check()?;
+    model.check(store.len() / RECORD)?;
     check_unused(vector, model.used())?;
     let points = points_of(store);
     check_stray(&points, model.d)?;
@@ -177,18 +209,18 @@ pub fn cost(model: &Model, store: &[u8], vector: &Vector) -> Result<u64, Refusal
 /// The bound of a box; makes checks 1 to 5 and 7.
 pub fn bound(model: &Model, store: &[u8], domain: &Box8) -> Result<u64, Refusal> {
     check_length(store.len())?;
-    model.check()?;
+    model.check(store.len() / RECORD)?;
     check_box(domain, model.used())?;
     let points = points_of(store);
     check_stray(&points, model.d)?;
     Ok(model.bound_of(&points, domain))
 }
 
-/// Labels the points, one byte each, and keeps the rest of `out`; makes checks 1 to 4, 6, 7 and 10.
+/// Labels the points, one byte each, and keeps the rest of `out`; makes checks 1 to 4, where p is 0, 1 or 2, then 6, 7 and 10.
 /// Returns the number of points.
 pub fn labels(model: &Model, store: &[u8], vector: &Vector, out: &mut [u8]) -> Result<usize, Refusal> {
     check_length(store.len())?;
-    model.check()?;
+    model.check_threshold()?;
     check_unused(vector, model.used())?;
     let points = points_of(store);
     check_stray(&points, model.d)?;
@@ -347,7 +379,7 @@ mod tests {
         let stray = store_of(&[Point { x: [1, 1, 0, 0], y: 0, frame: 0 }]);
         let bad = [1; 8];
         let box_over = Box8 { low: [1; 8], high: [0; 8] };
-        let mut model = Model { n: 0, d: 1, s: 16, p: 3, epsilon: 0 };
+        let mut model = Model { n: 0, d: 1, s: 16, p: 3, epsilon: 1 };
         assert_eq!(cost(&model, &stray[1..], &bad), Err(Refusal::Length));
         assert_eq!(cost(&model, &stray, &bad), Err(Refusal::Shape));
         model.n = 1;

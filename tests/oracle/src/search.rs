@@ -2,7 +2,7 @@
 
 use crate::boxes::{check_box, Box8};
 use crate::model::Vector;
-use crate::points::{check_length, check_stray, points_of, Point};
+use crate::points::{check_length, check_stray, points_of, Point, RECORD};
 use crate::records::Job;
 use crate::refusal::{refuse_if, Refusal};
 
@@ -139,7 +139,7 @@ impl State {
 /// Checks 1 to 7, which a search and fit share.
 pub fn check_job(job: &Job, store: &[u8]) -> Result<Vec<Point>, Refusal> {
     check_length(store.len())?;
-    job.model.check()?;
+    job.model.check(store.len() / RECORD)?;
     check_box(&job.domain, job.model.used())?;
     refuse_if(!job.domain.contains(&job.start), Refusal::Start)?;
     let points = points_of(store);

@@ -15,10 +15,10 @@ use Rattle.beacon_costs.proofs.check_by_beacon.Reads as reads
 use Rattle.beacon_costs.proofs.check_by_beacon.Lts as lts
 use Rattle.beacon_costs.proofs.check_room.Reads as check-room-reads
 use Rattle.codes.proofs.in_order.Reads as in-order-reads
-use Rattle.model.proofs.check_cost.Reads as check-cost-reads
+use Rattle.model.proofs.check_threshold.Reads as check-threshold-reads
 
-check-cost-requires : tie.Need-check-cost-requires
-check-cost-requires c κs = search needs
+check-threshold-requires : tie.Need-check-threshold-requires
+check-threshold-requires c κs = search needs
 
 check-room-requires : tie.Need-check-room-requires
 check-room-requires c κs = search needs
@@ -32,9 +32,9 @@ returns c =
     let a = c .before .before .before .before .args in
     c .in-order .ensures
     ∙ ap₂ (λ (first : Check) (second : Check). inOrder (first ∷ second ∷ []))
-    (c .before .before .check-cost .ensures)
+    (c .before .before .check-threshold .ensures)
     (c .before .check-room .ensures ∙ ap (λ (n : ℕ). passIf (leb n (a .entries)) Short) (sym (group-number (a .store .now))))
 
 pub check-by-beacon-spec : {M : Type 1} → statement M
 check-by-beacon-spec =
-    tie.close (tie.spec check-cost-requires check-room-requires in-order-requires returns)
+    tie.close (tie.spec check-threshold-requires check-room-requires in-order-requires returns)

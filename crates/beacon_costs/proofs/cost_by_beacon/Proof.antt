@@ -4,7 +4,7 @@ use lib.ListN.{length}
 use Rattle.codes.specs.declared.Check.the-variants.{Pass, Refuse}
 use Rattle.codes.specs.declared.Outcome.the-variants.{Value}
 use Rattle.beacon_costs.specs.BeaconCosts.{checkByBeacon, costByBeacon, sumsAfter}
-use Rattle.beacon_costs.proofs.Passed.{all-ready, room}
+use Rattle.beacon_costs.proofs.Passed.{all-ready, picked, room}
 use borrow.Author.Needs.{needs}
 use Rattle.beacon_costs.proofs.cost_by_beacon.Statement.{statement}
 use Rattle.beacon_costs.proofs.cost_by_beacon.Tie as tie
@@ -29,7 +29,7 @@ write-sums-requires : tie.Need-write-sums-requires
 write-sums-requires c κs =
     let e = c .before in
     let a = e .before .before .before .before .before .args in
-    (all-ready (a .store .now) (a .m) (a .v) _ (pass e), room (a .store .now) (a .m) (a .v) _ (pass e))
+    (all-ready (a .store .now) (a .m) (a .v) _ (pass e), room (a .store .now) (a .m) (a .v) _ (pass e), picked (a .store .now) (a .m) (a .v) _ (pass e))
 
 enum-known-r : tie.Need-enum-known-r
 enum-known-r c = search needs

@@ -52,7 +52,7 @@ chunk-sums-requires c κs =
     let few = s .pre .0 .few in
     let power = power-of (s .args .m .scale) (three .power .result) (s .pre .0 .scaled) (three .power .ensures) in
     let i = c .before .before .loop-test .taken in (
-      (s .pre .0, power, omega (arith, i, p .before .group-count .ensures)),
+      (s .pre .0, power, omega (arith, i, p .before .group-count .ensures), s .pre .2),
       p .loop .inv .2,
     )
 

@@ -1,4 +1,4 @@
--- By what the checks of a cost say, and then by the room in the buffer.
+-- By what the checks with a threshold say, and then by the room in the buffer.
 use borrow.Author.Needs.{needs}
 use mathlib.Core.Path.{_≡_, refl, sym, ap, _∙_}
 use mathlib.Core.List.{List}
@@ -12,25 +12,25 @@ use Rattle.codes.specs.Codes.{passIf}
 use Rattle.codes.specs.declared.Outcome.the-variants.{Value}
 use Rattle.points.specs.Points.{pointsOf}
 use Rattle.points.proofs.Laws.{points-length}
-use Rattle.model.specs.Calls.{checkCost}
-use Rattle.model.proofs.Passed.{ready, cost-model}
+use Rattle.model.specs.Calls.{checkThreshold}
+use Rattle.model.proofs.Passed.{ready, threshold-model}
 use Rattle.labels.specs.Labels.{checkLabels, labelsAnswer, labelled}
-use Rattle.labels.proofs.Passed.{room-decides, cost-refuses}
+use Rattle.labels.proofs.Passed.{room-decides, first-refuses}
 use Rattle.labels.proofs.labels.Statement.{statement}
 use Rattle.labels.proofs.labels.Tie as tie
 
 module _ (c : tie.After-enum-told) where
   pass :
       let a = c .before .before .before .before .before .args in
-      checkCost (a .store .now) (a .m) (a .t3) ≡ Pass
-  pass = sym (c .before .before .check-cost .ensures) ∙ c .enum-told .given .1
+      checkThreshold (a .store .now) (a .m) (a .t3) ≡ Pass
+  pass = sym (c .before .before .check-threshold .ensures) ∙ c .enum-told .given .1
 
 points-number : (store : List ℕ) → length (pointsOf store) ≡ length store / 12
 unfolding pointsOf
 points-number store = points-length store (length store / 12)
 
-check-cost-requires : tie.Need-check-cost-requires
-check-cost-requires c κs = search needs
+check-threshold-requires : tie.Need-check-threshold-requires
+check-threshold-requires c κs = search needs
 
 enum-told : tie.Need-enum-told
 enum-told c = search needs
@@ -49,7 +49,7 @@ write-labels-requires : tie.Need-write-labels-requires
 write-labels-requires c κs =
     let e = c .before .before .before in
     let a = e .before .before .before .before .before .args in
-    (ready (a .store .now) (a .m) (cost-model (a .store .now) (a .m) (a .t3) (pass e)), omega (arith, points-number (a .store .now)))
+    (ready (a .store .now) (a .m) (threshold-model (a .store .now) (a .m) (a .t3) (pass e)), omega (arith, points-number (a .store .now)))
 
 enum-known-r : tie.Need-enum-known-r
 enum-known-r c = search needs
@@ -73,14 +73,14 @@ returns-3 c =
     let e = c .before .before .before in
     let a = e .before .before .before .args in
     let r = c .before .r in
-    let refuse = cost-refuses (a .store .now) (a .m) (a .t3) (a .out .now) (r .given .0 .0) (sym (e .check-cost .ensures) ∙ r .given .1) in
+    let refuse = first-refuses (a .store .now) (a .m) (a .t3) (a .out .now) (r .given .0 .0) (sym (e .check-threshold .ensures) ∙ r .given .1) in
     rw refuse (refl, refl)
 
 pub labels-spec : {M : Type 1} → statement M
 labels-spec =
     tie.close
     (tie.spec
-    check-cost-requires
+    check-threshold-requires
     enum-told
     returns
     write-labels-requires

@@ -4,7 +4,6 @@ use mathlib.Core.Path.{_≡_, refl, sym, ap, _∙_}
 use lib.ListN.{length}
 use Rattle.codes.specs.declared.Check.the-variants.{Pass, Refuse}
 use Rattle.codes.specs.declared.Outcome.the-variants.{Value}
-use Rattle.residuals.specs.Cost.{leastSize, bound}
 use Rattle.residuals.specs.Inside.{Ready}
 use Rattle.model.specs.Calls.{checkBound, boundAnswer}
 use Rattle.model.proofs.Passed.{ready, bound-model}
@@ -24,17 +23,17 @@ check-bound-requires c κs = search needs
 enum-told : tie.Need-enum-told
 enum-told c = search needs
 
-sum-requires : tie.Need-sum-requires
-sum-requires c κs = was-ready (c .before .before)
+whole-requires : tie.Need-whole-requires
+whole-requires c κs = was-ready (c .before .before)
 
 enum-known-r : tie.Need-enum-known-r
 enum-known-r c = search needs
 
 returns : tie.Need-returns
-unfolding boundAnswer bound
+unfolding boundAnswer
 returns c =
     let e = c .before .before .before in
-    rw (pass e) (ap Value (c .sum .ensures))
+    rw (pass e) (ap Value (c .whole .ensures))
 
 returns-2 : tie.Need-returns-2
 unfolding boundAnswer
@@ -46,4 +45,4 @@ returns-2 c =
 pub bound-spec : {M : Type 1} → statement M
 bound-spec =
     tie.close
-    (tie.spec check-bound-requires enum-told sum-requires enum-known-r returns returns-2)
+    (tie.spec check-bound-requires enum-told whole-requires enum-known-r returns returns-2)

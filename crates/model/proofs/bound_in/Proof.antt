@@ -2,7 +2,6 @@
 use borrow.Author.Needs.{needs}
 use mathlib.Core.Path.{_≡_, refl, sym, _∙_}
 use Rattle.codes.specs.declared.Check.the-variants.{Pass, Refuse}
-use Rattle.residuals.specs.Cost.{cost, bound}
 use Rattle.model.specs.Calls.{checkModel, boundUpTo, boundIn}
 use Rattle.model.proofs.Passed.{ready}
 use Rattle.model.proofs.bound_in.Statement.{statement}
@@ -17,15 +16,15 @@ check-model-requires c κs = search needs
 enum-told : tie.Need-enum-told
 enum-told c = search needs
 
-lanes-up-to-requires : tie.Need-lanes-up-to-requires
-lanes-up-to-requires c κs = let e = c .before .before in let a = e .before .before .before .before .args in ready (a .store .now) (a .m) (pass e)
+up-to-requires : tie.Need-up-to-requires
+up-to-requires c κs = let e = c .before .before in let a = e .before .before .before .before .args in ready (a .store .now) (a .m) (pass e)
 
 enum-told-2 : tie.Need-enum-told-2
 enum-told-2 c = search needs
 
 returns : tie.Need-returns
-unfolding boundIn boundUpTo bound
-returns c = rw (pass (c .before .before .before)) (let e = c .lanes-up-to .ensures in (e .by-lanes, e .by-points))
+unfolding boundIn boundUpTo
+returns c = rw (pass (c .before .before .before)) (let e = c .up-to .ensures in (e .by-lanes, e .by-points))
 
 returns-2 : tie.Need-returns-2
 unfolding boundIn boundUpTo
@@ -37,4 +36,4 @@ returns-2 c =
 pub bound-in-spec : {M : Type 1} → statement M
 bound-in-spec =
     tie.close
-    (tie.spec check-model-requires enum-told lanes-up-to-requires enum-told-2 returns returns-2)
+    (tie.spec check-model-requires enum-told up-to-requires enum-told-2 returns returns-2)

@@ -2,10 +2,11 @@
 use borrow.Author.Needs.{needs}
 use mathlib.Core.Path.{_∙_}
 use mathlib.Core.List.{[], _∷_}
+use Prim.Native.Nat.{_/_}
 use lib.ListN.{length}
 use Rattle.codes.specs.Codes.{inOrder}
 use Rattle.boxes.specs.Shape.{checkShape}
-use Rattle.loss.specs.Loss.{checkLoss}
+use Rattle.loss.specs.Loss.{checkLossFor}
 use Rattle.points.specs.Points.{checkStore}
 use Rattle.scale.specs.Scale.{checkScale}
 use Rattle.codes.proofs.Laws.{in-order-pairs}
@@ -25,8 +26,8 @@ in-order-requires c κs = search needs
 check-scale-requires : tie.Need-check-scale-requires
 check-scale-requires c κs = search needs
 
-check-loss-requires : tie.Need-check-loss-requires
-check-loss-requires c κs = search needs
+check-loss-for-requires : tie.Need-check-loss-for-requires
+check-loss-for-requires c κs = search needs
 
 in-order-requires-2 : tie.Need-in-order-requires-2
 in-order-requires-2 c κs = search needs
@@ -38,14 +39,14 @@ returns : tie.Need-returns
 unfolding checkModel
 returns c =
     let a = c .before .before .before .before .before .before .before .before .args in
-    let loss = c .before .before .check-loss .ensures in
+    let loss = c .before .before .check-loss-for .ensures in
     let scale = c .before .before .before .check-scale .ensures in
     let first = c .before .before .before .before .in-order .ensures in
     let shape = c .before .before .before .before .before .check-shape .ensures in
     let store = c .before .before .before .before .before .before .check-store .ensures in
     c .in-order3 .ensures
     ∙ (λ i. inOrder ((first ∙ λ j. inOrder (store j ∷ shape j ∷ [])) i ∷ (c .before .in-order2 .ensures ∙ λ j. inOrder (scale j ∷ loss j ∷ [])) i ∷ []))
-    ∙ in-order-pairs (checkStore (length (a .store .now))) (checkShape (a .m .n) (a .m .d)) (checkScale (a .m .scale)) (checkLoss (a .m .p) (a .m .eps))
+    ∙ in-order-pairs (checkStore (length (a .store .now))) (checkShape (a .m .n) (a .m .d)) (checkScale (a .m .scale)) (checkLossFor (length (a .store .now) / 12) (a .m .p) (a .m .eps))
 
 pub check-model-spec : {M : Type 1} → statement M
 check-model-spec =
@@ -55,7 +56,7 @@ check-model-spec =
     check-shape-requires
     in-order-requires
     check-scale-requires
-    check-loss-requires
+    check-loss-for-requires
     in-order-requires-2
     in-order-requires-3
     returns)

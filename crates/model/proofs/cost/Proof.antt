@@ -4,7 +4,6 @@ use mathlib.Core.Path.{_≡_, refl, sym, ap, _∙_}
 use lib.ListN.{length}
 use Rattle.codes.specs.declared.Check.the-variants.{Pass, Refuse}
 use Rattle.codes.specs.declared.Outcome.the-variants.{Value}
-use Rattle.residuals.specs.Cost.{sizeAt, cost}
 use Rattle.residuals.specs.Inside.{Ready}
 use Rattle.model.specs.Calls.{checkCost, costAnswer}
 use Rattle.model.proofs.Passed.{ready, cost-model}
@@ -24,17 +23,17 @@ check-cost-requires c κs = search needs
 enum-told : tie.Need-enum-told
 enum-told c = search needs
 
-sum-requires : tie.Need-sum-requires
-sum-requires c κs = was-ready (c)
+whole-requires : tie.Need-whole-requires
+whole-requires c κs = was-ready (c)
 
 enum-known-r : tie.Need-enum-known-r
 enum-known-r c = search needs
 
 returns : tie.Need-returns
-unfolding costAnswer cost
+unfolding costAnswer
 returns c =
     let e = c .before in
-    rw (pass e) (ap Value (c .sum .ensures))
+    rw (pass e) (ap Value (c .whole .ensures))
 
 returns-2 : tie.Need-returns-2
 unfolding costAnswer
@@ -46,4 +45,4 @@ returns-2 c =
 pub cost-spec : {M : Type 1} → statement M
 cost-spec =
     tie.close
-    (tie.spec check-cost-requires enum-told sum-requires enum-known-r returns returns-2)
+    (tie.spec check-cost-requires enum-told whole-requires enum-known-r returns returns-2)

@@ -75,7 +75,7 @@ run-requires c κs =
     let e = told (q .before .before .before .before .before) in
     let b = q .begin .ensures in (
       (evaluable (q .before .before .before .before .before), omega (arith, rows e, b .long), omega (arith, entries e, b .long, b .long-entries), (runs e) .inside),
-      record { best = b .best; stored = b .stored; state = b .state; long = refl; long-entries = refl; rest = refl; rest-entries = refl },
+      record { best = b .best; fits = b .fits; stored = b .stored; state = b .state; long = refl; long-entries = refl; rest = refl; rest-entries = refl },
     )
 
 enum-known-why : tie.Need-enum-known-why

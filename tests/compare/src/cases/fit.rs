@@ -30,7 +30,7 @@ pub fn sound(calls: &dyn Calls, random: &mut Random) -> Outcome {
 /// Jobs with damage, rows out of range, inputs cut short and inputs of great length.
 pub fn any(calls: &dyn Calls, random: &mut Random) -> Outcome {
     let mut case = inputs::any(random);
-    case.store.truncate(random.pick(&[600, 600, 600, usize::MAX]));
+    case.keep(random.pick(&[50, 50, 50, usize::MAX]));
     case.job.budget = random.below(4) as u32;
     case.job.rows = random.pick(&[1, 4, 2048, 0, 2049, 65_537, u32::MAX]);
     let mut input = input_of(&case);

@@ -12,6 +12,7 @@ mod model;
 mod one_record;
 mod records;
 mod search;
+mod spoiled;
 
 use crate::calls::{refusal_code, Calls};
 use crate::inputs::Input;
@@ -59,6 +60,14 @@ pub const GROUPS: &[Group] = &[
     group("crossings", "labels", 1, crossings::labels),
     group("beacon-sums-by-hand", "cost_by_beacon", 1, beacon_sums::by_hand),
     group("beacon-sums-refused", "cost_by_beacon", 1, beacon_sums::refused),
+    group("spoiled-cost", "cost", 1, spoiled::cost),
+    group("spoiled-bound", "bound", 1, spoiled::bound),
+    group("spoiled-fit", "fit", 1, spoiled::fit),
+    group("spoiled-loss", "loss", 1, spoiled::loss),
+    group("spoiled-labels", "labels", 1, spoiled::labels),
+    group("spoiled-beacon-sums", "cost_by_beacon", 1, spoiled::beacon_sums),
+    group("spoiled-cost-places", "cost", 1500, spoiled::cost_places),
+    group("spoiled-bound-places", "bound", 1500, spoiled::bound_places),
     group("loss", "loss", 3000, model::loss),
     group("cost", "cost", 4000, model::cost),
     group("beacon-sums", "cost_by_beacon", 3000, beacon_sums::any),
@@ -69,6 +78,7 @@ pub const GROUPS: &[Group] = &[
     group("merge", "merge", 3000, merge::small),
     group("merge-large", "merge", 60, merge::large),
     group("search-exhaustive", "search", 4000, search::exhaustive),
+    group("search-spoiled", "search", 1500, search::spoiled),
     group("search-ties", "search", 200, search::ties),
     group("search-wide", "search", 1000, search::wide),
     group("search-gaps-alone", "search", 500, search::gaps_alone),

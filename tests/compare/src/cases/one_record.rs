@@ -56,7 +56,7 @@ fn solved_run(calls: &dyn Calls, random: &mut Random, mut input: Input) -> Run {
 /// One record of a small store is another in the second.
 pub fn pairs(calls: &dyn Calls, random: &mut Random) -> Outcome {
     let limit = random.pick(&[1, 2, 8, 30, 100]);
-    let input = inputs::small(random, limit);
+    let input = inputs::small_with_threshold(random, limit);
     let mut changed = input.clone();
     let at = RECORD * random.size(0, input.store.len() / RECORD - 1);
     let record = other_record(random, input.job.model.d);

@@ -6,12 +6,24 @@ use crate::inputs::{self, Input};
 use crate::lent::{same, Lent};
 use crate::random::Random;
 use oracle::points::points_of;
-use oracle::{Answer, Job, Kind, Refusal};
+use oracle::{Answer, AnswerRecord, Job, Kind, Model, Refusal};
 
 /// Small boxes: the promises are checked over all grid vectors, without the oracle's search.
 pub fn exhaustive(calls: &dyn Calls, random: &mut Random) -> Outcome {
     let limit = random.pick(&[1, 2, 4, 8, 30, 30, 100, 300]);
-    let mut input = inputs::small(random, limit);
+    let input = inputs::small(random, limit);
+    over_all_vectors(calls, random, input)
+}
+
+/// The same with p = 3 alone; an answer record of such a search passes check 9.
+pub fn spoiled(calls: &dyn Calls, random: &mut Random) -> Outcome {
+    let limit = random.pick(&[2, 8, 30, 100]);
+    let mut input = inputs::small_with_threshold(random, limit);
+    input.limit_spoiled(random);
+    over_all_vectors(calls, random, input)
+}
+
+fn over_all_vectors(calls: &dyn Calls, random: &mut Random, mut input: Input) -> Outcome {
     let volume = input.job.domain.volume().unwrap() as u64;
     let below = random.below(volume) as u32;
     let cost_of_start = oracle::cost(&input.job.model, &input.store, &input.job.start).unwrap();
@@ -23,17 +35,20 @@ pub fn exhaustive(calls: &dyn Calls, random: &mut Random) -> Outcome {
     let entries = rows + random.pick(&[0, 0, 1, 3]);
     let mut run = Run::new(random, input, length, entries);
     run.call(calls);
-    let outcome = run.promises(volume, rows).and_then(|()| run.compare());
+    let outcome = run.promises(volume, rows).and_then(|()| run.compare()).and_then(|()| run.record(calls));
     with_case(outcome, || run.to_string())
 }
 
-/// Few points and p = 0, so that many vectors cost the same: the promises from every start of a small box, by which a solved
+/// Few points and mostly p = 0, so that many vectors cost the same: the promises from every start of a small box, by which a solved
 /// answer is the same vector from each.
 pub fn ties(calls: &dyn Calls, random: &mut Random) -> Outcome {
     let mut input = inputs::small(random, 40);
     input.store.truncate(12 * random.size(1, 3));
     input.job.model.p = random.pick(&[0, 0, 0, 1, 2]);
     input.job.model.epsilon = random.pick(&[1, 1, 2, 4]);
+    if random.once_in(4) {
+        input.limit_spoiled(random);
+    }
     let volume = input.job.domain.volume().unwrap() as u64;
     input.job.budget = volume as u32 - 1;
     let rows = (volume as usize).div_ceil(2);
@@ -53,7 +68,7 @@ pub fn wide(calls: &dyn Calls, random: &mut Random) -> Outcome {
         0 => inputs::sound(random),
         _ => inputs::small(random, 1 << 40),
     };
-    input.store.truncate(12 * 40);
+    input.keep(40);
     input.job.budget = random.pick(&[3, 20, 100, 300]);
     input.job.t = random.pick(&[0, 0, 1, 100]);
     let rows = random.pick(&[1, 2, 7, 30, 100, 400]);
@@ -86,7 +101,7 @@ pub fn gaps_alone(calls: &dyn Calls, random: &mut Random) -> Outcome {
 pub fn damaged(calls: &dyn Calls, random: &mut Random) -> Outcome {
     let mut input = if random.once_in(2) { inputs::small(random, 50) } else { inputs::sound(random) };
     input.job.budget = random.below(8) as u32;
-    input.store.truncate(12 * 40);
+    input.keep(40);
     if !random.once_in(4) {
         inputs::damage(random, &mut input);
     }
@@ -196,6 +211,15 @@ impl Run {
             same("solved, as budget and rows suffice", solved, true)?;
         }
         Ok(())
+    }
+
+    /// The answer as a record, which no accepted job's answer is refused.
+    fn record(&self, calls: &dyn Calls) -> Outcome {
+        let Model { n, d, s, .. } = self.input.job.model;
+        let vector: [i16; 8] = self.found.vector.now().try_into().unwrap();
+        let [c, l, count, _, _] = self.found.numbers.now().try_into().unwrap();
+        let answer = AnswerRecord { vector, c, l, count: count as u32, kind: self.found.value as u8, n, d, s };
+        same("answer record", calls.write_answer(&answer, &vector, &mut [0; 40]), 0)
     }
 
     fn expected(&self) -> Result<Answer, Refusal> {

@@ -40,7 +40,7 @@ impl StandIn {
         if self.slips(BeaconLoss3Taken) && model.p == 3 {
             model.p = 2;
         }
-        let checked = self.counted(store, oracle::cost(&model, store, vector));
+        let checked = self.counted(store, oracle::cost_by_beacon(&model, store, vector, &mut [0; 216]));
         let entries = if self.slips(Beacons216Needed) { 216 } else { store.len().div_ceil(12 * 19) };
         let short = if sums.len() < entries { Err(Refusal::Short) } else { Ok(()) };
         if self.slips(BeaconShortBeforeStray) && matches!(checked, Err(Refusal::Stray(_))) {

@@ -41,16 +41,12 @@ impl StandIn {
     }
 
     pub fn cost_of(&self, model: &Model, points: &[Point], vector: &Vector) -> u64 {
-        match self.slip {
-            GapCosts => model.cost_of(&as_samples(points), vector),
-            _ => model.cost_of(points, vector),
-        }
+        let points = if self.slips(GapCosts) { as_samples(points) } else { points.to_vec() };
+        self.cost_made(model, points.iter().map(|point| model.least_at(point, vector)))
     }
 
     pub fn bound_over(&self, model: &Model, points: &[Point], domain: &Box8) -> u64 {
-        match self.slip {
-            GapBoundedAsASample => model.bound_of(&as_samples(points), domain),
-            _ => model.bound_of(points, domain),
-        }
+        let points = if self.slips(GapBoundedAsASample) { as_samples(points) } else { points.to_vec() };
+        self.bound_made(model, points.iter().map(|point| model.least_over(point, domain)))
     }
 }

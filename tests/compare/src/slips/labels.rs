@@ -14,6 +14,7 @@ impl StandIn {
         vector: &Vector,
         labels: &mut [u8],
     ) -> Result<u64, Refusal> {
+        let model = &self.with_threshold(model, self.slips(SpoiledLabelled));
         self.counted(store, oracle::labels(model, store, vector, &mut [0; 4096]))?;
         let mut points = points_of(store);
         if self.slips(GapsUncountedInLabels) {

@@ -6,6 +6,7 @@ mod gaps;
 mod labels;
 mod merge;
 mod search;
+mod spoiled;
 mod stand_in;
 
 use crate::cases::GROUPS;
@@ -55,6 +56,18 @@ enum Slip {
     BeaconLoss3Taken,
     BeaconShortBeforeStray,
     BeaconShortWritten,
+    // A limit on spoiled samples.
+    SpoiledPlaceBefore,
+    SpoiledPlaceBehind,
+    SpoiledDistinct,
+    SpoiledCutAtQ,
+    Spoiled32Bits,
+    SpoiledBoundBySum,
+    SpoiledAllTaken,
+    SpoiledNoneRefused,
+    SpoiledGapsUncounted,
+    SpoiledLossTaken,
+    SpoiledLabelled,
     // Checks.
     StrayFieldByField,
     StrayRecordAsValue,
@@ -139,9 +152,25 @@ const SLIPS: &[(&str, &[Slip])] = &[
     ("split", &[HalvesTowardZero, CutsHighestCoordinate, OneVectorIsSplit]),
     (
         "bound",
-        &[PairsLowWithLow, GapBoundedAsASample, GapMarkOneOff, GapStrayTaken, GapsUncountedInStray, WrongLengthTaken],
+        &[
+            PairsLowWithLow,
+            GapBoundedAsASample,
+            GapMarkOneOff,
+            GapStrayTaken,
+            GapsUncountedInStray,
+            SpoiledPlaceBefore,
+            SpoiledPlaceBehind,
+            SpoiledDistinct,
+            SpoiledCutAtQ,
+            Spoiled32Bits,
+            SpoiledBoundBySum,
+            SpoiledAllTaken,
+            SpoiledNoneRefused,
+            SpoiledGapsUncounted,
+            WrongLengthTaken,
+        ],
     ),
-    ("loss", &[SquaresBeforeTheCut, EpsilonItselfIsOut, LeastI64]),
+    ("loss", &[SquaresBeforeTheCut, EpsilonItselfIsOut, LeastI64, SpoiledLossTaken]),
     (
         "cost",
         &[
@@ -154,12 +183,21 @@ const SLIPS: &[(&str, &[Slip])] = &[
             GapsUncountedInStray,
             GapStrayTaken,
             GapsAloneRefused,
+            SpoiledPlaceBefore,
+            SpoiledPlaceBehind,
+            SpoiledDistinct,
+            SpoiledCutAtQ,
+            Spoiled32Bits,
+            SpoiledAllTaken,
+            SpoiledNoneRefused,
+            SpoiledGapsUncounted,
             WrongLengthTaken,
         ],
     ),
     (
         "labels",
         &[
+            SpoiledLabelled,
             EpsilonItselfIsOut,
             LabelsWithoutThreshold,
             LabelsClearTheRest,
@@ -262,6 +300,13 @@ const SLIPS: &[(&str, &[Slip])] = &[
             GapsAloneRefused,
             GapsUncountedInStray,
             GapStrayTaken,
+            SpoiledPlaceBefore,
+            SpoiledPlaceBehind,
+            SpoiledDistinct,
+            SpoiledBoundBySum,
+            SpoiledAllTaken,
+            SpoiledNoneRefused,
+            SpoiledGapsUncounted,
             WrongLengthTaken,
         ],
     ),
@@ -274,7 +319,19 @@ const SLIPS: &[(&str, &[Slip])] = &[
     ("read_answer", &[AnswerUnusedKept, WrongLengthTaken]),
     ("read_line", &[NegativeZeroRead, OffGridRounded, LastWUnread, OneWOff, UnusedPatternRead, WrongLengthTaken]),
     ("write_line", &[OneWOff, UnusedCoordinateWritten, WrongLengthTaken]),
-    ("fit", &[FitWithoutLineEnd, FitWithRecord, FitAllCoordinates, GapMarkOneOff, GapStrayTaken]),
+    (
+        "fit",
+        &[
+            FitWithoutLineEnd,
+            FitWithRecord,
+            FitAllCoordinates,
+            GapMarkOneOff,
+            GapStrayTaken,
+            SpoiledAllTaken,
+            SpoiledNoneRefused,
+            SpoiledGapsUncounted,
+        ],
+    ),
 ];
 
 /// Whether some case of the call's groups fails for the stand-in.

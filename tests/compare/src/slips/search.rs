@@ -3,7 +3,7 @@
 use super::stand_in::StandIn;
 use super::Slip::*;
 use oracle::boxes::check_box;
-use oracle::points::{check_length, Point};
+use oracle::points::{check_length, Point, RECORD};
 use oracle::search::check_job;
 use oracle::{Box8, Job, Kind, Model, Refusal, Vector};
 
@@ -46,9 +46,9 @@ impl StandIn {
             }
             let ends = |j| [model.residual(point, &domain.high, j), model.residual(point, &domain.low, j)];
             let size = |[emin, emax]: [i64; 2]| if emin > 0 { emin } else { (-emax).max(0) };
-            (0..model.n as usize).map(|j| model.loss_of(size(ends(j)))).min().unwrap()
+            (0..model.n as usize).map(|j| size(ends(j))).min().unwrap()
         };
-        points.iter().map(least).sum()
+        self.bound_made(model, points.iter().map(least))
     }
 
     /// Whether a cost with its vector, or a bound with its low vector, is below C; for t = 0 also whether it equals C and
@@ -201,8 +201,9 @@ impl StandIn {
         numbers: usize,
         entries: usize,
     ) -> Result<Vec<Point>, Refusal> {
+        let job = &Job { model: self.checked(&job.model, store), ..*job };
         check_length(store.len())?;
-        job.model.check()?;
+        job.model.check(store.len() / RECORD)?;
         let outside = !job.domain.contains(&job.start);
         if self.slips(StartBeforeBox) && outside {
             return Err(Refusal::Start);

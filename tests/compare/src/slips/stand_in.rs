@@ -70,6 +70,7 @@ impl StandIn {
 
 impl Calls for StandIn {
     fn loss(&self, p: u8, epsilon: u32, e: i64, value: &mut u64) -> u32 {
+        let p = if self.slips(SpoiledLossTaken) && p == 3 { 0 } else { p };
         let result = oracle::loss(p, epsilon, e).map(|loss| match self.slip {
             SquaresBeforeTheCut if p == 2 => (e.wrapping_mul(e) as u64).min((epsilon as u64).pow(2)),
             LeastI64 if e == i64::MIN => 0,
@@ -84,7 +85,7 @@ impl Calls for StandIn {
             return WRONG_LENGTH;
         };
         let store = &self.read(store, model.d);
-        let checked = self.counted(store, oracle::cost(model, store, &vector));
+        let checked = self.counted(store, oracle::cost(&self.checked(model, store), store, &vector));
         let code = settle(checked.map(|_| self.cost_of(model, &points_of(store), &vector)), value);
         let stray = code % 256 == 7;
         match self.slip {
@@ -107,7 +108,7 @@ impl Calls for StandIn {
             return WRONG_LENGTH;
         };
         let store = &self.read(store, model.d);
-        let checked = self.counted(store, oracle::bound(model, store, &domain));
+        let checked = self.counted(store, oracle::bound(&self.checked(model, store), store, &domain));
         settle(checked.map(|_| self.bound_of(model, &points_of(store), &domain)), value)
     }
 
@@ -340,9 +341,16 @@ impl Calls for StandIn {
     }
 
     fn fit(&self, input: &[u8]) -> Vec<u8> {
-        let (job, store) = input.split_at(input.len().min(JOB));
-        let d = job.get(1).copied().unwrap_or(0);
-        let mut line = oracle::fit(&[job, &self.read(store, d)].concat()).into_bytes();
+        let mut line = match input.split_first_chunk::<JOB>() {
+            Some((record, store)) => {
+                let mut job = oracle::read_job(record);
+                let store = self.read(store, job.model.d);
+                job.model = self.checked(&job.model, &store);
+                oracle::fit(&[&oracle::write_job(&job)[..], &store].concat())
+            }
+            _ => oracle::fit(input),
+        }
+        .into_bytes();
         match self.slip {
             FitWithoutLineEnd => drop(line.pop()),
             FitWithRecord if line.starts_with(b"refused 7") => line = b"refused 7 0\n".to_vec(),

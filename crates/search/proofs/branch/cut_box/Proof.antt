@@ -7,7 +7,6 @@ use Rattle.boxes.specs.Split.{leftHalf}
 use Rattle.boxes.proofs.Splitting.{cut-passes}
 use Rattle.search.specs.declared.branch.Best.{Best}
 use Rattle.search.specs.Inside.{bestOf}
-use Rattle.search.proofs.UpTo.{best-below}
 use borrow.Author.Needs.{needs}
 use Rattle.search.proofs.branch.cut_box.Statement.{statement}
 use Rattle.search.proofs.branch.cut_box.Tie as tie
@@ -21,8 +20,8 @@ unfolding leftHalf
 tried-if-new-requires c κs =
     let cuts = c .before .before .before .before in
     let start = cuts .before .before in
-    let halves = cuts .cut .ensures ∙ cut-passes (start .args .b) (start .pre .2) in
-    (start .pre .0, start .pre .1, rw halves (start .pre .3))
+    let halves = cuts .cut .ensures ∙ cut-passes (start .args .b) (start .pre .3) in
+    (start .pre .0, start .pre .1, start .pre .2, rw halves (start .pre .4))
 
 -- the best one after the first half is tried
 new-best : (c : tie.After-tried-if-new) →
@@ -31,20 +30,17 @@ new-best : (c : tie.After-tried-if-new) →
 new-best c =
     let start = c .before .before .before .before .before .before .before in
     let C = cost (start .args .m) (pointsOf (start .args .store .now)) in
-    c .tried-if-new .ensures ∙ ap (λ (b : Best). bestOf C (b .vector)) (sym (c .tried-if-new .ensures))
+    c .tried-if-new .ensures .0 ∙ ap (λ (b : Best). bestOf C (b .vector)) (sym (c .tried-if-new .ensures .0))
 
 tried-requires : tie.Need-tried-requires
-tried-requires c κs = (c .before .before .before .before .before .before .before .pre .0, new-best c)
+tried-requires c κs = (c .before .before .before .before .before .before .before .pre .0, new-best c, c .tried-if-new .ensures .1)
 
 mark-of-requires : tie.Need-mark-of-requires
 mark-of-requires c κs = search needs
 
 -- the new best one's cost is no largest number of 64 bits
 mark-below : (c : tie.After-mark-of) → c .mark-of .result .cost < 18446744073709551615
-mark-below c =
-    let tries = c .before in
-    let start = tries .before .before .before .before .before .before .before .before in
-    rw (c .mark-of .ensures) (best-below (start .args .store .now) (start .args .m) (start .pre .0 .checked) (tries .tried .result) _ (tries .tried .ensures))
+mark-below c = rw (c .mark-of .ensures) (c .before .tried .ensures .1)
 
 tested-requires : tie.Need-tested-requires
 tested-requires c κs = (c .before .before .before .before .before .before .before .before .before .pre .0, mark-below c)
@@ -58,9 +54,10 @@ returns c =
     let tries = marks .before in
     let cuts = tries .before .before .before .before .before .before in
     let start = cuts .before .before in
-    let halves = cuts .cut .ensures ∙ cut-passes (start .args .b) (start .pre .2) in
+    let halves = cuts .cut .ensures ∙ cut-passes (start .args .b) (start .pre .3) in
     record {
-      best = rw (tries .tried .ensures, tries .before .tried-if-new .ensures, halves);
+      best = rw (tries .tried .ensures .0, tries .before .tried-if-new .ensures .0, halves);
+      fits = tries .tried .ensures .1;
       left = rw (marks .mark-of .ensures, halves) at (c .before .tested .ensures);
       right = rw (marks .mark-of .ensures, halves) at (c .tested2 .ensures);
     }

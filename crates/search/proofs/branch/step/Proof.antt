@@ -30,6 +30,7 @@ cut-box-requires c κs =
     let s = read .before .before .before .before .before in (
       s .pre .0,
       s .pre .1 .best,
+      s .pre .1 .fits,
       rw (read .read-row .ensures) (s .pre .1 .wide),
       λ e. let some = eqb-false (s .args .s .count) _ e in rw (read .read-row .ensures) (s .pre .1 .costed (omega arith)),
     )

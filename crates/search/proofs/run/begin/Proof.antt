@@ -1,9 +1,10 @@
 -- The start vector's cost, and the given box if it is kept.
-use mathlib.Core.Path.{_≡_, _∙_}
+use mathlib.Core.Path.{_≡_}
+use Prim.Native.Nat.{_<_}
+use native.Mathlib.Omega.{arith}
 use Rattle.points.specs.Points.{pointsOf}
 use Rattle.residuals.specs.Cost.{cost, bound}
 use Rattle.rows.proofs.Rows.{Whole}
-use Rattle.search.proofs.UpTo.{best-below}
 use Rattle.search.proofs.Beginning.{whole-cost, begun}
 use borrow.Author.Needs.{needs}
 use Rattle.search.proofs.run.begin.Statement.{statement}
@@ -21,17 +22,17 @@ exact : (c : tie.After-cost-in) →
     c .cost-in .result ≡ cost (a .m) (pointsOf (a .store .now)) (a .start)
 exact c =
     let start = c .before .before .before in
-    c .cost-in .ensures .1 (start .pre .0 .decoded) ∙ whole-cost (start .args .store .now) (start .args .m) (start .args .start) (start .pre .0 .checked)
+    let e = c .cost-in .ensures .1 in
+    let decoded = start .pre .0 .decoded in
+    whole-cost (start .args .store .now) (start .args .m) (start .args .start) (start .pre .0 .checked) _ (e .0 decoded) (e .1 decoded)
+
+fits : (c : tie.After-cost-in) → c .cost-in .result < 18446744073709551615
+fits c = omega (arith, c .cost-in .ensures .1 .1 (c .before .before .before .pre .0 .decoded))
 
 tested-requires : tie.Need-tested-requires
 tested-requires c κs =
     let costs = c .before .before .before in
-    let start = costs .before .before .before in
-    let a = start .args in (
-      start .pre .0,
-      rw (c .mark-of .ensures)
-          (best-below (a .store .now) (a .m) (start .pre .0 .checked) (record { vector = a .start; cost = costs .cost-in .result }) (a .start) (rw (exact costs))),
-    )
+    (costs .before .before .before .pre .0, rw (c .mark-of .ensures) (fits costs))
 
 put-requires : tie.Need-put-requires
 put-requires c κs = search needs
@@ -56,7 +57,7 @@ returns c =
     let o = tests .tested .result in
     let half-whole : Whole (o .half) = rw (tests .tested .ensures .half) (domain-whole start) in
     begun (cost (a .m) (pointsOf (a .store .now))) (bound (a .m) (pointsOf (a .store .now))) (a .t) (a .start) (a .domain) (a .table .now) (a .bounds .now)
-    (costs .cost-in .result) o (exact costs) (rw (marks .mark-of .ensures) at (tests .tested .ensures)) (start .pre .1) (start .pre .2) half-whole
+    (costs .cost-in .result) o (exact costs) (fits costs) (rw (marks .mark-of .ensures) at (tests .tested .ensures)) (start .pre .1) (start .pre .2) half-whole
     (p .put .result) (p .put .last .0) (p .put .last .1 .0) (p .put .ensures)
 
 pub begin-spec : {M : Type 1} → statement M

@@ -1,0 +1,108 @@
+-- The sizes of chunks, found one after the other in lanes that begin with a number that no size reaches. Assumes nothing.
+use mathlib.Core.Path.{_≡_, refl, sym, ap, _∙_, subst}
+use mathlib.Core.Bool.{Bool}
+use mathlib.Core.List.{List, [], _∷_, _++_}
+use mathlib.Core.Logic.{⊎-elim}
+use Prim.Native.Nat.{ℕ, _+_, _^_, _≤_, _<_}
+use native.Mathlib.Omega.{arith}
+use lib.IntN.{pos}
+use lib.ListN.{length, getD, set, replicate, length-set, length-append, getD-replicate, List·getD-append}
+use lib.Seq.{getD-set-same, getD-set-other, getD-append-seam}
+use lib.Ieee.{Float, nan, binary64, ofInt}
+use Rattle.integers.proofs.Tests.{le-or-lt}
+use Rattle.lanes.specs.Lanes.{lane}
+use Rattle.jobs.specs.declared.Model.{Model}
+use Rattle.columns.specs.Columns.{ChunkOf}
+use Rattle.kernel.specs.Kernel.{leastBy, chunkSize}
+
+abbrev most : Float
+most = ofInt binary64 (pos 8589934592)
+
+-- the first t have the sizes that f gives, the others are as they began
+pub record Sized (f : ℕ → ℕ → Float) (kept : List (List Float)) (t : ℕ) : Type 0 where
+  pub long : length kept ≡ 54
+  pub sizes : (i : ℕ) → i < t → (k : ℕ) → k < 80 → lane (getD kept i []) k ≡ f i k
+  pub fresh : (i : ℕ) → t ≤ i → i < 54 → (k : ℕ) → k < 80 → lane (getD kept i []) k ≡ most
+
+pub none-sized : (f : ℕ → ℕ → Float) → Sized f (replicate 54 (replicate 80 most)) 0
+none-sized f =
+    record {
+      long = refl;
+      sizes = λ i h. absurd (omega arith);
+      fresh = λ i h l k g. ap (λ (xs : List Float). lane xs k) (getD-replicate 54 i (replicate 80 most) [] l) ∙ getD-replicate 80 k most nan g;
+    }
+
+module _ (f : ℕ → ℕ → Float) (kept : List (List Float)) (t : ℕ) (before : Sized f kept t) where
+  -- for sizes that are the same so far
+  pub same-sized : (g : ℕ → ℕ → Float) → ((i : ℕ) → i < t → (k : ℕ) → f i k ≡ g i k) → Sized g kept t
+  same-sized g same = record { long = before .long; sizes = λ i h k l. before .sizes i h k l ∙ same i h k; fresh = before .fresh }
+
+  module _ (r : List Float) (inside : t < 54) where
+    other : (i : ℕ) → (i ≡ t → ⊥) → (k : ℕ) → lane (getD (set kept t r) i []) k ≡ lane (getD kept i []) k
+    other i h k = ap (λ (xs : List Float). lane xs k) (getD-set-other kept t i r [] h)
+
+    pub one-sized : ((k : ℕ) → k < 80 → lane r k ≡ f t k) → Sized f (set kept t r) (t + 1)
+    one-sized here =
+        record {
+          long = length-set kept t r ∙ before .long;
+          sizes = λ i h k l.
+              ⊎-elim
+              (λ (g : t ≤ i).
+              let e : i ≡ t = omega arith in
+              rw e (ap (λ (xs : List Float). lane xs k) (getD-set-same kept t r [] (omega (arith, before .long))) ∙ here k l))
+              (λ (g : i < t). other i (λ (e : i ≡ t). omega arith) k ∙ before .sizes i g k l)
+              (le-or-lt t i);
+          fresh = λ i h l k g. other i (λ (e : i ≡ t). omega arith) k ∙ before .fresh i (omega arith) l k g;
+        }
+
+    -- what is found in the next lanes are the sizes of a chunk
+    pub from-fresh : (over : Bool) (s : List (List Float)) (from to : List Float) (m : Model)
+        → ((k : ℕ) → k < 80 → lane r k ≡ leastBy over s from to (m .d) (lane (getD kept t []) k) (m .n) k)
+        → (k : ℕ) → k < 80 → lane r k ≡ chunkSize over s from to m k
+    unfolding chunkSize
+    from-fresh over s from to m found k h =
+        found k h ∙ ap (λ (x : Float). leastBy over s from to (m .d) x (m .n) k) (before .fresh t (omega arith) inside k h)
+
+-- the sizes of the first t chunks of a store, each decoded by itself
+pub record KeptSizes (store : List ℕ) (m : Model) (over : Bool) (from to : List Float) (kept : List (List Float)) (t : ℕ) : Type 0 where
+  pub lanes : List (List (List Float))
+  pub many : length lanes ≡ t
+  pub chunk : (i : ℕ) → i < t → ChunkOf store i (m .d) (2 ^ m .scale) (getD lanes i [])
+  pub sized : Sized (λ i k. chunkSize over (getD lanes i []) from to m k) kept t
+
+module _ (store : List ℕ) (m : Model) (over : Bool) (from to : List Float) where
+  pub none-kept : KeptSizes store m over from to (replicate 54 (replicate 80 most)) 0
+  none-kept = record { lanes = []; many = refl; chunk = λ i h. absurd (omega arith); sized = none-sized _ }
+
+  module _ (kept : List (List Float)) (t : ℕ) (before : KeptSizes store m over from to kept t) (s : List (List Float)) where
+    abbrev all : List (List (List Float))
+    all = before .lanes ++ (s ∷ [])
+
+    old : (i : ℕ) → i < t → getD all i [] ≡ getD (before .lanes) i []
+    old i h = List·getD-append (before .lanes) (s ∷ []) [] i (omega (arith, before .many))
+
+    new : getD all t [] ≡ s
+    new = subst (λ (n : ℕ). getD all n [] ≡ s) (before .many) (getD-append-seam (before .lanes) s [] [])
+
+    abbrev sizes-of : List (List Float) → ℕ → Float
+    sizes-of x = chunkSize over x from to m
+
+    pub one-kept : (r : List Float) → t < 54 → ChunkOf store t (m .d) (2 ^ m .scale) s
+        → ((k : ℕ) → k < 80 → lane r k ≡ leastBy over s from to (m .d) (lane (getD kept t []) k) (m .n) k)
+        → KeptSizes store m over from to (set kept t r) (t + 1)
+    one-kept r inside is found =
+        let so-far = same-sized _ kept t (before .sized) (λ i. sizes-of (getD all i [])) (λ i h k. ap (λ (x : List (List Float)). sizes-of x k) (sym (old i h))) in
+        record {
+          lanes = all;
+          many = omega (arith, length-append (before .lanes) (s ∷ []), before .many);
+          chunk = λ i h.
+              ⊎-elim
+              (λ (g : t ≤ i).
+              let e : i ≡ t = omega arith in
+              rw (e, new) is)
+              (λ (g : i < t). rw (old i g) (before .chunk i g))
+              (le-or-lt t i);
+          sized =
+              one-sized _ kept t so-far r inside
+              (λ k l. from-fresh _ kept t so-far r inside over s from to m found k l ∙ ap (λ (x : List (List Float)). sizes-of x k) (sym new));
+        }

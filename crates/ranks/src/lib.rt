@@ -1,0 +1,1 @@
+// Place q of numbers sorted downward: definitions and laws, no code.
