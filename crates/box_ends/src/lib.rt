@@ -3,25 +3,25 @@ use whole::larger;
 use whole::smaller;
 ghost use mathlib.Core.Path.{_≡_};
 ghost use Prim.Native.Nat.{min};
-ghost use lib.Ieee.{binary64, sub, mul};
+ghost use lib.Ieee.{binary64, add, sub, mul};
 ghost use Rattle.whole.specs.Whole.{largerOf, smallerOf};
 ghost use Rattle.lanes.specs.Lanes.{four, taken};
-ghost use Rattle.box_ends.specs.Ends.{endBy, nearest};
+ghost use Rattle.box_ends.specs.Ends.{leastEnd, oppositeEnd, nearest};
 
-// emin and emax.
+// emin and −emax, by which the least size takes no change of sign.
 pub struct Ends {
     pub least: f64,
-    pub largest: f64,
+    pub opposite: f64,
 }
 
 // One coordinate more.
 fn narrowed(e: Ends, low: f64, high: f64, x: f64) -> Ends
     ensures least { λ r. ⌜ r .least ≡ sub binary64 (e .least) (largerOf (mul binary64 low x) (mul binary64 high x)) ⌝ }
-    ensures largest { λ r. ⌜ r .largest ≡ sub binary64 (e .largest) (smallerOf (mul binary64 low x) (mul binary64 high x)) ⌝ }
+    ensures opposite { λ r. ⌜ r .opposite ≡ add binary64 (e .opposite) (smallerOf (mul binary64 low x) (mul binary64 high x)) ⌝ }
 {
     Ends {
         least: e.least - larger(low * x, high * x),
-        largest: e.largest - smaller(low * x, high * x),
+        opposite: e.opposite + smaller(low * x, high * x),
     }
 }
 
@@ -42,13 +42,13 @@ pub fn few_ends(
     h4: f64,
     x4: f64,
 ) -> Ends
-    ensures least { λ r. ⌜ r .least ≡ endBy largerOf (four l1 l2 l3 l4) (four h1 h2 h3 h4) (four x1 x2 x3 x4) y (min (taken d) 2) ⌝ }
-    ensures largest { λ r. ⌜ r .largest ≡ endBy smallerOf (four l1 l2 l3 l4) (four h1 h2 h3 h4) (four x1 x2 x3 x4) y (min (taken d) 2) ⌝ }
+    ensures least { λ r. ⌜ r .least ≡ leastEnd (four l1 l2 l3 l4) (four h1 h2 h3 h4) (four x1 x2 x3 x4) y (min (taken d) 2) ⌝ }
+    ensures opposite { λ r. ⌜ r .opposite ≡ oppositeEnd (four l1 l2 l3 l4) (four h1 h2 h3 h4) (four x1 x2 x3 x4) y (min (taken d) 2) ⌝ }
 {
     let one = narrowed(
         Ends {
             least: y,
-            largest: y,
+            opposite: -y,
         },
         l1,
         h1,
@@ -76,8 +76,8 @@ pub fn three_ends(
     h4: f64,
     x4: f64,
 ) -> Ends
-    ensures least { λ r. ⌜ r .least ≡ endBy largerOf (four l1 l2 l3 l4) (four h1 h2 h3 h4) (four x1 x2 x3 x4) y 3 ⌝ }
-    ensures largest { λ r. ⌜ r .largest ≡ endBy smallerOf (four l1 l2 l3 l4) (four h1 h2 h3 h4) (four x1 x2 x3 x4) y 3 ⌝ }
+    ensures least { λ r. ⌜ r .least ≡ leastEnd (four l1 l2 l3 l4) (four h1 h2 h3 h4) (four x1 x2 x3 x4) y 3 ⌝ }
+    ensures opposite { λ r. ⌜ r .opposite ≡ oppositeEnd (four l1 l2 l3 l4) (four h1 h2 h3 h4) (four x1 x2 x3 x4) y 3 ⌝ }
 {
     let two = few_ends(2, y, l1, h1, x1, l2, h2, x2, l3, h3, x3, l4, h4, x4);
     narrowed(two, l3, h3, x3)
@@ -99,8 +99,8 @@ pub fn all_ends(
     h4: f64,
     x4: f64,
 ) -> Ends
-    ensures least { λ r. ⌜ r .least ≡ endBy largerOf (four l1 l2 l3 l4) (four h1 h2 h3 h4) (four x1 x2 x3 x4) y 4 ⌝ }
-    ensures largest { λ r. ⌜ r .largest ≡ endBy smallerOf (four l1 l2 l3 l4) (four h1 h2 h3 h4) (four x1 x2 x3 x4) y 4 ⌝ }
+    ensures least { λ r. ⌜ r .least ≡ leastEnd (four l1 l2 l3 l4) (four h1 h2 h3 h4) (four x1 x2 x3 x4) y 4 ⌝ }
+    ensures opposite { λ r. ⌜ r .opposite ≡ oppositeEnd (four l1 l2 l3 l4) (four h1 h2 h3 h4) (four x1 x2 x3 x4) y 4 ⌝ }
 {
     let three = three_ends(y, l1, h1, x1, l2, h2, x2, l3, h3, x3, l4, h4, x4);
     narrowed(three, l4, h4, x4)
@@ -108,7 +108,7 @@ pub fn all_ends(
 
 // The smaller of m and the least size.
 pub fn least_of(m: f64, e: Ends) -> f64
-    ensures { λ r. ⌜ r ≡ smallerOf m (nearest (e .least) (e .largest)) ⌝ }
+    ensures { λ r. ⌜ r ≡ smallerOf m (nearest (e .least) (e .opposite)) ⌝ }
 {
-    smaller(m, larger(larger(e.least, -e.largest), 0.0))
+    smaller(m, larger(0.0, larger(e.least, e.opposite)))
 }

@@ -116,12 +116,18 @@ module _ (cost : List ℤ → ℕ) (t : ℕ) (best v : List ℤ) where
   settled-le s =
       ⊎-elim (λ h. h) (λ h. absurd (s (ahead-is t (cost best) best (cost v) v (less h)))) (le-or-lt (cost best) (cost v))
 
-  -- what was settled stays so
-  pub better-stays : (u : List ℤ) → Settled cost t best u → Settled cost t (better cost t best v) u
+  -- what is ahead of the best one after v was tried was so before
+  pub better-along :
+      (a : ℕ) (u : List ℤ) → T (ahead t (cost (better cost t best v)) (better cost t best v) a u) →
+      T (ahead t (cost best) best a u)
   unfolding better
-  better-stays u s =
-      by-cond (λ w. Settled cost t w u) (ahead t (cost best) best (cost v) v)
-      (λ h k. s (ahead-along t (cost best) best (cost v) v (cost u) u h k)) (λ h. s)
+  better-along a u =
+      by-cond (λ w. T (ahead t (cost w) w a u) → T (ahead t (cost best) best a u)) (ahead t (cost best) best (cost v) v)
+      (λ h k. ahead-along t (cost best) best (cost v) v a u h k) (λ h k. k)
+
+  -- so what was settled stays so
+  pub better-stays : (u : List ℤ) → Settled cost t best u → Settled cost t (better cost t best v) u
+  better-stays u s k = s (better-along (cost u) u k)
 
   -- and so is the one that was looked at
   pub better-new : Settled cost t (better cost t best v) v

@@ -2,6 +2,7 @@ pub mod Lists
 pub mod Ahead
 pub mod Smallest
 pub mod Cover
+pub mod Dropped
 pub mod Steps
 pub mod Reached
 pub mod Costed

@@ -12,13 +12,13 @@ use Rattle.boxes.specs.declared.Box.{Box}
 use Rattle.boxes.specs.Boxes.{InBox}
 use Rattle.boxes.specs.Split.{leftHalf, rightHalf, zeroBox}
 use Rattle.boxes.specs.Laws.{Bounds}
-use Rattle.boxes.proofs.Earlier.{low-before}
 use Rattle.boxes.proofs.Volume.{some-in, only-low}
 use Rattle.certificate.specs.Search.{State, go, ahead, keeps, firstSmallest, boxAt, without, begin, better, split}
 use Rattle.certificate.specs.Certificate.{Reached, beginning, counting}
 use Rattle.certificate.specs.Laws.{Sound, AllSound}
 use Rattle.certificate.proofs.Lists.{Takes, passed-kept, length-kept, takes-at, takes-all}
-use Rattle.certificate.proofs.Ahead.{Settled, ahead-never, ahead-lower, better-stays, better-new, better-in}
+use Rattle.certificate.proofs.Ahead.{Settled, ahead-never, better-stays, better-new, better-in}
+use Rattle.certificate.proofs.Dropped.{kept-by}
 use Rattle.certificate.proofs.Smallest.{smallest}
 use Rattle.certificate.proofs.Cover.{Cover, Keeping, left-low, right-low, begins, cuts}
 use Rattle.certificate.proofs.Steps.{unsolved-open, Case, goes, step-case}
@@ -32,8 +32,7 @@ module _ (cost : List ℤ → ℕ) (bound : Box → ℕ) (laws : Bounds cost bou
   keeping best =
       record {
         drops = λ b v one h i k.
-            T-not (keeps bound t (cost best) best b) h
-            (ahead-lower t (cost best) best (cost v) v (bound b) (b .low) (laws .sound b v i) (low-before b v i best) k);
+            T-not (keeps bound t (cost best) best b) h (kept-by cost bound laws t best b v i k);
         single = λ b e s h. s (subst (λ a. T (ahead t (cost best) best a (b .low))) (laws .tight b e) h);
       }
 

@@ -1,6 +1,6 @@
 -- What is shown of the definitions of the search. The proofs stand in proofs/.
 use mathlib.Core.Path.{_≡_}
-use mathlib.Core.Bool.{cond}
+use mathlib.Core.Bool.{false, cond}
 use mathlib.Core.List.{List}
 use Prim.Native.Nat.{ℕ, _+_, _-_, _≤_, _<_, max}
 use lib.Dec.{T, leb, ltb}
@@ -58,6 +58,20 @@ AllCosted =
     1 ≤ k →
     Reached cost bound budget rows t start box k s →
     All (λ b. better cost t (s .best) (b .low) ≡ s .best) (s .list)
+
+-- A box that is not kept beside the best vector: none of its vectors becomes best, and it is not kept after another vector is tried.
+pub record Dropped (cost : List ℤ → ℕ) (bound : Box → ℕ) (t : ℕ) (best : List ℤ) (b : Box) : Type 0 where
+  pub none-better : (v : List ℤ) → InBox v b → better cost t best v ≡ best
+  pub later : (v : List ℤ) → keeps bound t (cost (better cost t best v)) (better cost t best v) b ≡ false
+
+-- "then the right child's": so where the right half is not kept, to cost its low vector changes nothing.
+abbrev pub AllDropped : Type 0
+AllDropped =
+    (cost : List ℤ → ℕ) (bound : Box → ℕ) →
+    Bounds cost bound →
+    (t : ℕ) (best : List ℤ) (b : Box) →
+    keeps bound t (cost best) best b ≡ false →
+    Dropped cost bound t best b
 
 -- "For larger t the answer remains as it was": where request 6 changed a step, it is that of document 01, in its words.
 pub record Later (cost : List ℤ → ℕ) (bound : Box → ℕ) (t : ℕ) : Type 0 where

@@ -1,4 +1,5 @@
 pub mod Accepted
+pub mod Cutting
 pub mod Taking
 pub mod UpTo
 pub mod Keeping

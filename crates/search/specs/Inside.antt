@@ -1,6 +1,6 @@
 -- What the functions behind a search say to each other of its state, the table and the list of bounds.
 use mathlib.Core.Path.{_≡_}
-use mathlib.Core.Bool.{Bool, true, false}
+use mathlib.Core.Bool.{Bool, true, false, _&&_}
 use mathlib.Core.List.{List, map}
 use Prim.Native.Nat.{ℕ, _*_, _≤_, _<_}
 use lib.Dec.{ltb}
@@ -18,7 +18,7 @@ use Rattle.first_smallest.specs.FirstSmallest.{entryAt}
 use Rattle.open_boxes.specs.declared.Child.{Child}
 use Rattle.open_boxes.specs.declared.Mark.{Mark}
 use Rattle.certificate.specs.Search as Search
-use Rattle.certificate.specs.Search.{keeps, firstSmallest, better, begin, split}
+use Rattle.certificate.specs.Search.{ahead, keeps, firstSmallest, better, begin, split}
 use Rattle.search.specs.declared.Kind.{Kind}
 use Rattle.search.specs.declared.Answer.{Answer}
 use Rattle.search.specs.declared.branch.Best.{Best}
@@ -46,6 +46,15 @@ pub record Tested (bound : Box → ℕ) (keep : Box → Bool) (b : Box) (child :
   pub half : child .half ≡ b
   pub decided : child .kept ≡ keep b
   pub exact : child .kept ≡ true → child .bound ≡ bound b
+
+-- a box that was tested beside an earlier best vector, tested beside the one in mark by the number that was found
+abbrev pub testedAgain : Mark → Child → Child
+testedAgain mark child =
+    record {
+      half = child .half;
+      bound = child .bound;
+      kept = child .kept && ahead (mark .t) (mark .cost) (mark .best) (child .bound) (child .half .low);
+    }
 
 -- the best vector beside its cost
 abbrev pub bestOf : (List ℤ → ℕ) → List ℤ → Best

@@ -13,7 +13,7 @@ ghost use Rattle.boxes.specs.Boxes.{volume};
 ghost use Rattle.points.specs.Points.{pointsOf};
 ghost use Rattle.residuals.specs.Cost.{bound, cost};
 ghost use Rattle.certificate.specs.Search.{ahead, better};
-ghost use Rattle.search.specs.Inside.{Evaluable, bestOf, NextFits, markOf, keptBy, Tested, Cut, Steppable, StepOutcome};
+ghost use Rattle.search.specs.Inside.{Evaluable, bestOf, NextFits, markOf, keptBy, testedAgain, Tested, Cut, Steppable, StepOutcome};
 
 // The best vector and its cost, C.
 pub struct Best {
@@ -55,24 +55,24 @@ fn tried(store: &[u8], lanes: &[Chunk], m: Model, t: u64, best: Best, v: [i16; 8
     }
 }
 
-// The same of a vector that may have been tried before: it is costed only if it is new.
-fn tried_if_new(
+// The same of a vector that may be known not to become best: it is costed only if that is needed.
+fn tried_if(
     store: &[u8],
     lanes: &[Chunk],
     m: Model,
     t: u64,
     best: Best,
     v: [i16; 8],
-    new: bool,
+    needed: bool,
 ) -> Best
     requires { ⌜
         Evaluable (now store) (now lanes) m × (best ≡ bestOf (cost m (pointsOf (now store))) (best .vector)) × NextFits best
-        × (new ≡ false → better (cost m (pointsOf (now store))) t (best .vector) v ≡ best .vector) ⌝ }
+        × (needed ≡ false → better (cost m (pointsOf (now store))) t (best .vector) v ≡ best .vector) ⌝ }
     ensures best { λ r. ⌜ r
         ≡ bestOf (cost m (pointsOf (now (store .entry)))) (better (cost m (pointsOf (now (store .entry)))) t (best .vector) v) ⌝ }
     ensures fits { λ r. ⌜ NextFits r ⌝ }
 {
-    if new {
+    if needed {
         tried(store, lanes, m, t, best, v)
     } else {
         best
@@ -94,8 +94,21 @@ pub fn tested(store: &[u8], lanes: &[Chunk], m: Model, half: Box, mark: Mark) ->
     }
 }
 
-// Cuts a box of two vectors or more, tries the low vector of each half, and finds the halves' bounds. The left half has the low vector of
-// the box itself, which is new only if the box is the given one.
+// A box that was tested, beside the best vector of now: where an earlier one dropped it, so does this one.
+fn tested_again(child: Child, mark: Mark) -> Child
+    ensures { λ r. ⌜ r ≡ testedAgain mark child ⌝ }
+{
+    let half = child.half;
+    let low = half.low;
+    Child {
+        half,
+        bound: child.bound,
+        kept: child.kept && ahead(mark, child.bound, low),
+    }
+}
+
+// Cuts a box of two vectors or more, finds the halves' bounds, and tries the low vector of each half. The left half has the low vector of
+// the box itself, which is new only if the box is the given one; of a right half that is dropped no vector becomes best.
 fn cut_box(
     store: &[u8],
     lanes: &[Chunk],
@@ -116,19 +129,16 @@ fn cut_box(
     let right = halves.right;
     let left_low = left.low;
     let right_low = right.low;
-    let new = tried(
-        store,
-        lanes,
-        m,
-        t,
-        tried_if_new(store, lanes, m, t, best, left_low, given),
-        right_low,
-    );
+    let before = mark_of(t, best);
+    let first = tested(store, lanes, m, left, before);
+    let second = tested(store, lanes, m, right, before);
+    let one = tried_if(store, lanes, m, t, best, left_low, given);
+    let new = tried_if(store, lanes, m, t, one, right_low, second.kept);
     let mark = mark_of(t, new);
     Branches {
         best: new,
-        left: tested(store, lanes, m, left, mark),
-        right: tested(store, lanes, m, right, mark),
+        left: tested_again(first, mark),
+        right: tested_again(second, mark),
     }
 }
 

@@ -4,6 +4,7 @@ use Prim.Native.Nat.{min}
 use native.Mathlib.Omega.{arith}
 use borrow.Author.Needs.{needs}
 use Rattle.lanes.specs.Lanes.{taken, lessened}
+use Rattle.box_ends.specs.Ends.{oppositeEnd}
 use Rattle.box_ends.proofs.few_ends.Statement.{statement}
 use Rattle.box_ends.proofs.few_ends.Tie as tie
 
@@ -11,14 +12,14 @@ narrowed-requires : tie.Need-narrowed-requires
 narrowed-requires c κs = search needs
 
 returns : tie.Need-returns
-unfolding lessened
+unfolding lessened oppositeEnd
 returns c = let n : min (taken (c .before .before .args .d)) 2 ≡ 1 = omega arith in rw n (c .before .narrowed .ensures)
 
 narrowed-requires-2 : tie.Need-narrowed-requires-2
 narrowed-requires-2 c κs = search needs
 
 returns-2 : tie.Need-returns-2
-unfolding lessened
+unfolding lessened oppositeEnd
 returns-2 c =
     let n : min (taken (c .before .before .before .args .d)) 2 ≡ 2 = omega arith in
     let e = c .before .before .narrowed .ensures in

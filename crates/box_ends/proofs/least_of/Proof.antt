@@ -1,6 +1,5 @@
 -- The choices one after the other.
 use mathlib.Core.Path.{ap, _∙_}
-use lib.Ieee.{Float}
 use borrow.Author.Needs.{needs}
 use Rattle.whole.specs.Whole.{largerOf, smallerOf, zeroth}
 use Rattle.box_ends.proofs.least_of.Statement.{statement}
@@ -18,7 +17,7 @@ smaller-requires c κs = search needs
 returns : tie.Need-returns
 returns c =
     c .smaller .ensures
-    ∙ ap (smallerOf (c .before .before .before .before .args .m)) (c .before .larger2 .ensures ∙ ap (λ (x : Float). largerOf x zeroth) (c .before .before .larger .ensures))
+    ∙ ap (smallerOf (c .before .before .before .args .m)) (c .before .larger2 .ensures ∙ ap (largerOf zeroth) (c .before .before .larger .ensures))
 
 pub least-of-spec : {M : Type 1} → statement M
 least-of-spec = tie.close (tie.spec larger-requires larger-requires-2 smaller-requires returns)

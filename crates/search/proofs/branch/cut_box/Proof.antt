@@ -1,65 +1,138 @@
--- A box of two vectors or more is cut, the low vector of each half is tried, and each half's bound is found.
+-- A box of two vectors or more is cut, each half is tested beside the best vector from before, the low vectors are tried, and each half is
+-- tested again.
 use mathlib.Core.Path.{_≡_, sym, ap, _∙_}
-use Prim.Native.Nat.{_<_}
+use mathlib.Core.List.{List}
+use Prim.Native.Nat.{ℕ, _<_}
+use lib.IntN.{ℤ}
+use Rattle.codes.specs.declared.Check.the-variants.{Pass}
 use Rattle.points.specs.Points.{pointsOf}
-use Rattle.residuals.specs.Cost.{cost}
-use Rattle.boxes.specs.Split.{leftHalf}
+use Rattle.residuals.specs.Cost.{cost, bound}
+use Rattle.residuals.proofs.Bounds.{bound-laws}
+use Rattle.boxes.specs.declared.Box.{Box}
+use Rattle.boxes.specs.declared.Halves.{Halves}
+use Rattle.boxes.specs.Split.{leftHalf, rightHalf, halvesUnlessRefused}
+use Rattle.boxes.specs.Laws.{Bounds}
 use Rattle.boxes.proofs.Splitting.{cut-passes}
+use Rattle.open_boxes.specs.declared.Child.{Child}
 use Rattle.search.specs.declared.branch.Best.{Best}
-use Rattle.search.specs.Inside.{bestOf}
+use Rattle.search.specs.Inside.{bestOf, keptBy, markOf, Tested}
+use Rattle.search.proofs.Cutting.{same-tested, right-dropped, again-tested}
 use borrow.Author.Needs.{needs}
 use Rattle.search.proofs.branch.cut_box.Statement.{statement}
 use Rattle.search.proofs.branch.cut_box.Tie as tie
 
+-- the cost, the bound, and that the two laws hold of them
+module _ (s : tie.Start) where
+  abbrev C : List ℤ → ℕ
+  C = cost (s .args .m) (pointsOf (s .args .store .now))
+
+  abbrev B : Box → ℕ
+  B = bound (s .args .m) (pointsOf (s .args .store .now))
+
+  laws : Bounds C B
+  laws = bound-laws (s .args .m) (pointsOf (s .args .store .now))
+
+module _ (c : tie.After-right-low) where
+  abbrev cuts : tie.After-cut
+  cuts = c .before .before .before .before
+
+  abbrev start : tie.Start
+  start = cuts .before .before
+
+  halves : cuts .cut .result ≡ halvesUnlessRefused Pass (start .args .b)
+  halves = cuts .cut .ensures ∙ cut-passes (start .args .b) (start .pre .3)
+
 cut-requires : tie.Need-cut-requires
 cut-requires c κs = search needs
-
--- the left half has the low vector of the box
-tried-if-new-requires : tie.Need-tried-if-new-requires
-unfolding leftHalf
-tried-if-new-requires c κs =
-    let cuts = c .before .before .before .before in
-    let start = cuts .before .before in
-    let halves = cuts .cut .ensures ∙ cut-passes (start .args .b) (start .pre .3) in
-    (start .pre .0, start .pre .1, start .pre .2, rw halves (start .pre .4))
-
--- the best one after the first half is tried
-new-best : (c : tie.After-tried-if-new) →
-    let start = c .before .before .before .before .before .before .before in
-    c .tried-if-new .result ≡ bestOf (cost (start .args .m) (pointsOf (start .args .store .now))) (c .tried-if-new .result .vector)
-new-best c =
-    let start = c .before .before .before .before .before .before .before in
-    let C = cost (start .args .m) (pointsOf (start .args .store .now)) in
-    c .tried-if-new .ensures .0 ∙ ap (λ (b : Best). bestOf C (b .vector)) (sym (c .tried-if-new .ensures .0))
-
-tried-requires : tie.Need-tried-requires
-tried-requires c κs = (c .before .before .before .before .before .before .before .pre .0, new-best c, c .tried-if-new .ensures .1)
 
 mark-of-requires : tie.Need-mark-of-requires
 mark-of-requires c κs = search needs
 
--- the new best one's cost is no largest number of 64 bits
+-- the best one's cost is no largest number of 64 bits
 mark-below : (c : tie.After-mark-of) → c .mark-of .result .cost < 18446744073709551615
-mark-below c = rw (c .mark-of .ensures) (c .before .tried .ensures .1)
+mark-below c = rw (c .mark-of .ensures) (start (c .before) .pre .2)
 
 tested-requires : tie.Need-tested-requires
-tested-requires c κs = (c .before .before .before .before .before .before .before .before .before .pre .0, mark-below c)
+tested-requires c κs = (start (c .before) .pre .0, mark-below c)
 
 tested-requires-2 : tie.Need-tested-requires-2
-tested-requires-2 c κs = (c .before .before .before .before .before .before .before .before .before .before .pre .0, mark-below (c .before))
+tested-requires-2 c κs = (start (c .before .before) .pre .0, mark-below (c .before))
+
+-- the left half has the low vector of the box
+tried-if-requires : tie.Need-tried-if-requires
+unfolding leftHalf
+tried-if-requires c κs =
+    let low = c .before .before .before in
+    let s = start low in
+    (s .pre .0, s .pre .1, s .pre .2, rw (halves low) (s .pre .4))
+
+-- each half, tested beside what was best before
+module _ (s : tie.Start) where
+  abbrev v : List ℤ
+  v = s .args .best .vector
+
+  abbrev Before : Box → Child → Type 0
+  Before = Tested (B s) (keptBy (B s) (markOf (s .args .t) (bestOf (C s) v)))
+
+marked : (c : tie.After-mark-of) → let s = start (c .before) in c .mark-of .result ≡ markOf (s .args .t) (bestOf (C s) (v s))
+marked c = let s = start (c .before) in c .mark-of .ensures ∙ ap (markOf (s .args .t)) (s .pre .1)
+
+left-tested : (c : tie.After-tested) → let s = start (c .before .before) in Before s (leftHalf (s .args .b)) (c .tested .result)
+left-tested c =
+    let low = c .before .before in
+    let here = ap (λ (h : Halves). h .left) (halves low) in
+    same-tested (B (start low)) (c .tested .result) (marked (c .before)) here (c .tested .ensures)
+
+right-tested : (c : tie.After-tested2) → let s = start (c .before .before .before) in Before s (rightHalf (s .args .b)) (c .tested2 .result)
+right-tested c =
+    let low = c .before .before .before in
+    let here = ap (λ (h : Halves). h .right) (halves low) in
+    same-tested (B (start low)) (c .tested2 .result) (marked (c .before .before)) here (c .tested2 .ensures)
+
+-- the best one after the left low vector is tried; of a right half that was dropped no vector becomes best
+tried-if-requires-2 : tie.Need-tried-if-requires-2
+tried-if-requires-2 c κs =
+    let tests = c .before in
+    let low = tests .before .before .before in
+    let s = start low in
+    let b = s .args .b in
+    let one = c .tried-if .ensures .0 in
+    let none = right-dropped (C s) (B s) (laws s) (s .args .t) (v s) b (s .pre .3) ((leftHalf b) .low) in (
+      s .pre .0,
+      one ∙ ap (λ (w : Best). bestOf (C s) (w .vector)) (sym one),
+      c .tried-if .ensures .1,
+      λ e. rw (one, halves low) (none (sym (right-tested tests .decided) ∙ e)),
+    )
+
+mark-of-requires-2 : tie.Need-mark-of-requires-2
+mark-of-requires-2 c κs = search needs
+
+tested-again-requires : tie.Need-tested-again-requires
+tested-again-requires c κs = search needs
+
+tested-again-requires-2 : tie.Need-tested-again-requires-2
+tested-again-requires-2 c κs = search needs
 
 returns : tie.Need-returns
 returns c =
     let marks = c .before .before in
     let tries = marks .before in
-    let cuts = tries .before .before .before .before .before .before in
-    let start = cuts .before .before in
-    let halves = cuts .cut .ensures ∙ cut-passes (start .args .b) (start .pre .3) in
+    let tests = tries .before .before in
+    let low = tests .before .before .before in
+    let s = start low in
+    let b = s .args .b in
+    let new = tries .tried-if2 .ensures .0 in
+    let one = tries .before .tried-if .ensures .0 in
+    let again = again-tested (C s) (B s) (laws s) (s .args .t) (v s) ((leftHalf b) .low) ((rightHalf b) .low) in
     record {
-      best = rw (tries .tried .ensures .0, tries .before .tried-if-new .ensures .0, halves);
-      fits = tries .tried .ensures .1;
-      left = rw (marks .mark-of .ensures, halves) at (c .before .tested .ensures);
-      right = rw (marks .mark-of .ensures, halves) at (c .tested2 .ensures);
+      best = rw (new, one, halves low);
+      fits = tries .tried-if2 .ensures .1;
+      left =
+          rw (c .before .tested-again .ensures, marks .mark-of2 .ensures, new, one, halves low)
+          (again (leftHalf b) (tests .before .tested .result) (left-tested (tests .before)));
+      right =
+          rw (c .tested-again2 .ensures, marks .mark-of2 .ensures, new, one, halves low)
+          (again (rightHalf b) (tests .tested2 .result) (right-tested tests));
     }
 
 pub cut-box-spec : {M : Type 1} → statement M
@@ -67,9 +140,12 @@ cut-box-spec =
     tie.close
     (tie.spec
     cut-requires
-    tried-if-new-requires
-    tried-requires
     mark-of-requires
     tested-requires
     tested-requires-2
+    tried-if-requires
+    tried-if-requires-2
+    mark-of-requires-2
+    tested-again-requires
+    tested-again-requires-2
     returns)
