@@ -102,8 +102,8 @@ uint32_t vengutari_take_in(uint8_t *store, size_t store_len, size_t mark, const 
 uint32_t vengutari_merge(const uint8_t *first, size_t first_len, const uint8_t *second, size_t second_len, uint8_t *out, size_t out_len,
                          uint64_t *value);
 
-/* Reads the job record in the first 72 bytes; what follows them is no part of it. numbers takes n, d, S, p, eps, t, the split budget and the
- * rows r; corners takes the box and start the start vector. Any 72 bytes are a job; a search refuses what is out of range.
+/* Reads the job record in the first 72 bytes; what follows them is no part of it. numbers takes n, d, S, p, eps (q where p is 3), t, the split
+ * budget and the rows r; corners takes the box and start the start vector. Any 72 bytes are a job; a search refuses what is out of range.
  * Refusal 1 for fewer than 72 bytes; 255 where numbers_len is not 8, corners_len not 16 or start_len not 8. */
 uint32_t vengutari_read_job(const uint8_t *bytes, size_t bytes_len, uint64_t *numbers, size_t numbers_len, int16_t *corners,
                             size_t corners_len, int16_t *start, size_t start_len);

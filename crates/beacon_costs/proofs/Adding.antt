@@ -15,7 +15,7 @@ use Rattle.codes.proofs.Checks.{passed}
 use Rattle.integers.proofs.Tests.{and-parts}
 use Rattle.jobs.specs.declared.Model.{Model}
 use Rattle.points.specs.declared.Point.{Point}
-use Rattle.points.specs.Points.{firstPoints, pointsOf, checkStore}
+use Rattle.points.specs.Points.{pointsOf, checkStore}
 use Rattle.points.proofs.Laws.{points-length}
 use Rattle.residuals.specs.Cost.{sizeAt, totalLoss, cost}
 use Rattle.residuals.specs.Inside.{sumOf}

@@ -1,7 +1,7 @@
 -- The sums of a chunk's groups are the costs of these groups of the store. Assumes nothing.
 use mathlib.Core.Path.{_≡_, refl, sym, ap, _∙_, subst}
 use mathlib.Core.Bool.{false}
-use mathlib.Core.List.{List, [], _∷_, _++_}
+use mathlib.Core.List.{List, [], _∷_}
 use mathlib.Core.Logic.{⊎-elim}
 use Prim.Native.Nat.{ℕ, zero, suc, _+_, _*_, _/_, _%_, _^_, _≤_, _<_, min}
 use native.Mathlib.Omega.{arith}
@@ -19,11 +19,11 @@ use Rattle.residuals.specs.Cost.{least, unlessGap, totalLoss, sizeAt, cost}
 use Rattle.residuals.specs.Inside.{Ready, sumOf}
 use Rattle.residuals.proofs.Bounds.{cost-sum}
 use Rattle.residuals.proofs.Sums.{threshold-small, Summed, none-summed, one-summed}
-use Rattle.columns.specs.Columns.{nowhere, slot, ChunkOf}
+use Rattle.columns.specs.Columns.{slot, ChunkOf}
 use Rattle.losses.proofs.Exact.{sum-parts, groups-small}
 use Rattle.slots.proofs.Empty.{empty-slot}
 use Rattle.slots.proofs.Summing.{slotLoss, slots-summed}
-use Rattle.kernel.specs.Kernel.{Doubles, groupLosses}
+use Rattle.kernel.specs.Kernel.{groupLosses}
 use Rattle.kernel.proofs.Exact.{size-in, groups-in}
 use Rattle.beacon_costs.specs.BeaconCosts.{groupCost}
 use Rattle.beacon_costs.specs.Inside.{ChunkSums}

@@ -1,7 +1,7 @@
 -- A list that a loop fills from the front with one sum a group. Assumes nothing.
 use mathlib.Core.Path.{_≡_, refl, sym, ap, ap₂, _∙_}
 use mathlib.Core.List.{List, [], _∷_, _++_}
-use Prim.Native.Nat.{ℕ, zero, suc, _+_, _/_, _≤_, _<_}
+use Prim.Native.Nat.{ℕ, zero, suc, _+_, _/_, _<_}
 use native.Mathlib.Numerals.{add-one}
 use native.Mathlib.Omega.{arith}
 use lib.IntN.{ℤ}
@@ -10,7 +10,7 @@ use lib.Seq.{take-suc-set, drop-set-lt, drop-drop}
 use Rattle.integers.specs.Lists.{over}
 use Rattle.jobs.specs.declared.Model.{Model}
 use Rattle.points.specs.declared.Point.{Point}
-use Rattle.points.specs.Points.{firstPoints, pointsOf}
+use Rattle.points.specs.Points.{pointsOf}
 use Rattle.points.proofs.Laws.{points-length}
 use Rattle.residuals.specs.Inside.{sumOf}
 use Rattle.beacon_costs.specs.BeaconCosts.{groups, groupCost, partialSums, total}

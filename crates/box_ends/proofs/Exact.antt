@@ -8,7 +8,7 @@ use lib.Dec.{leb·zero}
 use lib.IntN.{ℤ, pos, negsuc, negℤ, natAbs, _+ℤ_, _-ℤ_, _*ℤ_}
 use lib.Signed.{ltZ}
 use lib.Ieee.{Float, binary64, mul}
-use Rattle.integers.specs.Integers.{maxZ, minZ}
+use Rattle.integers.specs.Integers.{maxZ}
 use Rattle.integers.proofs.Tests.{by-cond}
 use Rattle.integers.proofs.Parts.{up, from-parts, sum-parts, sub-parts, neg-up, neg-dn, pos-up, pos-dn, abs-neg}
 use Rattle.boxes.specs.declared.Box.{Box}

@@ -1,5 +1,5 @@
 -- The first smallest of the entries that are read, up to the next smaller one; and of all entries, where the front is known. Assumes nothing.
-use mathlib.Core.Path.{_≡_, refl, sym, ap}
+use mathlib.Core.Path.{_≡_, refl, ap}
 use mathlib.Core.Bool.{_&&_}
 use mathlib.Core.List.{List}
 use mathlib.Core.Logic.{⊎-elim, inl, inr}
@@ -10,7 +10,7 @@ use lib.Dec.{ltb, leb, ltb→lt, leb→le}
 use Rattle.integers.proofs.Tests.{by-cond, and-parts, le-or-lt}
 use Rattle.first_smallest.specs.declared.Front.{Front}
 use Rattle.first_smallest.specs.declared.Lowest.{Lowest}
-use Rattle.first_smallest.specs.FirstSmallest.{entryAt, nothing, startOf, Asked, FirstLeast, FrontOf, Known, LeastAsked, LowestFrom, LowestOf}
+use Rattle.first_smallest.specs.FirstSmallest.{entryAt, startOf, Asked, FirstLeast, FrontOf, Known, LeastAsked, LowestFrom, LowestOf}
 use Rattle.first_smallest.specs.Inside.{NextSmaller}
 
 module _ (d : List ℕ) (f : Front) where

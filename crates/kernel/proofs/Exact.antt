@@ -5,7 +5,7 @@ use mathlib.Core.List.{List}
 use Prim.Native.Nat.{ℕ, zero, suc, _+_, _*_, _^_, _≤_, _<_, min}
 use native.Mathlib.Omega.{arith}
 use borrow.Author.Tests.{le-ltb}
-use lib.IntN.{ℤ, pos, _*ℤ_}
+use lib.IntN.{ℤ, pos}
 use lib.ListN.{getD}
 use lib.Ieee.{Float, binary64, ofInt, lt}
 use Rattle.jobs.specs.declared.Model.{Model}
@@ -21,9 +21,7 @@ use Rattle.whole.proofs.Laws.{most, cast-whole, lt-whole}
 use Rattle.whole.proofs.Picks.{least-whole}
 use Rattle.lanes.specs.Lanes.{lane, xsAt, taken}
 use Rattle.columns.specs.Columns.{slot, ChunkOf}
-use Rattle.sizes.specs.Sizes.{sizeIn}
 use Rattle.sizes.proofs.Exact.{size-exact}
-use Rattle.box_ends.specs.Ends.{leastIn}
 use Rattle.box_ends.proofs.Exact.{least-exact}
 use Rattle.losses.proofs.Exact.{loss-exact, groups-exact, chunk-exact}
 use Rattle.kernel.specs.Kernel.{Doubles, line, sizeBy, leastBy, lossBy, chunkSize, groupLosses, chunkLoss}

@@ -5,7 +5,7 @@ use mathlib.Core.Logic.{⊎-elim}
 use Prim.Native.Nat.{ℕ, zero, suc, _+_, _-_, _≤_, _<_}
 use native.Mathlib.Omega.{arith}
 use lib.IntN.{ℤ, pos}
-use lib.ListN.{length, getD, replicate, length-map, length-append, length-replicate, getD-replicate}
+use lib.ListN.{length, getD, replicate, length-map, length-append, getD-replicate}
 use lib.Seq.{ext-getD, getD-append-add}
 use lib.Ieee.{Float, nan, binary64, ofInt}
 use Rattle.integers.proofs.Tests.{le-or-lt}

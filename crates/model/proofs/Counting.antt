@@ -1,26 +1,25 @@
 -- How many of the least sizes of a store's chunks exceed a number is how many of its points' do; so what is selected is their rank. Assumes nothing.
-use mathlib.Core.Path.{_≡_, refl, sym, ap, ap₂, _∙_, subst}
+use mathlib.Core.Path.{_≡_, refl, ap, ap₂, _∙_, subst}
 use mathlib.Core.Bool.{Bool, true, false, cond}
-use mathlib.Core.List.{List, [], map}
+use mathlib.Core.List.{List, []}
 use Prim.Native.Nat.{ℕ, zero, suc, _+_, _-_, _*_, _/_, _^_, _≤_, _<_, min}
 use native.Mathlib.Omega.{arith}
 use lib.IntN.{ℤ, pos}
 use lib.ListN.{length, getD, take}
 use lib.Seq.{getD-take, length-take-le}
 use lib.Ieee.{Float, binary64, ofInt, lt}
-use Rattle.integers.specs.Lists.{All, none, also}
+use Rattle.integers.specs.Lists.{All, none}
 use Rattle.jobs.specs.declared.Model.{Model}
-use Rattle.points.specs.declared.Point.{Point}
 use Rattle.points.specs.Points.{pointsOf}
 use Rattle.ranks.specs.Largest.{nthLargest}
 use Rattle.ranks.specs.Laws.{exceeding}
 use Rattle.ranks.proofs.Largest.{largest}
-use Rattle.residuals.specs.Cost.{least, unlessGap, sizeAt, leastSize, totalLoss}
-use Rattle.residuals.specs.Inside.{Ready, boxOf, sumOf}
+use Rattle.residuals.specs.Cost.{least, leastSize}
+use Rattle.residuals.specs.Inside.{Ready, sumOf}
 use Rattle.residuals.proofs.Sums.{sum-same, sum-more, Summed, count-small, all-total}
 use Rattle.residuals.proofs.Ranks.{counting, exceeding-total}
 use Rattle.lanes.specs.Lanes.{lane}
-use Rattle.columns.specs.Columns.{slot, nowhere, chunks, decodedChunks, ChunkOf}
+use Rattle.columns.specs.Columns.{slot, chunks, decodedChunks, ChunkOf}
 use Rattle.slots.proofs.Summing.{slotLoss, chunk-summed, none-yet}
 use Rattle.selection.specs.Selection.{exceedingIn, exceedingAll, selected}
 use Rattle.selection.proofs.Exact.{selected-is, selects-largest}

@@ -70,10 +70,6 @@ unless-mono q {a} {b} h = by-gap (isGap q)
     by-gap false = h
 
 -- the least with a first value to start from
-pub from-more : (most : ℕ) (f : ℕ → ℕ) (j : ℕ) → leastFrom most f (j + 1) ≡ min (leastFrom most f j) (f j)
-unfolding leastFrom
-from-more most f j = rw add-one
-
 pub from-le : (most : ℕ) (f : ℕ → ℕ) (n : ℕ) → leastFrom most f n ≤ most
 unfolding leastFrom
 from-le most f zero = omega arith

@@ -1,14 +1,13 @@
 -- For p = 3 no cost of a store's points is over the size of the largest residual. Assumes nothing.
 use mathlib.Core.Bool.{Bool, true, false, not, cond}
-use mathlib.Core.List.{List, [], _∷_, map}
+use mathlib.Core.List.{List, _∷_, map}
 use mathlib.Core.Path.{_≡_}
 use Prim.Native.Nat.{ℕ, zero, suc, _-_, _≤_, _<_}
 use native.Mathlib.Omega.{arith}
 use borrow.Author.Tests.{eq-eqb}
 use lib.Dec.{T, ltb, ltb→lt, nltb→le}
 use lib.IntN.{ℤ, pos, negsuc, natAbs}
-use mir.Syntax.{w16}
-use mir.Val.{sel, toZ}
+use mir.Val.{sel}
 use Rattle.integers.specs.Lists.{All, none, also}
 use Rattle.integers.proofs.Lists.{all-append}
 use Rattle.jobs.specs.declared.Model.{Model}

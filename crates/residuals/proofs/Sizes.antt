@@ -8,11 +8,10 @@ use lib.IntN.{ℤ, pos, natAbs, _*ℤ_}
 use mir.Syntax.{w16, w64}
 use mir.Val.{SFits}
 use Rattle.integers.proofs.Parts.{size-sfits, abs-mul, abs-fits}
-use Rattle.boxes.specs.declared.Box.{Box}
 use Rattle.jobs.specs.declared.Model.{Model}
 use Rattle.points.specs.declared.Point.{Point}
-use Rattle.residuals.specs.Cost.{residual, sizeAt, eMin, eMax, leastSize}
-use Rattle.residuals.specs.Inside.{sizeOf, nearOf}
+use Rattle.residuals.specs.Cost.{residual, sizeAt}
+use Rattle.residuals.specs.Inside.{sizeOf}
 
 -- y × 2^S
 module _ {y : ℤ} (fits : SFits w16 y) {power : ℕ} (h : power < 2 ^ 16) where
@@ -32,7 +31,3 @@ module _ (m : Model) (q : Point) (power : ℕ) (e : power ≡ 2 ^ m .scale) wher
   pub sizes-at : (v : List ℤ) → _≡_ {A = ℕ → ℕ} (λ j. sizeOf q v (j * m .d) (m .d) power) (sizeAt m v q)
   unfolding sizeAt residual
   sizes-at v = ap {B = ℕ → ℕ} (λ n j. sizeOf q v (j * m .d) (m .d) n) e
-
-  pub sizes-over : (B : Box) → _≡_ {A = ℕ → ℕ} (λ j. nearOf q B (j * m .d) (m .d) power) (leastSize m B q)
-  unfolding leastSize eMin eMax
-  sizes-over B = ap {B = ℕ → ℕ} (λ n j. nearOf q B (j * m .d) (m .d) n) e

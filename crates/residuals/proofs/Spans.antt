@@ -6,7 +6,7 @@ use Prim.Native.Nat.{ℕ, zero, suc, _+_, min, max}
 use native.Mathlib.Omega.{arith}
 use lib.IntN.{ℤ, pos, natAbs, _-ℤ_, _*ℤ_}
 use lib.Signed.{leZ, ltZ, _≤ℤ_, ≤ℤ-refl}
-use Rattle.integers.specs.Integers.{maxZ, minZ}
+use Rattle.integers.specs.Integers.{maxZ}
 use Rattle.integers.proofs.Order.{≤ℤ-trans, add-mono, max-left, min-left}
 use Rattle.integers.proofs.Parts.{up, apart, abs-parts, sub-parts, le-parts, leZ-true, leZ-false, ltZ-true, ltZ-false, pos-up, pos-dn}
 use Rattle.integers.proofs.Tests.{by-test}
@@ -28,20 +28,6 @@ max-up a b =
     by-test (leZ a b) b a (λ (z : ℤ). up z ≡ max (up a) (up b))
     (λ t. omega (arith, leZ-true a b t, apart a, apart b))
     (λ t. omega (arith, leZ-false a b t, apart a, apart b))
-
-min-up : (a b : ℤ) → up (minZ a b) ≡ min (up a) (up b)
-unfolding minZ
-min-up a b =
-    by-test (leZ a b) a b (λ (z : ℤ). up z ≡ min (up a) (up b))
-    (λ t. omega (arith, leZ-true a b t, apart a, apart b))
-    (λ t. omega (arith, leZ-false a b t, apart a, apart b))
-
--- so it can be taken after the least of all
-pub positive-min : (a b : ℤ) → positive (minZ a b) ≡ min (positive a) (positive b)
-positive-min a b = omega (arith, above (minZ a b), above a, above b, min-up a b)
-
-pub positive-pos : (n : ℕ) → positive (pos n) ≡ n
-positive-pos n = omega (arith, above (pos n), pos-up n)
 
 -- "emin if emin > 0, −emax if emax < 0, else 0" is the larger of emin, −emax and 0
 pub positive-max : (y lo hi : ℤ) → lo ≤ℤ hi → positive (maxZ (y -ℤ hi) (lo -ℤ y)) ≡ nearestTo0 (y -ℤ hi) (y -ℤ lo)

@@ -8,7 +8,7 @@ use Rattle.boxes.specs.declared.Box.{Box}
 use Rattle.jobs.specs.declared.Model.{Model}
 use Rattle.points.specs.declared.Point.{Point}
 use Rattle.points.specs.Points.{xs}
-use Rattle.residuals.specs.Cost.{dot, dotMax, dotMin, nearestTo0}
+use Rattle.residuals.specs.Cost.{dot}
 
 -- checks 1 to 4 passed, as far as the loops need it
 pub record Ready (bytes : ℕ) (m : Model) : Type 0 where
@@ -29,10 +29,6 @@ boxOf low high = record { low = low; high = high }
 -- `sizeAt` of Cost.antt, by the numbers that a loop has: the line's coordinates begin at place b, and `power` is 2^S
 abbrev pub sizeOf : Point → List ℤ → ℕ → ℕ → ℕ → ℕ
 sizeOf q v b d power = natAbs (q .y *ℤ pos power -ℤ dot v b (xs q) d)
-
--- `leastSize` of Cost.antt, by the same numbers
-abbrev pub nearOf : Point → Box → ℕ → ℕ → ℕ → ℕ
-nearOf q B b d power = nearestTo0 (q .y *ℤ pos power -ℤ dotMax B b (xs q) d) (q .y *ℤ pos power -ℤ dotMin B b (xs q) d)
 
 -- a number, or 0 if it is below 0
 unfoldable pub positive : ℤ → ℕ

@@ -10,7 +10,7 @@ use lib.Signed.{ltZ, leZ}
 use lib.Ieee.{Float, binary64, neg, add, sub, mul, ofInt}
 use Rattle.integers.specs.Integers.{maxZ, minZ}
 use Rattle.integers.proofs.Order.{max-either, min-either}
-use Rattle.integers.proofs.Parts.{abs-add, abs-sub, abs-mul, abs-neg, from-parts, leZ-true, leZ-false, ltZ-true, ltZ-false}
+use Rattle.integers.proofs.Parts.{abs-add, abs-sub, abs-mul, from-parts, leZ-true, leZ-false, ltZ-true, ltZ-false}
 use Rattle.integers.proofs.Tests.{by-cond, by-test}
 use Rattle.whole.specs.Whole.{Whole, Within, largerOf, smallerOf, sized}
 use Rattle.whole.proofs.Laws.{most, add-whole, sub-whole, mul-whole, neg-whole, pick-whole, cast-whole}

@@ -1,6 +1,6 @@
 -- By d, what the loop says, or the crate for longer lines.
 use mathlib.Core.Path.{_≡_}
-use Prim.Native.Nat.{ℕ, min, max}
+use Prim.Native.Nat.{min, max}
 use native.Mathlib.Omega.{arith}
 use Rattle.lanes.specs.Lanes.{taken}
 use borrow.Author.Needs.{needs}

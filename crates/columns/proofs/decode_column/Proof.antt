@@ -1,6 +1,6 @@
 -- The loop's invariant: the slots of the groups before g are done. The measure is what is left of the four.
 use mathlib.Core.Path.{_≡_}
-use Prim.Native.Nat.{ℕ, _+_, _*_, _-_, _≤_, _<_}
+use Prim.Native.Nat.{_+_, _*_, _-_, _≤_}
 use native.Mathlib.Omega.{arith}
 use Rattle.lanes.specs.Inside.{Filled}
 use Rattle.lanes.proofs.Filling.{none-filled, also-filled, until-filled, all-filled}

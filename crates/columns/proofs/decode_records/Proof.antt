@@ -1,6 +1,6 @@
 -- The loop's invariant: the columns before c are laid. The measure is what is left of those that d uses.
-use mathlib.Core.Path.{_≡_, _∙_}
-use Prim.Native.Nat.{ℕ, _-_, _≤_, _<_, min}
+use mathlib.Core.Path.{_≡_}
+use Prim.Native.Nat.{ℕ, _-_, _≤_, min}
 use native.Mathlib.Omega.{arith}
 use Rattle.columns.proofs.Laying.{Laid, none-laid, one-laid, all-laid, others-laid}
 use lib.Ieee.{Float}

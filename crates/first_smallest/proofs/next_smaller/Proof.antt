@@ -1,7 +1,7 @@
 -- The invariant: none of the entries from `from` up to i is smaller. The measure is the entries left.
 use mathlib.Core.Path.{_≡_}
 use mathlib.Core.Logic.{⊎-elim}
-use Prim.Native.Nat.{ℕ, _-_, _≤_, _<_}
+use Prim.Native.Nat.{_-_, _≤_, _<_}
 use native.Mathlib.Omega.{arith}
 use Rattle.integers.proofs.Tests.{le-or-lt}
 use borrow.Author.Needs.{needs}

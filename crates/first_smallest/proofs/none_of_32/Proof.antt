@@ -6,7 +6,7 @@ use native.Mathlib.Nat.{mod-eq-of-lt}
 use borrow.Author.Count.{below-more}
 use borrow.Author.Needs.{needs}
 use borrow.Author.Tests.{ltb-true}
-use lib.Bits.{bitOr, or-add-and, and-le-l, and-le-r}
+use lib.Bits.{or-add-and, and-le-l, and-le-r}
 use Rattle.first_smallest.specs.FirstSmallest.{entryAt}
 use Rattle.first_smallest.proofs.none_of_32.Statement.{statement}
 use Rattle.first_smallest.proofs.none_of_32.Tie as tie

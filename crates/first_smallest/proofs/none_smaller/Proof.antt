@@ -1,6 +1,6 @@
 -- The invariant: none of the entries from `from` up to k is smaller. The measure is the entries left.
 use mathlib.Core.Logic.{⊎-elim}
-use Prim.Native.Nat.{ℕ, _-_, _≤_, _<_}
+use Prim.Native.Nat.{_-_, _≤_, _<_}
 use native.Mathlib.Omega.{arith}
 use borrow.Author.Tests.{not-false}
 use Rattle.integers.proofs.Tests.{le-or-lt}

@@ -5,7 +5,7 @@ use Prim.Native.Nat.{ℕ, _+_, _<_}
 use native.Mathlib.Omega.{arith}
 use lib.ListN.{getD}
 use Rattle.losses.proofs.Exact.{groups-small, groups-added}
-use Rattle.kernel.specs.Kernel.{lossBy, groupLosses, chunkLoss}
+use Rattle.kernel.specs.Kernel.{groupLosses, chunkLoss}
 use borrow.Author.Needs.{needs}
 use Rattle.kernel.proofs.chunk_loss.Statement.{statement}
 use Rattle.kernel.proofs.chunk_loss.Tie as tie

@@ -1,6 +1,6 @@
 -- By d, what the loop says.
 use mathlib.Core.Path.{_≡_}
-use Prim.Native.Nat.{ℕ, max}
+use Prim.Native.Nat.{max}
 use native.Mathlib.Omega.{arith}
 use Rattle.lanes.specs.Lanes.{taken}
 use borrow.Author.Needs.{needs}

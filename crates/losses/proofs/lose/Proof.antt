@@ -1,6 +1,6 @@
 -- The loop's invariant: the sizes before i are their losses. The measure is what is left of the eighty.
 use mathlib.Core.Path.{_≡_}
-use Prim.Native.Nat.{ℕ, _-_, _≤_, _<_}
+use Prim.Native.Nat.{_-_}
 use native.Mathlib.Omega.{arith}
 use lib.ListN.{length}
 use Rattle.lanes.specs.Inside.{Filled}

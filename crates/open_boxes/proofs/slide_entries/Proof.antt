@@ -1,6 +1,6 @@
 -- The invariant: the entries up to place k have moved, and all others are as they were. The measure is the places left.
 use mathlib.Core.Path.{_≡_, refl}
-use Prim.Native.Nat.{_+_, _-_, _≤_}
+use Prim.Native.Nat.{_-_, _≤_}
 use native.Mathlib.Omega.{arith}
 use lib.ListN.{length, length-set}
 use Rattle.rows.proofs.Parts.{down, down-turn}

@@ -1,6 +1,5 @@
 -- Each way out has taken as many products as d, or four.
-use mathlib.Core.Path.{_≡_, sym, ap, _∙_}
-use Prim.Native.Nat.{ℕ}
+use mathlib.Core.Path.{_≡_}
 use native.Mathlib.Omega.{arith}
 use Rattle.lanes.specs.Lanes.{taken, lessened}
 use Rattle.sizes.proofs.residual.Statement.{statement}

@@ -1,6 +1,6 @@
 -- The loop's invariant: the chunks before t are decoded. The measure is what is left of them.
 use mathlib.Core.Path.{_≡_}
-use Prim.Native.Nat.{ℕ, _-_, _≤_, _<_}
+use Prim.Native.Nat.{_-_, _≤_}
 use native.Mathlib.Omega.{arith}
 use Rattle.columns.specs.Columns.{decodedChunks}
 use Rattle.stores.proofs.Through.{Through, none-through, one-through}

@@ -1,7 +1,7 @@
 -- What is converted is the larger of 2^52 and something, so a number.
 use mathlib.Core.Path.{sym, ap, subst}
 use mathlib.Core.Bool.{not}
-use Prim.Native.Nat.{ℕ, _%_}
+use Prim.Native.Nat.{_%_}
 use lib.Dec.{T}
 use lib.Ieee.{Float, binary64, isNan, toBits}
 use borrow.Author.Needs.{needs}

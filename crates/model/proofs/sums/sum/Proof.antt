@@ -1,13 +1,10 @@
 -- The loop's invariant: the sum is that of the records of the chunks before t. The measure is what is left of the chunks.
-use mathlib.Core.Path.{_≡_}
 use mathlib.Core.List.{List}
-use Prim.Native.Nat.{ℕ, _+_, _*_, _-_, _^_, _≤_, _<_}
+use Prim.Native.Nat.{_*_, _-_, _≤_}
 use native.Mathlib.Omega.{arith}
 use lib.IntN.{ℤ}
-use lib.ListN.{length}
 use Rattle.residuals.proofs.Sums.{all-total}
 use Rattle.residuals.proofs.Sizes.{power-of}
-use Rattle.columns.specs.Columns.{chunks}
 use Rattle.kernel.specs.Kernel.{Doubles}
 use Rattle.model.specs.Inside.{sizesBy}
 use Rattle.model.proofs.Summing.{Through, none-through, one-through}

@@ -1,5 +1,4 @@
 -- By the test of p.
-use borrow.Author.Needs.{needs}
 use Rattle.model.proofs.Picked.{sum-kind, by-rank, by-sum}
 use Rattle.model.proofs.values.up_to.Statement.{statement}
 use Rattle.model.proofs.values.up_to.Tie as tie

@@ -1,5 +1,4 @@
 -- By the tests of p and of what is asked.
-use borrow.Author.Needs.{needs}
 use mathlib.Core.Path.{sym, ap, _∙_}
 use mathlib.Core.Bool.{Bool}
 use Rattle.points.specs.Points.{pointsOf}

@@ -1,5 +1,4 @@
 -- By whether the box was kept.
-use mathlib.Core.Path.{ap}
 use borrow.Author.Needs.{needs}
 use Rattle.search.proofs.branch.tested_again.Statement.{statement}
 use Rattle.search.proofs.branch.tested_again.Tie as tie
