@@ -1,4 +1,4 @@
--- The sizes of chunks, found one after the other in lanes that begin with a number that no size reaches. Assumes nothing.
+-- The sizes of chunks, found one after the other in lanes that are set to a number that no size reaches. Assumes nothing.
 use mathlib.Core.Path.{_≡_, refl, sym, ap, _∙_, subst}
 use mathlib.Core.Bool.{Bool}
 use mathlib.Core.List.{List, [], _∷_, _++_}
@@ -15,64 +15,66 @@ use Rattle.jobs.specs.declared.Model.{Model}
 use Rattle.columns.specs.Columns.{ChunkOf}
 use Rattle.kernel.specs.Kernel.{leastBy, chunkSize}
 
-abbrev most : Float
-most = ofInt binary64 (pos 8589934592)
+-- what a chunk's sizes begin with
+abbrev pub none : List Float
+none = replicate 80 (ofInt binary64 (pos 8589934592))
 
--- the first t have the sizes that f gives, the others are as they began
-pub record Sized (f : ℕ → ℕ → Float) (kept : List (List Float)) (t : ℕ) : Type 0 where
-  pub long : length kept ≡ 54
+-- of n chunks the first t have the sizes that f gives
+pub record Sized (n : ℕ) (f : ℕ → ℕ → Float) (kept : List (List Float)) (t : ℕ) : Type 0 where
+  pub long : length kept ≡ n
   pub sizes : (i : ℕ) → i < t → (k : ℕ) → k < 80 → lane (getD kept i []) k ≡ f i k
-  pub fresh : (i : ℕ) → t ≤ i → i < 54 → (k : ℕ) → k < 80 → lane (getD kept i []) k ≡ most
 
-pub none-sized : (f : ℕ → ℕ → Float) → Sized f (replicate 54 (replicate 80 most)) 0
-none-sized f =
-    record {
-      long = refl;
-      sizes = λ i h. absurd (omega arith);
-      fresh = λ i h l k g. ap (λ (xs : List Float). lane xs k) (getD-replicate 54 i (replicate 80 most) [] l) ∙ getD-replicate 80 k most nan g;
-    }
+pub none-sized : (f : ℕ → ℕ → Float) (kept : List (List Float)) → Sized (length kept) f kept 0
+none-sized f kept = record { long = refl; sizes = λ i h. absurd (omega arith) }
 
-module _ (f : ℕ → ℕ → Float) (kept : List (List Float)) (t : ℕ) (before : Sized f kept t) where
+module _ {n : ℕ} (f : ℕ → ℕ → Float) (kept : List (List Float)) (t : ℕ) (before : Sized n f kept t) where
   -- for sizes that are the same so far
-  pub same-sized : (g : ℕ → ℕ → Float) → ((i : ℕ) → i < t → (k : ℕ) → f i k ≡ g i k) → Sized g kept t
-  same-sized g same = record { long = before .long; sizes = λ i h k l. before .sizes i h k l ∙ same i h k; fresh = before .fresh }
+  pub same-sized : (g : ℕ → ℕ → Float) → ((i : ℕ) → i < t → (k : ℕ) → f i k ≡ g i k) → Sized n g kept t
+  same-sized g same = record { long = before .long; sizes = λ i h k l. before .sizes i h k l ∙ same i h k }
 
-  module _ (r : List Float) (inside : t < 54) where
-    other : (i : ℕ) → (i ≡ t → ⊥) → (k : ℕ) → lane (getD (set kept t r) i []) k ≡ lane (getD kept i []) k
-    other i h k = ap (λ (xs : List Float). lane xs k) (getD-set-other kept t i r [] h)
-
-    pub one-sized : ((k : ℕ) → k < 80 → lane r k ≡ f t k) → Sized f (set kept t r) (t + 1)
-    one-sized here =
+  module _ (r : List Float) where
+    -- what is written at t changes none before
+    pub still-sized : Sized n f (set kept t r) t
+    still-sized =
         record {
           long = length-set kept t r ∙ before .long;
+          sizes = λ i h k l.
+              ap (λ (xs : List Float). lane xs k) (getD-set-other kept t i r [] (λ (e : i ≡ t). omega arith)) ∙ before .sizes i h k l;
+        }
+
+    pub one-sized : t < n → ((k : ℕ) → k < 80 → lane r k ≡ f t k) → Sized n f (set kept t r) (t + 1)
+    one-sized inside here =
+        record {
+          long = still-sized .long;
           sizes = λ i h k l.
               ⊎-elim
               (λ (g : t ≤ i).
               let e : i ≡ t = omega arith in
               rw e (ap (λ (xs : List Float). lane xs k) (getD-set-same kept t r [] (omega (arith, before .long))) ∙ here k l))
-              (λ (g : i < t). other i (λ (e : i ≡ t). omega arith) k ∙ before .sizes i g k l)
+              (λ (g : i < t). still-sized .sizes i g k l)
               (le-or-lt t i);
-          fresh = λ i h l k g. other i (λ (e : i ≡ t). omega arith) k ∙ before .fresh i (omega arith) l k g;
         }
 
-    -- what is found in the next lanes are the sizes of a chunk
-    pub from-fresh : (over : Bool) (s : List (List Float)) (from to : List Float) (m : Model)
-        → ((k : ℕ) → k < 80 → lane r k ≡ leastBy over s from to (m .d) (lane (getD kept t []) k) (m .n) k)
+    -- what is found in lanes that begin so are the sizes of a chunk
+    pub from-none : t < n → (over : Bool) (s : List (List Float)) (from to : List Float) (m : Model)
+        → ((k : ℕ) → k < 80 → lane r k ≡ leastBy over s from to (m .d) (lane (getD (set kept t none) t []) k) (m .n) k)
         → (k : ℕ) → k < 80 → lane r k ≡ chunkSize over s from to m k
     unfolding chunkSize
-    from-fresh over s from to m found k h =
-        found k h ∙ ap (λ (x : Float). leastBy over s from to (m .d) x (m .n) k) (before .fresh t (omega arith) inside k h)
+    from-none inside over s from to m found k h =
+        found k h
+        ∙ ap (λ (x : Float). leastBy over s from to (m .d) x (m .n) k)
+        (ap (λ (xs : List Float). lane xs k) (getD-set-same kept t none [] (omega (arith, before .long))) ∙ getD-replicate 80 k _ nan h)
 
 -- the sizes of the first t chunks of a store, each decoded by itself
 pub record KeptSizes (store : List ℕ) (m : Model) (over : Bool) (from to : List Float) (kept : List (List Float)) (t : ℕ) : Type 0 where
   pub lanes : List (List (List Float))
   pub many : length lanes ≡ t
   pub chunk : (i : ℕ) → i < t → ChunkOf store i (m .d) (2 ^ m .scale) (getD lanes i [])
-  pub sized : Sized (λ i k. chunkSize over (getD lanes i []) from to m k) kept t
+  pub sized : Sized 54 (λ i k. chunkSize over (getD lanes i []) from to m k) kept t
 
 module _ (store : List ℕ) (m : Model) (over : Bool) (from to : List Float) where
-  pub none-kept : KeptSizes store m over from to (replicate 54 (replicate 80 most)) 0
-  none-kept = record { lanes = []; many = refl; chunk = λ i h. absurd (omega arith); sized = none-sized _ }
+  pub none-kept : (x : List Float) → KeptSizes store m over from to (replicate 54 x) 0
+  none-kept x = record { lanes = []; many = refl; chunk = λ i h. absurd (omega arith); sized = none-sized _ (replicate 54 x) }
 
   module _ (kept : List (List Float)) (t : ℕ) (before : KeptSizes store m over from to kept t) (s : List (List Float)) where
     abbrev all : List (List (List Float))
@@ -88,8 +90,8 @@ module _ (store : List ℕ) (m : Model) (over : Bool) (from to : List Float) whe
     sizes-of x = chunkSize over x from to m
 
     pub one-kept : (r : List Float) → t < 54 → ChunkOf store t (m .d) (2 ^ m .scale) s
-        → ((k : ℕ) → k < 80 → lane r k ≡ leastBy over s from to (m .d) (lane (getD kept t []) k) (m .n) k)
-        → KeptSizes store m over from to (set kept t r) (t + 1)
+        → ((k : ℕ) → k < 80 → lane r k ≡ leastBy over s from to (m .d) (lane (getD (set kept t none) t []) k) (m .n) k)
+        → KeptSizes store m over from to (set (set kept t none) t r) (t + 1)
     one-kept r inside is found =
         let so-far = same-sized _ kept t (before .sized) (λ i. sizes-of (getD all i [])) (λ i h k. ap (λ (x : List (List Float)). sizes-of x k) (sym (old i h))) in
         record {
@@ -103,6 +105,6 @@ module _ (store : List ℕ) (m : Model) (over : Bool) (from to : List Float) whe
               (λ (g : i < t). rw (old i g) (before .chunk i g))
               (le-or-lt t i);
           sized =
-              one-sized _ kept t so-far r inside
-              (λ k l. from-fresh _ kept t so-far r inside over s from to m found k l ∙ ap (λ (x : List (List Float)). sizes-of x k) (sym new));
+              one-sized _ _ t (still-sized _ kept t so-far none) r inside
+              (λ k l. from-none _ kept t so-far r inside over s from to m found k l ∙ ap (λ (x : List (List Float)). sizes-of x k) (sym new));
         }

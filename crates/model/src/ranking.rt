@@ -1,21 +1,107 @@
 // The (q + 1)-th largest of the points' least sizes, kept for all points.
 use crate::NO_CAP;
 use jobs::Model;
+use kernel::Coordinates;
 use lanes::Chunk;
 use lanes::Lanes;
 use loss::least;
 use selection::LIMIT;
 ghost use mathlib.Core.Path.{_≡_};
+ghost use Prim.Native.Nat.{_-_, _≤_, min};
+ghost use lib.IntN.{pos};
 ghost use lib.ListN.{length};
+ghost use lib.Ieee.{binary64, ofInt};
 ghost use Rattle.points.specs.Points.{pointsOf};
 ghost use Rattle.ranks.specs.Largest.{nthLargest};
 ghost use Rattle.residuals.specs.Inside.{Ready};
+ghost use Rattle.selection.specs.Selection.{exceedingIn, selected};
+ghost use Rattle.model.specs.Calls.{exceedingBy};
 ghost use Rattle.model.specs.Inside.{leastSizes, RankIn};
 
 // No size reaches 2^33.
 const NO_SIZE: u64 = 8589934592;
 
-// Over the lanes of a store that was decoded before, up to a cap: no more sizes are made once more than q reach it.
+// How many of a chunk reach a cap; none is looked at if no size reaches it.
+fn reaching(sizes: &Lanes, cap: u64) -> u64
+    ensures few { λ r. ⌜ r ≤ exceedingIn (ofInt binary64 (pos (min cap 4503599627370496 - 1))) (now (sizes .entry)) ⌝ }
+    ensures small { λ r. ⌜ r ≤ 80 ⌝ }
+{
+    if NO_SIZE <= cap {
+        return 0;
+    }
+    selection::reaching(sizes, cap)
+}
+
+// Of the sizes in so many chunks, up to a cap: no more are made once more than q reach it.
+fn kept_rank(
+    sizes: &mut [Lanes],
+    lanes: &[Chunk],
+    count: usize,
+    from: &Coordinates,
+    to: &Coordinates,
+    m: Model,
+    over: bool,
+    cap: u64,
+) -> u64
+    requires { ⌜ (count ≤ length (now sizes)) × (count ≤ length (now lanes)) × (count ≤ 54) ⌝ }
+    ensures { λ r. ⌜ r ≡ selected (exceedingBy over (now (lanes .entry)) (now (from .entry)) (now (to .entry)) m count) (m .eps)
+        (min cap 4503599627370496) ⌝ }
+{
+    let most = NO_SIZE as f64;
+    let none: Lanes = [most; 80];
+    let mut reached: u64 = 0;
+    let mut t: usize = 0;
+    while t < count {
+        sizes[t] = none;
+        kernel::lessen_all(&mut sizes[t], &lanes[t], from, to, m.n, m.d, over);
+        reached = reached + reaching(&sizes[t], cap);
+        if (m.eps as u64) < reached {
+            return least(cap, LIMIT);
+        }
+        t += 1;
+    }
+    selection::nth_largest(&sizes[..count], m.eps, cap)
+}
+
+// Of a few chunks: the array is filled at each call, whatever is used of it.
+fn short_rank(
+    lanes: &[Chunk],
+    count: usize,
+    from: &Coordinates,
+    to: &Coordinates,
+    m: Model,
+    over: bool,
+    cap: u64,
+) -> u64
+    requires { ⌜ (count ≤ 8) × (count ≤ length (now lanes)) ⌝ }
+    ensures { λ r. ⌜ r ≡ selected (exceedingBy over (now (lanes .entry)) (now (from .entry)) (now (to .entry)) m count) (m .eps)
+        (min cap 4503599627370496) ⌝ }
+{
+    let zeros: Lanes = [0.0; 80];
+    let mut sizes: [Lanes; 8] = [zeros; 8];
+    kept_rank(&mut sizes, lanes, count, from, to, m, over, cap)
+}
+
+// Of any number. The compiler lays the two arrays over each other, since each is that of a function of its own.
+fn long_rank(
+    lanes: &[Chunk],
+    count: usize,
+    from: &Coordinates,
+    to: &Coordinates,
+    m: Model,
+    over: bool,
+    cap: u64,
+) -> u64
+    requires { ⌜ (count ≤ 54) × (count ≤ length (now lanes)) ⌝ }
+    ensures { λ r. ⌜ r ≡ selected (exceedingBy over (now (lanes .entry)) (now (from .entry)) (now (to .entry)) m count) (m .eps)
+        (min cap 4503599627370496) ⌝ }
+{
+    let zeros: Lanes = [0.0; 80];
+    let mut sizes: [Lanes; 54] = [zeros; 54];
+    kept_rank(&mut sizes, lanes, count, from, to, m, over, cap)
+}
+
+// Over the lanes of a store that was decoded before.
 pub fn lanes_rank(
     store: &[u8],
     lanes: &[Chunk],
@@ -30,21 +116,11 @@ pub fn lanes_rank(
 {
     let from = kernel::coordinates(low);
     let to = kernel::coordinates(high);
-    let most = NO_SIZE as f64;
-    let none: Lanes = [most; 80];
-    let mut sizes: [Lanes; 54] = [none; 54];
     let count = columns::chunk_count(store.len(), lanes.len());
-    let mut reached: u64 = 0;
-    let mut t: usize = 0;
-    while t < count {
-        kernel::lessen_all(&mut sizes[t], &lanes[t], &from, &to, m.n, m.d, over);
-        reached = reached + selection::reaching(&sizes[t], cap);
-        if (m.eps as u64) < reached {
-            return least(cap, LIMIT);
-        }
-        t += 1;
+    if count < 9 {
+        return short_rank(lanes, count, &from, &to, m, over, cap);
     }
-    selection::nth_largest(&sizes[..count], m.eps, cap)
+    long_rank(lanes, count, &from, &to, m, over, cap)
 }
 
 // Of the whole store, each chunk decoded into one that is used again.
@@ -59,11 +135,13 @@ pub fn rank(store: &[u8], m: Model, low: [i16; 8], high: [i16; 8], over: bool) -
     let mut chunk: Chunk = [column; 5];
     let most = NO_SIZE as f64;
     let none: Lanes = [most; 80];
-    let mut sizes: [Lanes; 54] = [none; 54];
+    let zeros: Lanes = [0.0; 80];
+    let mut sizes: [Lanes; 54] = [zeros; 54];
     let count = columns::chunk_count(store.len(), 54);
     let mut t: usize = 0;
     while t < count {
         columns::decode_chunk(&mut chunk, store, t as u8, m.d, power);
+        sizes[t] = none;
         kernel::lessen_all(&mut sizes[t], &chunk, &from, &to, m.n, m.d, over);
         t += 1;
     }

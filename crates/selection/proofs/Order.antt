@@ -1,5 +1,5 @@
 -- A whole number against numbers of any kind: the larger it is, the fewer exceed it. Assumes nothing.
-use mathlib.Core.Path.{_≡_, refl, sym, ap, _∙_, subst}
+use mathlib.Core.Path.{_≡_, sym, ap, _∙_, subst}
 use mathlib.Core.Bool.{Bool, true, false, not, cond, true≢false}
 use mathlib.Core.List.{List, []}
 use mathlib.Core.Logic.{⊎-elim}
@@ -7,7 +7,7 @@ use Prim.Native.Nat.{ℕ, zero, suc, _+_, _-_, _*_, _≤_, _<_}
 use native.Mathlib.Nat.{add-zero, add-suc, mul-one, mul-right-comm, mul-le-mul-right, mul-lt-mul-of-pos-right, not-le-of-lt}
 use native.Mathlib.Omega.{arith}
 use lib.Dec.{T, ltb, ltb→lt, lt→ltb}
-use lib.IntN.{ℤ, pos, natAbs}
+use lib.IntN.{pos}
 use lib.ListN.{length, getD}
 use lib.Ieee.{Float, nan, inf, fin, binary64, up, down, round, lt, ofInt}
 use lib.Ieee.Exact.{HasValue}
@@ -91,9 +91,33 @@ pub record Bracketed (q cap : ℕ) (sizes : List (List Float)) (low high : ℕ) 
   pub few : high < cap → exceedingAll high sizes ≤ q
   pub least : (a : ℕ) → a < low → q < exceedingAll a sizes
 
--- where more than q exceed a number, they exceed all smaller ones
-pub all-below : {q : ℕ} (sizes : List (List Float)) (b : ℕ) → b ≤ most → q < exceedingAll b sizes → (a : ℕ) → a < b + 1 → q < exceedingAll a sizes
-all-below sizes b k h a l = omega (arith, exceeding-falls a b (omega arith) k sizes)
+-- by how many are counted that exceed a number between them, one end moves there
+module _ {q cap : ℕ} {sizes : List (List Float)} {low high : ℕ} (g : Bracketed q cap sizes low high) (limit : cap ≤ most)
+    (a : ℕ) (above : low ≤ a) (inside : a < high) where
+  pub raised : (count : ℕ) → count ≤ exceedingAll a sizes → q < count → Bracketed q cap sizes (a + 1) high
+  raised count upper more =
+      record {
+        ordered = omega arith;
+        below = g .below;
+        few = g .few;
+        least = λ b l. omega (arith, exceeding-falls b a (omega arith) (omega (arith, g .below)) sizes);
+      }
+
+  pub lowered : (count stop : ℕ) → (count < exceedingAll a sizes → stop < count) → q ≤ stop → count ≤ q → Bracketed q cap sizes low a
+  lowered count stop lower enough few =
+      record {
+        ordered = above;
+        below = omega (arith, g .below);
+        few = λ h.
+            ⊎-elim (λ (e : exceedingAll a sizes ≤ count). omega arith) (λ (l : count < exceedingAll a sizes). absurd (omega (arith, lower l)))
+            (le-or-lt (exceedingAll a sizes) count);
+        least = g .least;
+      }
+
+-- at the start
+pub whole-range : {q cap : ℕ} (sizes : List (List Float)) (high : ℕ) → high ≡ cap → Bracketed q cap sizes 0 high
+whole-range sizes high e =
+    record { ordered = omega arith; below = omega arith; few = λ h. absurd (omega arith); least = λ b h. absurd (omega arith) }
 
 pub found : {q cap : ℕ} {sizes : List (List Float)} {low high : ℕ} → Bracketed q cap sizes low high → high ≤ low → low ≡ selected (λ a. exceedingAll a sizes) q cap
 found {q} {sizes = sizes} {low} {high} g h =

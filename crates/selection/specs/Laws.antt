@@ -1,7 +1,7 @@
 -- What is shown of a selection. The proof stands in proofs/Exact.antt.
 use mathlib.Core.List.{List}
 use mathlib.Core.Path.{_≡_}
-use Prim.Native.Nat.{ℕ, _≤_, _<_, min}
+use Prim.Native.Nat.{ℕ, _<_, min}
 use Rattle.ranks.specs.Largest.{nthLargest}
 use Rattle.ranks.specs.Laws.{exceeding}
 use Rattle.selection.specs.Selection.{selected}

@@ -12,7 +12,7 @@ use Rattle.selection.proofs.reaching.Tie as tie
 use Rattle.selection.proofs.reaching.Reads as reads
 use Rattle.selection.proofs.reaching.Lts as lts
 use Rattle.selection.proofs.under.Reads as under-reads
-use Rattle.selection.proofs.exceeding_in.Reads as exceeding-in-reads
+use Rattle.selection.proofs.counting.exceeding_in.Reads as exceeding-in-reads
 
 under-requires : tie.Need-under-requires
 under-requires c κs = search needs

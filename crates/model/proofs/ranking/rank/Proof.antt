@@ -8,7 +8,7 @@ use lib.ListN.{length}
 use lib.Seq.{length-take-le}
 use Rattle.residuals.proofs.Sizes.{power-of}
 use Rattle.whole.proofs.Laws.{cast-asks}
-use Rattle.columns.specs.Columns.{ChunkOf, chunks, decodedChunks}
+use Rattle.columns.specs.Columns.{ChunkOf, chunks}
 use Rattle.selection.specs.Selection.{selected}
 use Rattle.model.specs.Calls.{DecodedFor, exceedingBy}
 use Rattle.model.proofs.Counting.{kept-selected, rank-in}
@@ -26,10 +26,10 @@ use Rattle.scale.proofs.power.Reads as power-reads
 use Rattle.selection.proofs.nth_largest.Reads as nth-largest-reads
 
 abbrev Inv-loop : tie.InvT-loop
-Inv-loop store m over power from to chunk₀ most sizes₀ count t₀ chunk sizes t = (t ≤ count) × KeptSizes store m over from to sizes t
+Inv-loop store m over power from to chunk₀ most none sizes₀ count t₀ chunk sizes t = (t ≤ count) × KeptSizes store m over from to sizes t
 
 abbrev μ-loop : tie.MeasureT-loop
-μ-loop store m over power from to chunk₀ most sizes₀ count t₀ chunk sizes t = count - t
+μ-loop store m over power from to chunk₀ most none sizes₀ count t₀ chunk sizes t = count - t
 
 power-requires : tie.Need-power-requires Inv-loop μ-loop
 power-requires c κs = search needs
@@ -47,7 +47,7 @@ chunk-count-requires : tie.Need-chunk-count-requires Inv-loop μ-loop
 chunk-count-requires c κs = search needs
 
 loop-holds : tie.Need-loop-holds Inv-loop μ-loop
-loop-holds c = (omega arith, none-kept _ _ _ _ _)
+loop-holds c = (omega arith, none-kept _ _ _ _ _ _)
 
 cast-decode-chunk : tie.Need-cast-decode-chunk Inv-loop μ-loop
 cast-decode-chunk c = let p = c .before .before in record { fits = omega (arith, c .before .loop-test .taken, p .before .chunk-count .ensures) }
@@ -55,12 +55,18 @@ cast-decode-chunk c = let p = c .before .before in record { fits = omega (arith,
 decode-chunk-requires : tie.Need-decode-chunk-requires Inv-loop μ-loop
 decode-chunk-requires c κs = search needs
 
+mul-sizes : tie.Need-mul-sizes Inv-loop μ-loop
+mul-sizes c = search needs
+
 mul-lessen-all : tie.Need-mul-lessen-all Inv-loop μ-loop
 mul-lessen-all c = search needs
 
 -- a turn's chunk has its place among the sizes
 inside : (c : tie.In-loop Inv-loop μ-loop) → c .before .loop .t < 54
 inside c = omega (arith, c .loop-test .taken, c .before .before .chunk-count .ensures)
+
+array-set-from-sizes : tie.Need-array-set-from-sizes Inv-loop μ-loop
+array-set-from-sizes c = inside (c .before .before)
 
 index-1-lessen-all : tie.Need-index-1-lessen-all Inv-loop μ-loop
 index-1-lessen-all c = inside (c .before .before)
@@ -144,6 +150,8 @@ rank-spec =
     loop-holds
     cast-decode-chunk
     decode-chunk-requires
+    mul-sizes
+    array-set-from-sizes
     mul-lessen-all
     index-1-lessen-all
     lessen-all-requires

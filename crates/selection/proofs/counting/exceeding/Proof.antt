@@ -1,10 +1,9 @@
--- The loop's invariant: the count is that of the chunks before t, and not above q. The measure is what is left of the chunks.
-use mathlib.Core.Path.{_≡_, refl, sym, ap, _∙_}
+-- The loop's invariant: the count is that of the chunks before t, and not above `most`. The measure is what is left of the chunks.
+use mathlib.Core.Path.{_≡_, refl, ap, _∙_}
 use mathlib.Core.List.{List, []}
-use Prim.Native.Nat.{ℕ, _+_, _-_, _≤_, _<_}
+use Prim.Native.Nat.{ℕ, _+_, _-_, _≤_}
 use native.Mathlib.Omega.{arith}
 use borrow.Author.Needs.{needs}
-use borrow.Author.Tests.{lt-ltb, le-ltb}
 use lib.IntN.{pos}
 use lib.ListN.{length, getD}
 use lib.Ieee.{Float, binary64, ofInt}
@@ -13,21 +12,21 @@ use Rattle.residuals.proofs.Sums.{sum-more}
 use Rattle.whole.proofs.Laws.{cast-asks}
 use Rattle.selection.specs.Selection.{exceedingIn, exceedingAll}
 use Rattle.selection.proofs.Order.{sum-longer}
-use Rattle.selection.proofs.more_exceed.Statement.{statement}
-use Rattle.selection.proofs.more_exceed.Tie as tie
-use Rattle.selection.proofs.more_exceed.Reads as reads
-use Rattle.selection.proofs.more_exceed.Lts as lts
-use Rattle.selection.proofs.exceeding_in.Reads as exceeding-in-reads
+use Rattle.selection.proofs.counting.exceeding.Statement.{statement}
+use Rattle.selection.proofs.counting.exceeding.Tie as tie
+use Rattle.selection.proofs.counting.exceeding.Reads as reads
+use Rattle.selection.proofs.counting.exceeding.Lts as lts
+use Rattle.selection.proofs.counting.exceeding_in.Reads as exceeding-in-reads
 
 abbrev counts : Float → List (List Float) → ℕ → ℕ
 counts mark sizes t = exceedingIn mark (getD sizes t [])
 
 abbrev Inv-loop : tie.InvT-loop
-Inv-loop sizes a q mark most count₀ t₀ count t =
-    (t ≤ length sizes) × (count ≤ q) × (count ≡ sumOf (counts (ofInt binary64 (pos a)) sizes) t)
+Inv-loop sizes a most mark enough count₀ t₀ count t =
+    (t ≤ length sizes) × (count ≤ most) × (count ≡ sumOf (counts (ofInt binary64 (pos a)) sizes) t)
 
 abbrev μ-loop : tie.MeasureT-loop
-μ-loop sizes a q mark most count₀ t₀ count t = length sizes - t
+μ-loop sizes a most mark enough count₀ t₀ count t = length sizes - t
 
 -- the count with one chunk more
 counted : (c : tie.After-exceeding-in Inv-loop μ-loop) → let p = c .before .before .before in let a = p .before .before .args in
@@ -54,7 +53,7 @@ exceeding-in-requires : tie.Need-exceeding-in-requires Inv-loop μ-loop
 exceeding-in-requires c κs = search needs
 
 add-count : tie.Need-add-count Inv-loop μ-loop
-add-count c = let p = c .before .before .before in record { fits = omega (arith, p .loop .inv .1, c .exceeding-in .ensures .1, p .before .before .fits .q) }
+add-count c = let p = c .before .before .before in record { fits = omega (arith, p .loop .inv .1, c .exceeding-in .ensures .1, p .before .before .fits .most) }
 
 returns : tie.Need-returns Inv-loop μ-loop
 unfolding exceedingAll
@@ -62,9 +61,8 @@ returns c =
     let p = c .before .before .before .before in
     let a = p .before .before .args in
     let f = counts (ofInt binary64 (pos (a .a))) (a .sizes .now) in
-    let more : a .q < sumOf f (length (a .sizes .now)) =
-    omega (arith, counted (c .before), c .if1 .taken, sum-longer f (p .loop .t + 1) (length (a .sizes .now)) (omega (arith, c .before .before .before .loop-test .taken))) in
-    sym (lt-ltb _ _ more)
+    let longer = sum-longer f (p .loop .t + 1) (length (a .sizes .now)) (omega (arith, c .before .before .before .loop-test .taken)) in
+    (omega (arith, counted (c .before), longer), λ h. omega (arith, c .if1 .taken))
 
 add-t : tie.Need-add-t Inv-loop μ-loop
 add-t c = search needs
@@ -82,13 +80,12 @@ unfolding exceedingAll
 returns-2 c =
     let p = c .before in
     let a = p .before .before .args in
-    let f = counts (ofInt binary64 (pos (a .a))) (a .sizes .now) in
     let e : p .loop .t ≡ length (a .sizes .now) = omega (arith, p .loop .inv .0, c .loop-test .left) in
-    let few : sumOf f (length (a .sizes .now)) ≤ a .q = omega (arith, p .loop .inv .1, p .loop .inv .2, ap (sumOf f) e) in
-    sym (le-ltb _ _ few)
+    let same = p .loop .inv .2 ∙ ap (sumOf (counts (ofInt binary64 (pos (a .a))) (a .sizes .now))) e in
+    (omega (arith, same), λ h. absurd (omega (arith, same)))
 
-pub more-exceed-spec : {M : Type 1} → statement M
-more-exceed-spec =
+pub exceeding-spec : {M : Type 1} → statement M
+exceeding-spec =
     tie.close
     (tie.spec
     Inv-loop

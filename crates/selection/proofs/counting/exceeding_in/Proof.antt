@@ -2,7 +2,7 @@
 use mathlib.Core.Path.{_≡_, refl, ap, _∙_}
 use mathlib.Core.Bool.{cond}
 use mathlib.Core.List.{List}
-use Prim.Native.Nat.{ℕ, _+_, _-_, _≤_}
+use Prim.Native.Nat.{ℕ, _-_, _≤_}
 use native.Mathlib.Omega.{arith}
 use lib.Ieee.{Float, lt}
 use Rattle.residuals.specs.Inside.{sumOf}
@@ -10,12 +10,12 @@ use Rattle.residuals.proofs.Sums.{sum-more}
 use Rattle.lanes.specs.Lanes.{lane}
 use Rattle.selection.specs.Selection.{exceedingIn}
 use borrow.Author.Needs.{needs}
-use Rattle.selection.proofs.exceeding_in.Statement.{statement}
-use Rattle.selection.proofs.exceeding_in.Tie as tie
-use Rattle.selection.proofs.exceeding_in.Reads as reads
-use Rattle.selection.proofs.exceeding_in.Lts as lts
+use Rattle.selection.proofs.counting.exceeding_in.Statement.{statement}
+use Rattle.selection.proofs.counting.exceeding_in.Tie as tie
+use Rattle.selection.proofs.counting.exceeding_in.Reads as reads
+use Rattle.selection.proofs.counting.exceeding_in.Lts as lts
 use Rattle.lanes.proofs.known.Reads as known-reads
-use Rattle.selection.proofs.one.Reads as one-reads
+use Rattle.selection.proofs.counting.one.Reads as one-reads
 
 abbrev ones : Float → List Float → ℕ → ℕ
 ones a xs k = cond (lt a (lane xs k)) 1 0

@@ -3,8 +3,8 @@ use mathlib.Core.Path.{sym, ap}
 use mathlib.Core.Bool.{Bool, cond}
 use Prim.Native.Nat.{ℕ}
 use native.Mathlib.Omega.{arith}
-use Rattle.selection.proofs.one.Statement.{statement}
-use Rattle.selection.proofs.one.Tie as tie
+use Rattle.selection.proofs.counting.one.Statement.{statement}
+use Rattle.selection.proofs.counting.one.Tie as tie
 
 returns : tie.Need-returns
 returns c = (ap (λ (t : Bool). cond {A = ℕ} t 1 0) (sym (c .if1 .taken)), omega arith)
