@@ -7,7 +7,7 @@ use std::hint::black_box;
 use std::time::Instant;
 
 const POINTS: usize = 4096;
-const SHAPES: [(usize, usize); 9] = [
+pub const SHAPES: [(usize, usize); 9] = [
     (1, 1),
     (1, 2),
     (1, 3),

@@ -1,12 +1,11 @@
 //! One evaluation with p = 3 on 4,096 points of hidden lines: against one with p = 1 and against plain Rust that selects.
-use crate::evaluations::timed;
+use crate::evaluations::{timed, SHAPES};
 use crate::jobs::{Shape, SPOILED};
 use crate::plain::{self, Model};
 use crate::rattle;
 use crate::search::Domain;
 use std::hint::black_box;
 
-const SHAPES: [(usize, usize); 4] = [(1, 1), (1, 4), (2, 2), (4, 2)];
 /// How many samples may be spoiled; one in five is.
 const SPOILT: [u32; 7] = [0, 1, 40, 409, 1000, 2047, 4095];
 /// How far the box of a bound reaches from the hidden lines.
