@@ -60,7 +60,7 @@ fn kept_rank(
         }
         t += 1;
     }
-    selection::nth_largest(&sizes[..count], m.eps, cap)
+    selection::nth_largest(&sizes[..count], m.eps, cap, reached)
 }
 
 // Of a few chunks: the array is filled at each call, whatever is used of it.
@@ -145,5 +145,5 @@ pub fn rank(store: &[u8], m: Model, low: [i16; 8], high: [i16; 8], over: bool) -
         kernel::lessen_all(&mut sizes[t], &chunk, &from, &to, m.n, m.d, over);
         t += 1;
     }
-    selection::nth_largest(&sizes[..count], m.eps, NO_CAP)
+    selection::nth_largest(&sizes[..count], m.eps, NO_CAP, 0)
 }

@@ -1,13 +1,15 @@
-// Where to cut many chunks, so that few counts are needed. Nothing is shown of these numbers: a bad one costs a count and no more.
+// Where to cut, so that few counts are needed. Nothing is shown of these numbers: a bad one costs a count and no more.
+use crate::FEW;
 use crate::LIMIT;
 use crate::bisection;
+use crate::counting;
 use lanes::Lanes;
 use lanes::known;
 use loss::least;
+use whole::count;
 use whole::larger;
 ghost use mathlib.Core.Path.{_≡_};
 ghost use Prim.Native.Nat.{_+_, _-_, _≤_, _<_};
-ghost use lib.ListN.{length};
 
 // How many cuts are guessed. After them the interval is halved, so that no sizes take long.
 const CUTS: u64 = 10;
@@ -27,16 +29,18 @@ pub struct Trail {
     pub over: u64,
 }
 
-// Nothing is counted yet.
-pub fn start() -> Trail {
+// Under a cap that sizes can reach, how many do is the first count, and the first cut is planned like any other.
+pub fn start(cap: u64, reached: u64) -> Trail {
+    let known = cap < LIMIT;
+    let count = if known { reached } else { NONE };
     Trail {
-        left: CUTS,
+        left: if known { CUTS - 1 } else { CUTS },
         next: 0,
         guess: NONE,
         near: 7,
-        count: NONE,
+        count,
         under: 0,
-        over: NONE,
+        over: count,
     }
 }
 
@@ -66,27 +70,55 @@ fn tops(sizes: &[Lanes], a: u64) -> Lanes {
     found
 }
 
+// x, or 0 if it is not below a.
+fn before(a: f64, x: f64) -> f64 {
+    if x < a { x } else { 0.0 }
+}
+
+// The largest of a chunk that is below a. There are two side by side, which the compiler keeps in one register.
+fn largest_before(sizes: &Lanes, a: f64) -> f64 {
+    known(*sizes);
+    let mut even: f64 = 0.0;
+    let mut odd: f64 = 0.0;
+    for i in 0..40 {
+        even = larger(even, before(a, sizes[i * 2]));
+        odd = larger(odd, before(a, sizes[i * 2 + 1]));
+    }
+    larger(even, odd)
+}
+
+// The one that so many of a chunk exceed, from the largest down.
+fn largest_but(sizes: &Lanes, skipped: u32) -> u64 {
+    let mut found = largest_before(sizes, LIMIT as f64);
+    for _ in 0..skipped {
+        let next = largest_before(sizes, found);
+        if (skipped as u64) < counting::exceeding_in(sizes, next) {
+            return count(found);
+        }
+        found = next;
+    }
+    count(found)
+}
+
 // The size that so many of those up to `high` exceed, as far as the tops tell: two that share a lane count as one, so that of many about
 // one in four is not seen.
 fn below(sizes: &[Lanes], high: u64, skipped: u32) -> u64 {
     let found: [Lanes; 1] = [tops(sizes, high)];
-    let seen = if skipped < 8 {
-        skipped
-    } else {
-        skipped - skipped / 4
-    };
-    bisection::bisected(&found[..1], seen, high)
+    if skipped < 8 {
+        return largest_but(&found[0], skipped);
+    }
+    bisection::bisected(&found[..1], skipped - skipped / 4, high)
 }
 
-// The first cut: by the tops if few are larger, else by a sample.
-fn first(sizes: &[Lanes], q: u32, high: u64) -> u64
-    requires { ⌜ 16 ≤ length (now sizes) ⌝ }
-{
-    if q < 64 {
-        return below(sizes, high, q);
+// The first cut: by a sample, or by the tops if few are larger.
+fn first(sizes: &[Lanes], q: u32, high: u64) -> u64 {
+    if 64 <= q {
+        if FEW <= sizes.len() {
+            let share = (q as u64) * 3 / (sizes.len() as u64);
+            return bisection::bisected(&sizes[..3], least(share, q as u64) as u32, high);
+        }
     }
-    let share = (q as u64) * 3 / (sizes.len() as u64);
-    bisection::bisected(&sizes[..3], least(share, q as u64) as u32, high)
+    below(sizes, high, q)
 }
 
 // a - b, or 0 if b is larger.
@@ -134,7 +166,7 @@ fn between(trail: Trail, low: u64, high: u64, q: u64) -> u64
 
 // Plans the next cut. A size that was guessed is tried, then what is just below it: that is all if the guess is right.
 pub fn planned(sizes: &[Lanes], trail: Trail, low: u64, high: u64, q: u32) -> Trail
-    requires { ⌜ (16 ≤ length (now sizes)) × (low < high) × (high ≤ 4503599627370496) ⌝ }
+    requires { ⌜ (low < high) × (high ≤ 4503599627370496) ⌝ }
 {
     let mut t = trail;
     let most = q as u64;

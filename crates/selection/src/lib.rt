@@ -8,12 +8,13 @@ use loss::least;
 ghost use mathlib.Core.Path.{_≡_};
 ghost use Prim.Native.Nat.{_-_, _≤_, _<_, min};
 ghost use lib.IntN.{pos};
-ghost use lib.ListN.{length};
 ghost use lib.Ieee.{binary64, ofInt};
 ghost use Rattle.selection.specs.Selection.{exceedingIn, exceedingAll, selected};
 
 // Every size lies below: 2^52.
 pub const LIMIT: u64 = 4503599627370496;
+// With fewer chunks a first look at them takes longer than it saves.
+const FEW: usize = 16;
 
 // x, or what is next to it from `low` to below `high`.
 fn within(x: u64, low: u64, high: u64) -> u64
@@ -27,13 +28,12 @@ fn within(x: u64, low: u64, high: u64) -> u64
 }
 
 // By cuts that are guessed: the counts alone decide.
-fn guessed(sizes: &[Lanes], q: u32, cap: u64) -> u64
-    requires { ⌜ 16 ≤ length (now sizes) ⌝ }
+fn guessed(sizes: &[Lanes], q: u32, cap: u64, reached: u64) -> u64
     ensures { λ r. ⌜ r ≡ selected (λ a. exceedingAll a (now (sizes .entry))) q (min cap 4503599627370496) ⌝ }
 {
     let mut low: u64 = 0;
     let mut high = least(cap, LIMIT);
-    let mut trail = guesses::start();
+    let mut trail = guesses::start(cap, reached);
     while low < high {
         trail = guesses::planned(sizes, trail, low, high, q);
         let middle = within(trail.next, low, high);
@@ -48,14 +48,15 @@ fn guessed(sizes: &[Lanes], q: u32, cap: u64) -> u64
     low
 }
 
-// The least number that at most q of the sizes exceed, or `cap` if that is less. With few chunks guesses take longer than they save.
-pub fn nth_largest(sizes: &[Lanes], q: u32, cap: u64) -> u64
+// The least number that at most q of the sizes exceed, or `cap` if that is less. How many reach the cap tells where to cut first, and
+// decides nothing: the result is the same whatever is said.
+pub fn nth_largest(sizes: &[Lanes], q: u32, cap: u64, reached: u64) -> u64
     ensures { λ r. ⌜ r ≡ selected (λ a. exceedingAll a (now (sizes .entry))) q (min cap 4503599627370496) ⌝ }
 {
-    if sizes.len() < 16 {
+    if sizes.len() < FEW && LIMIT <= cap {
         return bisection::bisected(sizes, q, cap);
     }
-    guessed(sizes, q, cap)
+    guessed(sizes, q, cap, reached)
 }
 
 // What a size that reaches the cap exceeds.

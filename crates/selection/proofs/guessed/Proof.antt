@@ -16,10 +16,10 @@ use Rattle.selection.proofs.guesses.start.Reads as start-reads
 use Rattle.selection.proofs.within.Reads as within-reads
 
 abbrev Inv-loop : tie.InvT-loop
-Inv-loop sizes q cap low₀ high₀ trail₀ low high trail = Bracketed q (min cap 4503599627370496) sizes low high
+Inv-loop sizes q cap reached low₀ high₀ trail₀ low high trail = Bracketed q (min cap 4503599627370496) sizes low high
 
 abbrev μ-loop : tie.MeasureT-loop
-μ-loop sizes q cap low₀ high₀ trail₀ low high trail = high - low
+μ-loop sizes q cap reached low₀ high₀ trail₀ low high trail = high - low
 
 least-requires : tie.Need-least-requires Inv-loop μ-loop
 least-requires c κs = search needs
@@ -32,7 +32,7 @@ loop-holds c = whole-range _ _ (c .before .least .ensures)
 
 planned-requires : tie.Need-planned-requires Inv-loop μ-loop
 planned-requires c κs =
-    (c .before .before .before .before .pre, omega (arith, c .loop-test .taken), omega (arith, c .before .loop .inv .below))
+    (omega (arith, c .loop-test .taken), omega (arith, c .before .loop .inv .below))
 
 within-requires : tie.Need-within-requires Inv-loop μ-loop
 within-requires c κs = omega (arith, c .before .loop-test .taken)

@@ -11,12 +11,6 @@ use Rattle.loss.proofs.least.Reads as least-reads
 use Rattle.selection.proofs.bisection.bisected.Reads as bisected-reads
 use Rattle.selection.proofs.guesses.below.Reads as below-reads
 
-below-requires : tie.Need-below-requires
-below-requires c κs = search needs
-
-returns : tie.Need-returns
-returns c = search needs
-
 mul-share : tie.Need-mul-share
 mul-share c = search needs
 
@@ -24,7 +18,7 @@ div-share : tie.Need-div-share
 div-share c = search needs
 
 slice-aggregate-bisected : tie.Need-slice-aggregate-bisected
-slice-aggregate-bisected c = sym (length-take-le 3 (c .before .before .args .sizes .now) (omega (arith, c .before .before .pre)))
+slice-aggregate-bisected c = sym (length-take-le 3 (c .before .before .before .args .sizes .now) (omega (arith, c .before .if2 .taken)))
 
 least-requires : tie.Need-least-requires
 least-requires c κs = search needs
@@ -35,6 +29,12 @@ cast-bisected c = search needs
 bisected-requires : tie.Need-bisected-requires
 bisected-requires c κs = search needs
 
+returns : tie.Need-returns
+returns c = search needs
+
+below-requires : tie.Need-below-requires
+below-requires c κs = search needs
+
 returns-2 : tie.Need-returns-2
 returns-2 c = search needs
 
@@ -42,12 +42,12 @@ pub first-spec : {M : Type 1} → statement M
 first-spec =
     tie.close
     (tie.spec
-    below-requires
-    returns
     mul-share
     div-share
     slice-aggregate-bisected
     least-requires
     cast-bisected
     bisected-requires
+    returns
+    below-requires
     returns-2)
