@@ -28,7 +28,7 @@ use Rattle.scale.specs.Scale.{checkScale}
 use Rattle.fields.specs.Fields.{IsVector}
 use Rattle.jobs.specs.declared.Job.{Job}
 use Rattle.residuals.specs.Laws.{Small}
-use Rattle.model.specs.Calls.{checkModel}
+use Rattle.model_checks.specs.Checks.{checkModel}
 use Rattle.model.proofs.Passed.{cost-limit}
 use Rattle.rows.specs.Rows.{rowCount}
 use Rattle.certificate.specs.Search as Search

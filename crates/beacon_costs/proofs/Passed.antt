@@ -12,8 +12,8 @@ use Rattle.codes.proofs.Checks.{passed, first-passed, others-passed}
 use Rattle.jobs.specs.declared.Model.{Model}
 use Rattle.points.specs.Points.{pointsOf}
 use Rattle.residuals.specs.Inside.{Ready}
-use Rattle.model.specs.Calls.{checkThreshold}
-use Rattle.model.proofs.Passed.{ready, threshold-model, threshold-picked}
+use Rattle.model_checks.specs.Checks.{checkThreshold}
+use Rattle.model_checks.proofs.Passed.{ready, threshold-model, threshold-picked}
 use Rattle.beacon_costs.specs.BeaconCosts.{groups, checkByBeacon}
 
 module _ (store : List ℕ) (m : Model) (v : List ℤ) (entries : ℕ) (e : checkByBeacon store m v entries ≡ Pass) where

@@ -88,7 +88,7 @@ fn check_by_beacon(store: &[u8], m: Model, v: [i16; 8], entries: usize) -> Check
     ensures { λ r. ⌜ r ≡ checkByBeacon (now (store .entry)) m v entries ⌝ }
 {
     in_order(
-        model::check_threshold(store, m, v),
+        model_checks::check_threshold(store, m, v),
         check_room(store.len(), entries),
     )
 }

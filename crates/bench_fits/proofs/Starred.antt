@@ -16,7 +16,7 @@ use Rattle.scale.specs.Scale.{checkScale}
 use Rattle.loss.specs.Loss.{checkLoss, checkLossFor}
 use Rattle.boxes.specs.Boxes.{checkStart}
 use Rattle.points.specs.Points.{unsignedAt, signedAt, pointAt, skipped, firstPoints, pointsOf, checkStore, strayFrom, checkStray}
-use Rattle.model.specs.Calls.{checkModel}
+use Rattle.model_checks.specs.Checks.{checkModel}
 use Rattle.fields.specs.Fields.{bigEndian, fromBigEndian, vectorBytes, vectorOf}
 use Rattle.job_records.specs.Jobs.{jobBytes, jobOf}
 use Rattle.decimal.specs.Text.{digitsOf, decimal, signed, behindCommas, joined}

@@ -12,7 +12,7 @@ use Rattle.codes.specs.Codes.{passIf, inOrder}
 use Rattle.codes.proofs.Laws.{in-order-one}
 use Rattle.jobs.specs.declared.Model.{Model}
 use Rattle.points.specs.Points.{pointsOf}
-use Rattle.model.specs.Calls.{checkThreshold}
+use Rattle.model_checks.specs.Checks.{checkThreshold}
 use Rattle.labels.specs.Labels.{checkLabels}
 
 module _ (store : List ℕ) (m : Model) (v : List ℤ) (out : List ℕ) where

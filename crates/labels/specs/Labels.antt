@@ -14,7 +14,7 @@ use Rattle.jobs.specs.declared.Model.{Model}
 use Rattle.points.specs.declared.Point.{Point}
 use Rattle.points.specs.Points.{isGap, pointsOf}
 use Rattle.residuals.specs.Cost.{least, sizeAt}
-use Rattle.model.specs.Calls.{checkThreshold}
+use Rattle.model_checks.specs.Checks.{checkThreshold}
 
 -- the first of the places 0, …, n − 1 at which f is least
 unfoldable pub firstLeast : (ℕ → ℕ) → ℕ → ℕ

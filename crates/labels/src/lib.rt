@@ -32,7 +32,7 @@ pub fn labels(store: &[u8], m: Model, v: [i16; 8], out: &mut [u8]) -> Outcome
     ensures answer { λ r. ⌜ r ≡ labelsAnswer (now (store .entry)) m v (now (out .entry)) ⌝ }
     ensures buffer { λ _. ⌜ now (out .exit) ≡ labelled (now (store .entry)) m v (now (out .entry)) ⌝ }
 {
-    match model::check_threshold(store, m, v) {
+    match model_checks::check_threshold(store, m, v) {
         Check::Pass => {
             let count = store.len() / 12;
             if out.len() < count {

@@ -1,49 +1,26 @@
--- The calls on a store and a model: which checks each makes, and what it answers. "Codes for jobs that can't run".
+-- What the calls on a store and a model answer.
 use mathlib.Core.Bool.{Bool, true, false, cond}
-use mathlib.Core.List.{List, [], _∷_}
-use Prim.Native.Nat.{ℕ, _/_, _^_, min}
+use mathlib.Core.List.{List, []}
+use Prim.Native.Nat.{ℕ, _^_, min}
 use lib.Dec.{eqb}
 use lib.IntN.{ℤ, pos}
-use lib.ListN.{length, getD}
+use lib.ListN.{getD}
 use lib.Ieee.{Float, binary64, ofInt, lt}
-use Rattle.codes.specs.declared.Check.{Check}
 use Rattle.codes.specs.declared.Outcome.{Outcome}
-use Rattle.codes.specs.Codes.{inOrder, unlessRefused, ifPassed}
-use Rattle.scale.specs.Scale.{checkScale}
+use Rattle.codes.specs.Codes.{unlessRefused, ifPassed}
 use Rattle.boxes.specs.declared.Box.{Box}
-use Rattle.boxes.specs.Shape.{checkShape, checkVector}
-use Rattle.boxes.specs.Boxes.{checkBox}
 use Rattle.jobs.specs.declared.Model.{Model}
-use Rattle.points.specs.Points.{pointsOf, checkStore, checkStray}
-use Rattle.loss.specs.Loss.{checkLoss, checkLossFor}
+use Rattle.points.specs.Points.{pointsOf}
 use Rattle.residuals.specs.Cost.{cost, bound}
 use Rattle.residuals.specs.Inside.{sumOf}
+use Rattle.model_checks.specs.Checks.{checkModel, checkCost, checkBound}
 use Rattle.columns.specs.Columns.{decodedChunks, Decoded}
 use Rattle.selection.specs.Selection.{selected}
 use Rattle.kernel.specs.Kernel.{doubles, chunkLoss, chunkSize}
 
--- Checks 1 to 4, which every call here makes first.
-unfoldable pub checkModel : List ℕ → Model → Check
-checkModel store m =
-    inOrder (checkStore (length store) ∷ checkShape (m .n) (m .d) ∷ checkScale (m .scale) ∷ checkLossFor (length store / 12) (m .p) (m .eps) ∷ [])
-
--- "a cost 1 to 4, 6 and 7"
-unfoldable pub checkCost : List ℕ → Model → List ℤ → Check
-checkCost store m v = inOrder (checkModel store m ∷ checkVector (m .n) (m .d) v ∷ checkStray (m .d) (pointsOf store) ∷ [])
-
--- The same of a call that takes ε for a threshold, as losses and labels do. Document 02: "Labels, peeling and the loss of a single e refuse p = 3
--- by 4."
-unfoldable pub checkThreshold : List ℕ → Model → List ℤ → Check
-checkThreshold store m v =
-    inOrder (checkModel store m ∷ checkLoss (m .p) (m .eps) ∷ checkVector (m .n) (m .d) v ∷ checkStray (m .d) (pointsOf store) ∷ [])
-
 -- what a cost answers
 unfoldable pub costAnswer : List ℕ → Model → List ℤ → Outcome
 costAnswer store m v = unlessRefused (checkCost store m v) (cost m (pointsOf store) v)
-
--- "a bound 1 to 5 and 7"
-unfoldable pub checkBound : List ℕ → Model → Box → Check
-checkBound store m B = inOrder (checkModel store m ∷ checkBox (m .n) (m .d) B ∷ checkStray (m .d) (pointsOf store) ∷ [])
 
 -- what a bound answers
 unfoldable pub boundAnswer : List ℕ → Model → Box → Outcome

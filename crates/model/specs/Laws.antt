@@ -8,7 +8,7 @@ use Rattle.jobs.specs.declared.Model.{Model}
 use Rattle.points.specs.Points.{pointsOf}
 use Rattle.residuals.specs.Cost.{cost}
 use Rattle.residuals.specs.Laws.{Small}
-use Rattle.model.specs.Calls.{checkModel}
+use Rattle.model_checks.specs.Checks.{checkModel}
 
 -- Check 9 refuses "C over 1,152,921,367,167,897,600", which is 4,096 × 16,777,215²: where checks 1 to 4 pass, no vector of 16-bit coordinates
 -- costs more.

@@ -6,66 +6,17 @@ mod values;
 use boxes::Box;
 use codes::Check;
 use codes::Outcome;
-use codes::in_order;
 use jobs::Model;
 use lanes::Chunk;
-ghost use mathlib.Core.List.{[], _∷_};
+use model_checks::check_bound;
+use model_checks::check_cost;
+use model_checks::check_model;
 ghost use mathlib.Core.Path.{_≡_};
 ghost use Prim.Native.Nat.{_≤_};
-ghost use Rattle.codes.specs.Codes.{inOrder};
-ghost use Rattle.points.specs.Points.{pointsOf, checkStray};
-ghost use Rattle.model.specs.Calls.{checkModel, checkCost, checkThreshold, costAnswer, checkBound, boundAnswer, costUpTo, boundUpTo, DecodedFor, costIn, boundIn};
+ghost use Rattle.model.specs.Calls.{costAnswer, boundAnswer, costUpTo, boundUpTo, DecodedFor, costIn, boundIn};
 
 // A cap that no cost and no bound reaches.
 pub const NO_CAP: u64 = 18446744073709551615;
-
-// Checks 1 to 4.
-pub fn check_model(store: &[u8], m: Model) -> Check
-    ensures { λ r. ⌜ r ≡ checkModel (now (store .entry)) m ⌝ }
-{
-    let first = in_order(
-        points::check_store(store.len()),
-        boxes::check_shape(m.n, m.d),
-    );
-    let second = in_order(
-        scale::check_scale(m.scale),
-        loss::check_loss_for(store.len() / 12, m.p, m.eps),
-    );
-    in_order(first, second)
-}
-
-// Check 7 behind others: only a store that passes those is looked through for stray fields.
-fn then_stray(first: Check, store: &[u8], d: u8) -> Check
-    ensures { λ r. ⌜ r ≡ inOrder (first ∷ checkStray d (pointsOf (now (store .entry))) ∷ []) ⌝ }
-{
-    match first {
-        Check::Pass => points::check_stray(store, d),
-        Check::Refuse(r) => Check::Refuse(r),
-    }
-}
-
-// The checks of a cost.
-pub fn check_cost(store: &[u8], m: Model, v: [i16; 8]) -> Check
-    ensures { λ r. ⌜ r ≡ checkCost (now (store .entry)) m v ⌝ }
-{
-    then_stray(
-        in_order(check_model(store, m), boxes::check_vector(m.n, m.d, v)),
-        store,
-        m.d,
-    )
-}
-
-// The checks of a call over a vector that takes ε for a threshold.
-pub fn check_threshold(store: &[u8], m: Model, v: [i16; 8]) -> Check
-    ensures { λ r. ⌜ r ≡ checkThreshold (now (store .entry)) m v ⌝ }
-{
-    let chosen = in_order(check_model(store, m), loss::check_loss(m.p, m.eps));
-    then_stray(
-        in_order(chosen, boxes::check_vector(m.n, m.d, v)),
-        store,
-        m.d,
-    )
-}
 
 // The cost of a vector.
 pub fn cost(store: &[u8], m: Model, v: [i16; 8]) -> Outcome
@@ -75,17 +26,6 @@ pub fn cost(store: &[u8], m: Model, v: [i16; 8]) -> Outcome
         Check::Pass => Outcome::Value(values::whole(store, m, v, v, false)),
         Check::Refuse(r) => Outcome::Refused(r),
     }
-}
-
-// The checks of a bound.
-pub fn check_bound(store: &[u8], m: Model, b: Box) -> Check
-    ensures { λ r. ⌜ r ≡ checkBound (now (store .entry)) m b ⌝ }
-{
-    then_stray(
-        in_order(check_model(store, m), boxes::check_box(m.n, m.d, b)),
-        store,
-        m.d,
-    )
 }
 
 // The bound of a box.

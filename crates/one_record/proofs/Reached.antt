@@ -18,7 +18,7 @@ use Rattle.fields.specs.Fields.{fromBigEndian}
 use Rattle.points.specs.Points.{unsignedAt, signedAt, pointAt, skipped, firstPoints, pointsOf, checkStore, strayFrom, checkStray}
 use Rattle.residuals.specs.Cost.{dot, residual, sizeAt, dotMax, dotMin, eMin, eMax, nearestTo0, leastSize}
 use Rattle.residuals.specs.Cost.{least, unlessGap, totalLoss, cost, bound}
-use Rattle.model.specs.Calls.{checkModel}
+use Rattle.model_checks.specs.Checks.{checkModel}
 use Rattle.certificate.specs.Search.{ahead, lowerBound, firstSmallest, better, begin, split}
 use Rattle.certificate.specs.Search.{isSolved, answer, ifRoom, step, follow, run, search}
 use Rattle.search.specs.declared.Answer.{Answer}

@@ -19,7 +19,7 @@ use Rattle.codes.specs.declared.Check.{Check}
 use Rattle.codes.specs.declared.Check.the-variants.{Pass, Refuse}
 use Rattle.codes.specs.declared.Refusal.{Refusal}
 use Rattle.jobs.specs.declared.Job.{Job}
-use Rattle.model.specs.Calls.{checkModel}
+use Rattle.model_checks.specs.Checks.{checkModel}
 use Rattle.points.specs.Points.{checkStore}
 use Rattle.job_records.specs.Jobs.{jobOf, readJob}
 use Rattle.job_records.specs.declared.JobRead.{JobRead}

@@ -19,7 +19,7 @@ use Rattle.boxes.proofs.Checks.{start-passed}
 use Rattle.jobs.specs.declared.Job.{Job}
 use Rattle.points.specs.Points.{pointsOf, checkStray}
 use Rattle.residuals.specs.Cost.{cost, bound}
-use Rattle.model.specs.Calls.{checkModel}
+use Rattle.model_checks.specs.Checks.{checkModel}
 use Rattle.residuals.proofs.Bounds.{bound-laws}
 use Rattle.rows.specs.Rows.{rowCount, rowsOf}
 use Rattle.rows.proofs.Rows.{rest-later, rows-take}

@@ -10,7 +10,8 @@ use Rattle.boxes.specs.declared.Box.{Box}
 use Rattle.jobs.specs.declared.Model.{Model}
 use Rattle.points.specs.Points.{pointsOf}
 use Rattle.residuals.specs.Cost as model
-use Rattle.model.specs.Calls.{checkModel, costUpTo}
+use Rattle.model_checks.specs.Checks.{checkModel}
+use Rattle.model.specs.Calls.{costUpTo}
 use Rattle.rows.specs.Rows.{rowCount}
 use Rattle.rows.proofs.Rows.{Whole}
 use Rattle.open_boxes.specs.declared.Child.{Child}

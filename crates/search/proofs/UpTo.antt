@@ -11,7 +11,8 @@ use Rattle.jobs.specs.declared.Model.{Model}
 use Rattle.points.specs.Points.{pointsOf}
 use Rattle.residuals.specs.Cost.{bound}
 use Rattle.residuals.specs.Cost as model
-use Rattle.model.specs.Calls.{checkModel, costUpTo, boundUpTo}
+use Rattle.model_checks.specs.Checks.{checkModel}
+use Rattle.model.specs.Calls.{costUpTo, boundUpTo}
 use Rattle.certificate.specs.Search.{ahead, better}
 use Rattle.certificate.proofs.Ahead.{ahead-capped, ahead-le}
 use Rattle.open_boxes.specs.declared.Mark.{Mark}

@@ -12,7 +12,8 @@ use Rattle.boxes.specs.declared.Box.{Box}
 use Rattle.boxes.specs.Boxes.{volume}
 use Rattle.boxes.specs.Split.{leftHalf, rightHalf}
 use Rattle.jobs.specs.declared.Model.{Model}
-use Rattle.model.specs.Calls.{checkModel, DecodedFor}
+use Rattle.model_checks.specs.Checks.{checkModel}
+use Rattle.model.specs.Calls.{DecodedFor}
 use Rattle.rows.specs.Rows.{rowCount, rowAt, rowsOf}
 use Rattle.first_smallest.specs.FirstSmallest.{entryAt}
 use Rattle.open_boxes.specs.declared.Child.{Child}

@@ -14,7 +14,7 @@ use Rattle.boxes.specs.Boxes.{checkBox, checkStart}
 use Rattle.jobs.specs.declared.Job.{Job}
 use Rattle.points.specs.Points.{pointsOf, checkStray}
 use Rattle.residuals.specs.Cost.{cost, bound}
-use Rattle.model.specs.Calls.{checkModel}
+use Rattle.model_checks.specs.Checks.{checkModel}
 use Rattle.rows.specs.Rows.{rowCount, rowsOf}
 use Rattle.certificate.specs.Search as Search
 use Rattle.certificate.specs.Search.{solved, spent, full, search}

@@ -69,7 +69,7 @@ pub fn check_job(store: &[u8], job: Job) -> Check
         boxes::check_box(m.n, m.d, domain),
         boxes::check_start(domain, start),
     );
-    match in_order(model::check_model(store, m), region) {
+    match in_order(model_checks::check_model(store, m), region) {
         Check::Pass => points::check_stray(store, m.d),
         Check::Refuse(r) => Check::Refuse(r),
     }

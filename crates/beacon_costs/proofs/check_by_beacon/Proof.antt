@@ -15,7 +15,7 @@ use Rattle.beacon_costs.proofs.check_by_beacon.Reads as reads
 use Rattle.beacon_costs.proofs.check_by_beacon.Lts as lts
 use Rattle.beacon_costs.proofs.check_room.Reads as check-room-reads
 use Rattle.codes.proofs.in_order.Reads as in-order-reads
-use Rattle.model.proofs.check_threshold.Reads as check-threshold-reads
+use Rattle.model_checks.proofs.check_threshold.Reads as check-threshold-reads
 
 check-threshold-requires : tie.Need-check-threshold-requires
 check-threshold-requires c κs = search needs

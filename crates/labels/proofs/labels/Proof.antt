@@ -12,8 +12,8 @@ use Rattle.codes.specs.Codes.{passIf}
 use Rattle.codes.specs.declared.Outcome.the-variants.{Value}
 use Rattle.points.specs.Points.{pointsOf}
 use Rattle.points.proofs.Laws.{points-length}
-use Rattle.model.specs.Calls.{checkThreshold}
-use Rattle.model.proofs.Passed.{ready, threshold-model}
+use Rattle.model_checks.specs.Checks.{checkThreshold}
+use Rattle.model_checks.proofs.Passed.{ready, threshold-model}
 use Rattle.labels.specs.Labels.{checkLabels, labelsAnswer, labelled}
 use Rattle.labels.proofs.Passed.{room-decides, first-refuses}
 use Rattle.labels.proofs.labels.Statement.{statement}

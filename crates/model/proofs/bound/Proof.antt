@@ -5,8 +5,9 @@ use lib.ListN.{length}
 use Rattle.codes.specs.declared.Check.the-variants.{Pass, Refuse}
 use Rattle.codes.specs.declared.Outcome.the-variants.{Value}
 use Rattle.residuals.specs.Inside.{Ready}
-use Rattle.model.specs.Calls.{checkBound, boundAnswer}
-use Rattle.model.proofs.Passed.{ready, bound-model}
+use Rattle.model_checks.specs.Checks.{checkBound}
+use Rattle.model.specs.Calls.{boundAnswer}
+use Rattle.model_checks.proofs.Passed.{ready, bound-model}
 use Rattle.model.proofs.bound.Statement.{statement}
 use Rattle.model.proofs.bound.Tie as tie
 

@@ -2,8 +2,9 @@
 use borrow.Author.Needs.{needs}
 use mathlib.Core.Path.{_≡_, refl, sym, _∙_}
 use Rattle.codes.specs.declared.Check.the-variants.{Pass, Refuse}
-use Rattle.model.specs.Calls.{checkModel, boundUpTo, boundIn}
-use Rattle.model.proofs.Passed.{ready}
+use Rattle.model_checks.specs.Checks.{checkModel}
+use Rattle.model.specs.Calls.{boundUpTo, boundIn}
+use Rattle.model_checks.proofs.Passed.{ready}
 use Rattle.model.proofs.bound_in.Statement.{statement}
 use Rattle.model.proofs.bound_in.Tie as tie
 

@@ -5,8 +5,9 @@ use lib.ListN.{length}
 use Rattle.codes.specs.declared.Check.the-variants.{Pass, Refuse}
 use Rattle.codes.specs.declared.Outcome.the-variants.{Value}
 use Rattle.residuals.specs.Inside.{Ready}
-use Rattle.model.specs.Calls.{checkCost, costAnswer}
-use Rattle.model.proofs.Passed.{ready, cost-model}
+use Rattle.model_checks.specs.Checks.{checkCost}
+use Rattle.model.specs.Calls.{costAnswer}
+use Rattle.model_checks.proofs.Passed.{ready, cost-model}
 use Rattle.model.proofs.cost.Statement.{statement}
 use Rattle.model.proofs.cost.Tie as tie
 

@@ -3,8 +3,9 @@ use borrow.Author.Needs.{needs}
 use native.Mathlib.Omega.{arith}
 use mathlib.Core.Path.{_≡_, refl, sym, _∙_}
 use Rattle.codes.specs.declared.Check.the-variants.{Pass, Refuse}
-use Rattle.model.specs.Calls.{checkModel, costUpTo, costIn}
-use Rattle.model.proofs.Passed.{ready}
+use Rattle.model_checks.specs.Checks.{checkModel}
+use Rattle.model.specs.Calls.{costUpTo, costIn}
+use Rattle.model_checks.proofs.Passed.{ready}
 use Rattle.model.proofs.cost_in.Statement.{statement}
 use Rattle.model.proofs.cost_in.Tie as tie
 

@@ -4,7 +4,7 @@ use mathlib.Core.List.{[], _∷_}
 use Rattle.codes.specs.declared.Check.{Check}
 use Rattle.codes.specs.Codes.{inOrder}
 use Rattle.boxes.specs.Boxes.{checkBox, checkStart}
-use Rattle.model.specs.Calls.{checkModel}
+use Rattle.model_checks.specs.Checks.{checkModel}
 use Rattle.search.proofs.Accepted.{stray-decides, first-refuses}
 use borrow.Author.Needs.{needs}
 use Rattle.search.proofs.check_job.Statement.{statement}

@@ -10,9 +10,9 @@ use Rattle.loss.specs.Loss.{checkLossFor}
 use Rattle.points.specs.Points.{checkStore}
 use Rattle.scale.specs.Scale.{checkScale}
 use Rattle.codes.proofs.Laws.{in-order-pairs}
-use Rattle.model.specs.Calls.{checkModel}
-use Rattle.model.proofs.check_model.Statement.{statement}
-use Rattle.model.proofs.check_model.Tie as tie
+use Rattle.model_checks.specs.Checks.{checkModel}
+use Rattle.model_checks.proofs.check_model.Statement.{statement}
+use Rattle.model_checks.proofs.check_model.Tie as tie
 
 check-store-requires : tie.Need-check-store-requires
 check-store-requires c κs = search needs

@@ -7,9 +7,9 @@ use Rattle.codes.proofs.Laws.{in-order-group}
 use Rattle.boxes.specs.Shape.{checkVector}
 use Rattle.loss.specs.Loss.{checkLoss}
 use Rattle.points.specs.Points.{pointsOf, checkStray}
-use Rattle.model.specs.Calls.{checkModel, checkThreshold}
-use Rattle.model.proofs.check_threshold.Statement.{statement}
-use Rattle.model.proofs.check_threshold.Tie as tie
+use Rattle.model_checks.specs.Checks.{checkModel, checkThreshold}
+use Rattle.model_checks.proofs.check_threshold.Statement.{statement}
+use Rattle.model_checks.proofs.check_threshold.Tie as tie
 
 check-model-requires : tie.Need-check-model-requires
 check-model-requires c κs = search needs

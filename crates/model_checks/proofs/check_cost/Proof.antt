@@ -6,9 +6,9 @@ use Rattle.codes.specs.Codes.{inOrder}
 use Rattle.codes.proofs.Laws.{in-order-group}
 use Rattle.boxes.specs.Shape.{checkVector}
 use Rattle.points.specs.Points.{pointsOf, checkStray}
-use Rattle.model.specs.Calls.{checkModel, checkCost}
-use Rattle.model.proofs.check_cost.Statement.{statement}
-use Rattle.model.proofs.check_cost.Tie as tie
+use Rattle.model_checks.specs.Checks.{checkModel, checkCost}
+use Rattle.model_checks.proofs.check_cost.Statement.{statement}
+use Rattle.model_checks.proofs.check_cost.Tie as tie
 
 check-model-requires : tie.Need-check-model-requires
 check-model-requires c κs = search needs

@@ -4,8 +4,8 @@ use mathlib.Core.Path.{refl, sym, _∙_}
 use Rattle.codes.specs.Codes.{inOrder}
 use Rattle.codes.proofs.Laws.{in-order-one}
 use Rattle.points.specs.Points.{pointsOf, checkStray}
-use Rattle.model.proofs.then_stray.Statement.{statement}
-use Rattle.model.proofs.then_stray.Tie as tie
+use Rattle.model_checks.proofs.then_stray.Statement.{statement}
+use Rattle.model_checks.proofs.then_stray.Tie as tie
 
 enum-told : tie.Need-enum-told
 enum-told c = search needs
