@@ -34,9 +34,10 @@ use Rattle.rows.specs.Rows.{rowCount}
 use Rattle.certificate.specs.Search as Search
 use Rattle.certificate.specs.Search.{solved, spent, full}
 use Rattle.certificate.proofs.Certified.{finished}
+use Rattle.search_checks.proofs.Passed.{Runs, runs-accepted}
 use Rattle.search.specs.declared.Answer.{Answer}
 use Rattle.search.specs.Search.{kindOf, kindNumber, told, searched, CertifiedIn, checkLent, searchedLent, searchAnswer}
-use Rattle.search.proofs.Accepted.{Runs, runs-accepted, certificate}
+use Rattle.search.proofs.Accepted.{certificate}
 use Rattle.job_records.specs.Laws.{IsJob}
 use Rattle.answer_records.specs.Answers.{checkAnswer}
 use Rattle.answer_records.specs.Laws.{IsAnswer}

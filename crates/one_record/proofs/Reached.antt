@@ -21,9 +21,10 @@ use Rattle.residuals.specs.Cost.{least, unlessGap, totalLoss, cost, bound}
 use Rattle.model_checks.specs.Checks.{checkModel}
 use Rattle.certificate.specs.Search.{ahead, lowerBound, firstSmallest, better, begin, split}
 use Rattle.certificate.specs.Search.{isSolved, answer, ifRoom, step, follow, run, search}
+use Rattle.search_checks.specs.Checks.{checkJob, checkSearch}
 use Rattle.search.specs.declared.Answer.{Answer}
 use Rattle.search.specs.declared.Kind.the-variants.{Solved}
-use Rattle.search.specs.Search.{searched, checkJob, checkSearch, searchAnswer}
+use Rattle.search.specs.Search.{searched, searchAnswer}
 use Rattle.one_record.specs.OneRecord.{cap}
 use Rattle.one_record.specs.Laws.{CapReached, AllReached}
 

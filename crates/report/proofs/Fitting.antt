@@ -26,8 +26,10 @@ use Rattle.job_records.specs.declared.JobRead.{JobRead}
 use Rattle.rows.specs.Rows.{rowCount, rowsOf}
 use Rattle.rows.proofs.Rows.{rows-front}
 use Rattle.certificate.specs.Search as Search
-use Rattle.search.proofs.Accepted.{rows-accepted, peak-accepted}
-use Rattle.search.specs.Search.{checkJob, checkSearch, TableAfter, checkLent, searchedLent, searchAnswer, TableSearched, BoundsSearched, Certified}
+use Rattle.search_checks.specs.Checks.{checkJob, checkSearch}
+use Rattle.search_checks.proofs.Passed.{rows-accepted}
+use Rattle.search.proofs.Accepted.{peak-accepted}
+use Rattle.search.specs.Search.{TableAfter, checkLent, searchedLent, searchAnswer, TableSearched, BoundsSearched, Certified}
 use Rattle.search.specs.declared.Answer.{Answer}
 use Rattle.text.specs.Line.{line, lineIn}
 use Rattle.report.specs.Inside.{Searched, numbersLent}

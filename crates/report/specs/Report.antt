@@ -14,7 +14,8 @@ use Rattle.codes.specs.declared.Refusal.{Refusal}
 use Rattle.residuals.specs.Cost.{bound}
 use Rattle.points.specs.Points.{pointsOf}
 use Rattle.job_records.specs.Jobs.{jobOf}
-use Rattle.search.specs.Search.{checkJob, searched, answerUnlessRefused, told, TableAfter, BoundsAfter, CertifiedIn}
+use Rattle.search_checks.specs.Checks.{checkJob}
+use Rattle.search.specs.Search.{searched, answerUnlessRefused, told, TableAfter, BoundsAfter, CertifiedIn}
 use Rattle.search.specs.declared.Answer.{Answer}
 use Rattle.text.specs.Line.{line, takesLines}
 

@@ -1,24 +1,21 @@
 -- What a search answers: "The search" over the points of a store, with the checks 1 to 8 and 14 before it. What it leaves in lent memory.
 use mathlib.Core.Path.{_≡_}
-use mathlib.Core.List.{List, [], _∷_, _++_, map}
-use Prim.Native.Nat.{ℕ, _*_, _/_}
-use lib.Dec.{leb}
+use mathlib.Core.List.{List, _++_, map}
+use Prim.Native.Nat.{ℕ, _*_}
 use lib.IntN.{ℤ, pos}
 use lib.ListN.{length, take, drop, replicate}
 use Rattle.codes.specs.declared.Check.{Check}
 use Rattle.codes.specs.declared.Check.the-variants.{Pass, Refuse}
 use Rattle.codes.specs.declared.Refusal.{Refusal}
-use Rattle.codes.specs.Codes.{passIf, inOrder}
 use Rattle.boxes.specs.declared.Box.{Box}
-use Rattle.boxes.specs.Boxes.{checkBox, checkStart}
 use Rattle.jobs.specs.declared.Job.{Job}
-use Rattle.points.specs.Points.{pointsOf, checkStray}
+use Rattle.points.specs.Points.{pointsOf}
 use Rattle.residuals.specs.Cost.{cost, bound}
-use Rattle.model_checks.specs.Checks.{checkModel}
 use Rattle.rows.specs.Rows.{rowCount, rowsOf}
 use Rattle.certificate.specs.Search as Search
 use Rattle.certificate.specs.Search.{solved, spent, full, search}
 use Rattle.certificate.specs.Certificate.{Certificate}
+use Rattle.search_checks.specs.Checks.{checkSearch}
 use Rattle.search.specs.declared.Kind.{Kind}
 use Rattle.search.specs.declared.Kind.the-variants.{Solved, Spent, Full, Refused}
 use Rattle.search.specs.declared.Answer.{Answer}
@@ -57,22 +54,6 @@ told r =
 -- at a refusal every value is 0
 abbrev pub refused : Refusal → Answer
 refused why = record { kind = Refused why; vector = replicate 8 (pos 0); cost = 0; bound = 0; count = 0; «open» = 0; peak = 0 }
-
--- checks 1 to 7, of a job and its store
-unfoldable pub checkJob : List ℕ → Job → Check
-checkJob store job =
-    let m = job .model in
-    inOrder
-    (checkModel store m
-    ∷ checkBox (m .n) (m .d) (job .domain)
-    ∷ checkStart (job .domain) (job .start)
-    ∷ checkStray (m .d) (pointsOf store)
-    ∷ [])
-
--- "A search and fit make 1 to 8"; 8: "fewer than 16 numbers". Document 02: "14, bounds, for fewer entries than rows, checked after 8".
-unfoldable pub checkSearch : List ℕ → Job → ℕ → ℕ → Check
-checkSearch store job numbers entries =
-    inOrder (checkJob store job ∷ passIf (leb 16 numbers) Refusal.Table ∷ passIf (leb (numbers / 16) entries) Refusal.Bounds ∷ [])
 
 -- "A search accepts a job when none of the checks that it makes, by the codes below, refuses the call."
 abbrev pub answerUnlessRefused : Check → Search.Answer → Answer

@@ -5,9 +5,10 @@ use native.Mathlib.Omega.{arith}
 use lib.ListN.{length}
 use Rattle.codes.specs.declared.Check.the-variants.{Pass}
 use Rattle.model.proofs.Passed.{decoded-for}
+use Rattle.search_checks.proofs.Passed.{Runs, runs-accepted, rows-accepted, entries-accepted}
 use Rattle.search.specs.Search.{checkLent}
 use Rattle.search.specs.Inside.{Evaluable}
-use Rattle.search.proofs.Accepted.{Runs, runs-accepted, rows-accepted, entries-accepted, promised-pass, promised-refused}
+use Rattle.search.proofs.Accepted.{promised-pass, promised-refused}
 use borrow.Author.Needs.{needs}
 use Rattle.search.proofs.search.Statement.{statement}
 use Rattle.search.proofs.search.Tie as tie

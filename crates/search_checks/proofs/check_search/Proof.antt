@@ -4,10 +4,10 @@ use mathlib.Core.List.{[], _∷_}
 use Rattle.codes.specs.declared.Check.{Check}
 use Rattle.codes.specs.Codes.{inOrder}
 use Rattle.codes.proofs.Laws.{in-order-group}
-use Rattle.search.specs.Search.{checkSearch}
+use Rattle.search_checks.specs.Checks.{checkSearch}
 use borrow.Author.Needs.{needs}
-use Rattle.search.proofs.check_search.Statement.{statement}
-use Rattle.search.proofs.check_search.Tie as tie
+use Rattle.search_checks.proofs.check_search.Statement.{statement}
+use Rattle.search_checks.proofs.check_search.Tie as tie
 
 check-job-requires : tie.Need-check-job-requires
 check-job-requires c κs = search needs

@@ -5,10 +5,10 @@ use Rattle.codes.specs.declared.Check.{Check}
 use Rattle.codes.specs.Codes.{inOrder}
 use Rattle.boxes.specs.Boxes.{checkBox, checkStart}
 use Rattle.model_checks.specs.Checks.{checkModel}
-use Rattle.search.proofs.Accepted.{stray-decides, first-refuses}
+use Rattle.search_checks.proofs.Passed.{stray-decides, first-refuses}
 use borrow.Author.Needs.{needs}
-use Rattle.search.proofs.check_job.Statement.{statement}
-use Rattle.search.proofs.check_job.Tie as tie
+use Rattle.search_checks.proofs.check_job.Statement.{statement}
+use Rattle.search_checks.proofs.check_job.Tie as tie
 
 check-box-requires : tie.Need-check-box-requires
 check-box-requires c κs = search needs
