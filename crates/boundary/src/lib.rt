@@ -1,4 +1,4 @@
-// What the calls for C have in common: a model and a job out of numbers and buffers, and an outcome handed over as a code and a lent number.
+// What the calls for C have in common: a model and a job out of numbers and buffers, and an outcome as a code and a lent number.
 use codes::Check;
 use codes::Outcome;
 use codes::Refusal;

@@ -22,7 +22,8 @@ fn over_few(
     l4: f64,
     h4: f64,
 )
-    ensures { λ _. ⌜ Lessened (now (least .entry)) (now (least .exit)) (overLine (now (s .entry)) l1 h1 l2 h2 l3 h3 l4 h4 (min (taken d) 2)) ⌝ }
+    ensures { λ _. ⌜ Lessened (now (least .entry)) (now (least .exit))
+        (overLine (now (s .entry)) l1 h1 l2 h2 l3 h3 l4 h4 (min (taken d) 2)) ⌝ }
 {
     known(*least);
     for i in 0..80 {

@@ -12,7 +12,8 @@ ghost use Rattle.scale.specs.Scale.{checkScale};
 ghost use Rattle.boxes.specs.Shape.{checkVector};
 ghost use Rattle.coefficients.specs.Coefficient.{coefficientOf};
 ghost use Rattle.coefficients.specs.Grid.{coordinateOf, onGrid};
-ghost use Rattle.coefficients.specs.Lines.{checkUsed, lineOf, notWritten, writtenIf, writtenOf, checkGrid, notRead, coordinatesIf, coordinatesOf, patternsOf};
+ghost use Rattle.coefficients.specs.Lines.{checkUsed, lineOf, notWritten, writtenIf, writtenOf};
+ghost use Rattle.coefficients.specs.Lines.{checkGrid, notRead, coordinatesIf, coordinatesOf, patternsOf};
 
 // The four coefficients of a line, handed over together.
 pub struct Line {

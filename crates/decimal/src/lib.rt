@@ -49,7 +49,8 @@ fn put_decimal(out: &mut [u8], at: usize, n: u64) -> usize
 
 // A number behind its name. A number has 20 digits at most.
 pub fn put_field(out: &mut [u8], at: usize, name: &[u8], n: u64) -> usize
-    ensures put { λ r. ⌜ PutIfRoom (length (now (name .entry)) + 20) (now (out .entry)) at (now (name .entry) ++ decimal n) r (now (out .exit)) ⌝ }
+    ensures put { λ r. ⌜
+        PutIfRoom (length (now (name .entry)) + 20) (now (out .entry)) at (now (name .entry) ++ decimal n) r (now (out .exit)) ⌝ }
     ensures short { λ r. ⌜ r ≤ at + (length (now (name .entry)) + 20) ⌝ }
 {
     let free = room(out.len(), at);

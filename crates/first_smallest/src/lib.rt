@@ -21,8 +21,8 @@ pub struct Lowest {
     pub front: Front,
 }
 
-// That none of the 32 entries from `from` on is smaller than `low`, if it is so told. What a smaller one leaves has its highest bit set: what
-// all leave is put together, two to a register, and one test is made.
+// That none of the 32 entries from `from` on is smaller than `low`, if it is so told. What a smaller one leaves has its highest bit set:
+// what all leave is put together, two to a register, and one test is made.
 fn none_of_32(bounds: &[u64], from: usize, low: u64) -> bool
     requires { ⌜ (from + 32 ≤ length (now bounds)) × (low ≤ 9223372036854775808) ⌝ }
     ensures { λ r. ⌜ (r ≡ true → NoneBelow (now (bounds .entry)) from (from + 32) low) ⌝ }

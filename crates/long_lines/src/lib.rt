@@ -97,7 +97,8 @@ pub fn over_long(
     l4: f64,
     h4: f64,
 )
-    ensures { λ _. ⌜ Lessened (now (least .entry)) (now (least .exit)) (overLine (now (s .entry)) l1 h1 l2 h2 l3 h3 l4 h4 (max (taken d) 3)) ⌝ }
+    ensures { λ _. ⌜ Lessened (now (least .entry)) (now (least .exit))
+        (overLine (now (s .entry)) l1 h1 l2 h2 l3 h3 l4 h4 (max (taken d) 3)) ⌝ }
 {
     if d <= 3 {
         over_three(least, s, l1, h1, l2, h2, l3, h3, l4, h4);

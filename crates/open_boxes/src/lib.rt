@@ -198,9 +198,11 @@ fn added(child: Child) -> usize
 pub fn put(table: &mut [i16], bounds: &mut [u64], n: usize, child: Child) -> usize
     ensures told { λ r. ⌜ r ≡ n + cond (fits (now (table .entry)) (now (bounds .entry)) n child) 1 0 ⌝ }
     ensures table { λ _. ⌜ now (table .exit)
-        ≡ cond (fits (now (table .entry)) (now (bounds .entry)) n child) (withRow (now (table .entry)) n (child .half)) (now (table .entry)) ⌝ }
+        ≡ cond (fits (now (table .entry)) (now (bounds .entry)) n child)
+        (withRow (now (table .entry)) n (child .half)) (now (table .entry)) ⌝ }
     ensures bounds { λ _. ⌜ now (bounds .exit)
-        ≡ cond (fits (now (table .entry)) (now (bounds .entry)) n child) (set (now (bounds .entry)) n (child .bound)) (now (bounds .entry)) ⌝ }
+        ≡ cond (fits (now (table .entry)) (now (bounds .entry)) n child)
+        (set (now (bounds .entry)) n (child .bound)) (now (bounds .entry)) ⌝ }
 {
     let room = smaller(table.len() / 16, bounds.len());
     if child.kept {

@@ -11,7 +11,6 @@ use lanes::Chunk;
 use lanes::Lanes;
 use search_checks::check_search;
 ghost use mathlib.Core.Path.{_≡_};
-ghost use Rattle.codes.specs.declared.Refusal.{Refusal};
 ghost use Rattle.search.specs.Search.{refused, searchAnswer, TableSearched, BoundsSearched, Certified};
 
 // What a search comes to.

@@ -11,14 +11,14 @@ use whole::larger;
 ghost use mathlib.Core.Path.{_≡_};
 ghost use Prim.Native.Nat.{_+_, _-_, _≤_, _<_};
 
-// How many cuts are guessed. After them the interval is halved, so that no sizes take long.
+// How many cuts are guessed, a count that is handed on taken for the first. After them the interval is halved, so that no sizes take long.
 const CUTS: u64 = 10;
 // No count, and no number to cut at.
 const NONE: u64 = 18446744073709551615;
 
-// What is known between counts. So many cuts may still be guessed, and `next` is planned; `count` is the last count, `under` the last above q
-// and `over` the last other: those at the ends of the interval. `guess` was found in tops, where the next is looked for if at most `near`
-// sizes lie between it and the upper end.
+// What is known between counts. So many cuts may still be guessed, and `next` is planned; `count` is the last count, `under` the last above
+// q and `over` the last other: those at the ends of the interval. `guess` was found in tops, where the next is looked for if at most
+// `near` sizes lie between it and the upper end.
 pub struct Trail {
     pub left: u64,
     pub next: u64,
@@ -75,7 +75,7 @@ fn before(a: f64, x: f64) -> f64 {
     if x < a { x } else { 0.0 }
 }
 
-// The largest of a chunk that is below a. There are two side by side, which the compiler keeps in one register.
+// The largest of a chunk that is below a: of even and of odd lanes apart, which the compiler keeps in one register.
 fn largest_before(sizes: &Lanes, a: f64) -> f64 {
     known(*sizes);
     let mut even: f64 = 0.0;
@@ -87,7 +87,7 @@ fn largest_before(sizes: &Lanes, a: f64) -> f64 {
     larger(even, odd)
 }
 
-// The one that so many of a chunk exceed, from the largest down.
+// The largest of a chunk that at most so many exceed, found from the top down: quick where few are skipped.
 fn largest_but(sizes: &Lanes, skipped: u32) -> u64 {
     let mut found = largest_before(sizes, LIMIT as f64);
     for _ in 0..skipped {
@@ -110,7 +110,7 @@ fn below(sizes: &[Lanes], high: u64, skipped: u32) -> u64 {
     bisection::bisected(&found[..1], skipped - skipped / 4, high)
 }
 
-// The first cut: by a sample, or by the tops if few are larger.
+// The first cut: by a sample, or by the tops if few are larger. Fewer chunks never come here: their number is asked for the slice's sake.
 fn first(sizes: &[Lanes], q: u32, high: u64) -> u64 {
     if 64 <= q {
         if FEW <= sizes.len() {
