@@ -1,4 +1,4 @@
-// The evaluations of a search alone, for bench/: what it asks again and again of a store that it decoded once.
+// A cost and a bound over a store that was decoded once, for bench/.
 use lanes::Chunk;
 ghost use mathlib.Core.Path.{_≡_};
 ghost use Prim.Native.Nat.{_^_, _%_};

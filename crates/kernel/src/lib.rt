@@ -40,7 +40,7 @@ fn place(j: u8, d: u8) -> usize
     if b < 8 { b as usize } else { 8 }
 }
 
-// The line whose coordinates begin at place b.
+// Each lane becomes the smaller of itself and the size of its point under the line whose coordinates begin at place b.
 fn lessen(
     least: &mut Lanes,
     s: &Chunk,
@@ -51,7 +51,8 @@ fn lessen(
     over: bool,
 )
     requires { ⌜ b < 9 ⌝ }
-    ensures { λ _. ⌜ Lessened (now (least .entry)) (now (least .exit)) (sizeBy over (now (s .entry)) (now (low .entry)) (now (high .entry)) d b) ⌝ }
+    ensures { λ _. ⌜ Lessened (now (least .entry)) (now (least .exit))
+        (sizeBy over (now (s .entry)) (now (low .entry)) (now (high .entry)) d b) ⌝ }
 {
     if over {
         box_sizes::over_line(
@@ -72,7 +73,23 @@ fn lessen(
     }
 }
 
-// Each lane becomes the least of itself and the sizes of its point under the n lines.
+// The same under line j.
+pub fn lessen_line(
+    least: &mut Lanes,
+    s: &Chunk,
+    low: &Coordinates,
+    high: &Coordinates,
+    j: u8,
+    d: u8,
+    over: bool,
+)
+    ensures { λ _. ⌜ Lessened (now (least .entry)) (now (least .exit))
+        (sizeBy over (now (s .entry)) (now (low .entry)) (now (high .entry)) d (min (j * d) 8)) ⌝ }
+{
+    lessen(least, s, low, high, d as usize, place(j, d), over);
+}
+
+// And under all n lines.
 pub fn lessen_all(
     least: &mut Lanes,
     s: &Chunk,
@@ -85,19 +102,18 @@ pub fn lessen_all(
     ensures { λ _. ⌜ LeastOf over (now (s .entry)) (now (low .entry)) (now (high .entry)) d n (now (least .entry)) (now (least .exit)) ⌝ }
 {
     for j in 0..n {
-        lessen(least, s, low, high, d as usize, place(j, d), over);
+        lessen_line(least, s, low, high, j, d, over);
     }
 }
 
 // What a least size starts from: a size past ε costs no more than ε + 1.
-fn past(eps: u32) -> f64
+pub fn past(eps: u32) -> f64
     ensures { λ r. ⌜ r ≡ ofInt binary64 (pos (eps + 1)) ⌝ }
 {
     (eps as u64 + 1) as f64
 }
 
-// The losses of a chunk's points, added up by groups: under the vector `low`, or over the box from `low` to `high`. The sizes lie in an
-// array of this function, so that the compiler knows that no column shares its memory.
+// The losses of a chunk's points, added up by groups: under the vector `low`, or over the box from `low` to `high`.
 pub fn group_losses(
     s: &Chunk,
     low: &Coordinates,
@@ -114,13 +130,13 @@ pub fn group_losses(
     losses::group_sums(&sizes)
 }
 
-// And then the groups.
+// All of them added up; not by `group_losses`, since a call of it takes a twentieth of the time with one line.
 pub fn chunk_loss(s: &Chunk, low: &Coordinates, high: &Coordinates, m: Model, over: bool) -> u64
     ensures value { λ r. ⌜ r ≡ chunkLoss over (now (s .entry)) (now (low .entry)) (now (high .entry)) m ⌝ }
     ensures small { λ r. ⌜ r < 36028797018963968 ⌝ }
 {
-    let sums = group_losses(s, low, high, m, over);
-    let first = sums[0] + sums[1];
-    let last = sums[2] + sums[3];
-    first + last
+    let most = past(m.eps);
+    let mut least: Lanes = [most; 80];
+    lessen_all(&mut least, s, low, high, m.n, m.d, over);
+    losses::total(&mut least, m.p, m.eps)
 }

@@ -104,6 +104,10 @@ module _ (y z : ℕ → Float) (same : (k : ℕ) → k < 80 → y k ≡ z k) whe
       let last = ap (λ (n : ℕ). n ∷ []) (group-same 60 (omega arith)) in
       ap₂ _∷_ (group-same 0 (omega arith)) (ap₂ _∷_ (group-same 20 (omega arith)) (ap₂ _∷_ (group-same 40 (omega arith)) last))
 
+  pub chunk-same : chunkSum y ≡ chunkSum z
+  unfolding chunkSum
+  chunk-same = omega (arith, group-same 0 (omega arith), group-same 20 (omega arith), group-same 40 (omega arith), group-same 60 (omega arith))
+
 -- ---- whatever the numbers are, a group's sum fits 53 bits, and the four make the chunk's
 group-small : (z : ℕ → Float) (o : ℕ) → groupSum z o < 9007199254740992
 unfolding groupSum

@@ -10,7 +10,7 @@ ghost use lib.IntN.{pos};
 ghost use lib.Ieee.{binary64, mul, lt, ofInt};
 ghost use Rattle.whole.specs.Whole.{smallerOf, zeroth, oneth};
 ghost use Rattle.lanes.specs.Lanes.{lane};
-ghost use Rattle.losses.specs.Losses.{lossIn, groupSum, groupSums};
+ghost use Rattle.losses.specs.Losses.{lossIn, groupSum, groupSums, chunkSum};
 
 fn over(eps: f64, size: f64) -> f64
     ensures { λ r. ⌜ r ≡ cond (lt eps size) oneth zeroth ⌝ }
@@ -74,4 +74,18 @@ pub fn group_sums(losses: &Lanes) -> [u64; 4]
         group_sum(losses, 40),
         group_sum(losses, 60),
     ]
+}
+
+// The sum of a chunk's losses, by groups and then of the groups; each size becomes its loss.
+pub fn total(sizes: &mut Lanes, p: u8, eps: u32) -> u64
+    ensures lanes { λ _. ⌜ ((k : ℕ) → k < 80 →
+        lane (now (sizes .exit)) k ≡ lossIn p (ofInt binary64 (pos eps)) (lane (now (sizes .entry)) k)) ⌝ }
+    ensures value { λ r. ⌜ r ≡ chunkSum (λ k. lossIn p (ofInt binary64 (pos eps)) (lane (now (sizes .entry)) k)) ⌝ }
+    ensures small { λ r. ⌜ r < 36028797018963968 ⌝ }
+{
+    lose(sizes, p, eps);
+    let sums = group_sums(sizes);
+    let first = sums[0] + sums[1];
+    let last = sums[2] + sums[3];
+    first + last
 }

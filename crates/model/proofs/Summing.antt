@@ -1,23 +1,20 @@
 -- The losses of chunks add up to the store's. Assumes nothing.
-use mathlib.Core.Path.{_≡_, refl, ap, ap₂, _∙_, subst}
+use mathlib.Core.Path.{_≡_, ap₂, _∙_, subst}
 use mathlib.Core.Bool.{Bool, true, false}
 use mathlib.Core.List.{List, []}
-use Prim.Native.Nat.{ℕ, zero, suc, _+_, _*_, _-_, _/_, _^_, _≤_, min}
-use native.Mathlib.Nat.{add-suc, add-zero}
-use native.Mathlib.Omega.{arith}
+use Prim.Native.Nat.{ℕ, _+_, _*_, _-_, _/_, _^_, min}
 use lib.IntN.{ℤ}
 use lib.ListN.{length, getD}
 use lib.Ieee.{Float}
 use Rattle.jobs.specs.declared.Model.{Model}
 use Rattle.residuals.specs.Inside.{Ready, boxOf, sumOf}
-use Rattle.residuals.proofs.Sums.{threshold-small, Summed, all-total}
-use Rattle.columns.specs.Columns.{nowhere, slot, chunks, decodedChunks, ChunkOf}
+use Rattle.residuals.proofs.Sums.{threshold-small, Summed}
+use Rattle.columns.specs.Columns.{nowhere, slot, decodedChunks, ChunkOf}
 use Rattle.slots.proofs.Empty.{empty-slot}
-use Rattle.slots.proofs.Summing.{slotLoss, chunk-summed, none-yet}
+use Rattle.slots.proofs.Summing.{slotLoss, chunk-summed, none-yet, store-summed}
 use Rattle.kernel.specs.Kernel.{doubles, Doubles, chunkLoss}
 use Rattle.kernel.proofs.Exact.{size-in, least-in, loss-in}
 use Rattle.model.specs.Inside.{sizesBy, SumIn}
-use Rattle.model.specs.Calls.{DecodedFor}
 
 -- an empty slot has no size
 pub nothing : (over : Bool) (m : Model) (low high : List ℤ) (j : ℕ) → sizesBy over m low high nowhere j ≡ 0
@@ -52,34 +49,17 @@ module _ {bytes : ℕ} {m : Model} (ready : Ready bytes m) (store : List ℕ) (l
 abbrev pub lossAt : Bool → List (List (List Float)) → Model → List Float → List Float → ℕ → ℕ
 lossAt over lanes m from to t = chunkLoss over (getD lanes t []) from to m
 
-more : (f : ℕ → ℕ) (i k : ℕ) → sumOf f i ≤ sumOf f (i + k)
-unfolding sumOf
-more f i zero = rw add-zero (omega arith)
-more f i (suc k) = rw add-suc (omega (arith, more f i k))
-
--- where the cap is reached the chunks behind do not matter
-pub cap-stays : (f : ℕ → ℕ) (i n cap : ℕ) → i ≤ n → cap ≤ sumOf f i → cap ≡ min (sumOf f n) cap
-cap-stays f i n cap h l = let e : n ≡ i + (n - i) = omega arith in omega (arith, more f i (n - i), ap (sumOf f) e)
-
 module _ {m : Model} (store : List ℕ) (ready : Ready (length store) m) (low high : List ℤ) (lanes : List (List (List Float)))
     (from to : List Float) (from-is : from ≡ doubles low) (to-is : to ≡ doubles high) (lows : Doubles low from) (highs : Doubles high to)
     (over : Bool) where
-  through : DecodedFor store m lanes → (n : ℕ) → n ≤ chunks store → Through over m store low high n (sumOf (lossAt over lanes m from to) n)
-  unfolding sumOf
-  through decoded zero h = none-through over m store low high
-  through decoded (suc n) h =
-      let e : n + 1 ≡ suc n = omega arith in
-      subst (λ (k : ℕ). Through over m store low high k (sumOf (lossAt over lanes m from to) (suc n))) e
-      (one-through ready store low high from to lows highs over refl (decoded .chunk n (omega arith)) refl (through decoded n (omega arith)))
-
   -- a sum of the chunks' losses, by the lanes and by the points
   pub sum-in : (cap r : ℕ) → r ≡ min (sumOf (lossAt over lanes m from to) (decodedChunks store lanes)) cap → SumIn over store lanes m low high cap r
   sum-in cap r e =
-      let few = ready .few in
       let n = decodedChunks store lanes in
       record {
         by-lanes = e ∙ ap₂ (λ (u : List Float) (w : List Float). min (sumOf (lossAt over lanes m u w) n) cap) from-is to-is;
         by-points = λ decoded.
-            e ∙ ap (λ (k : ℕ). min (sumOf (lossAt over lanes m from to) k) cap) (decoded .all)
-            ∙ ap (λ (k : ℕ). min k cap) (all-total m (sizesBy over m low high) store (through decoded (chunks store) (omega arith)) (omega arith));
+            store-summed m (sizesBy over m low high) store (ready .lines) (threshold-small (m .p) (m .eps) (ready .cut))
+            (nothing over m low high) (lossAt over lanes m from to)
+            (λ t h. losses-of ready store low high from to lows highs over (decoded .chunk t h)) n cap r (decoded .all) e;
       }

@@ -7,3 +7,4 @@ pub mod Bounds
 pub mod Ranks
 pub mod Frames
 pub mod Limit
+pub mod Lines

@@ -1,7 +1,8 @@
 -- Sums, and of losses over the first points of a store: one more, their size, and all of them. Assumes nothing.
 use mathlib.Core.Path.{_≡_, refl, ap, _∙_}
 use mathlib.Core.List.{List, [], _∷_, _++_}
-use Prim.Native.Nat.{ℕ, zero, suc, _+_, _*_, _/_, _≤_, _<_}
+use Prim.Native.Nat.{ℕ, zero, suc, _+_, _*_, _-_, _/_, _≤_, _<_, min}
+use native.Mathlib.Nat.{add-suc, add-zero}
 use native.Mathlib.Numerals.{add-one}
 use native.Mathlib.Omega.{arith}
 use lib.Dec.{ltb}
@@ -25,6 +26,15 @@ pub sum-same : (f g : ℕ → ℕ) (n : ℕ) → ((k : ℕ) → k < n → f k �
 unfolding sumOf
 sum-same f g zero h = refl
 sum-same f g (suc n) h = omega (arith, sum-same f g n (λ k p. h k (omega arith)), h n (omega arith))
+
+sum-rises : (f : ℕ → ℕ) (i k : ℕ) → sumOf f i ≤ sumOf f (i + k)
+unfolding sumOf
+sum-rises f i zero = rw add-zero (omega arith)
+sum-rises f i (suc k) = rw add-suc (omega (arith, sum-rises f i k))
+
+-- where a cap is reached what is behind does not matter
+pub cap-stays : (f : ℕ → ℕ) (i n cap : ℕ) → i ≤ n → cap ≤ sumOf f i → cap ≡ min (sumOf f n) cap
+cap-stays f i n cap h l = let e : n ≡ i + (n - i) = omega arith in omega (arith, sum-rises f i (n - i), ap (sumOf f) e)
 
 -- no loss exceeds 16,777,215²
 abbrev pub LossSmall : ℕ → ℕ → Type 0

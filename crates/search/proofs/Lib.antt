@@ -2,6 +2,7 @@ pub mod Accepted
 pub mod Cutting
 pub mod Taking
 pub mod UpTo
+pub mod Halves
 pub mod Keeping
 pub mod Lowest
 pub mod Beginning

@@ -1,5 +1,5 @@
 -- Costs and bounds that are found only as far as a cap, under a model that was checked. Assumes nothing.
-use mathlib.Core.Bool.{Bool, true, false}
+use mathlib.Core.Bool.{true, false}
 use mathlib.Core.Path.{_≡_, refl, sym, _∙_}
 use mathlib.Core.List.{List}
 use Prim.Native.Nat.{ℕ, _<_, min}
@@ -17,7 +17,7 @@ use Rattle.certificate.specs.Search.{ahead, better}
 use Rattle.certificate.proofs.Ahead.{ahead-capped, ahead-le}
 use Rattle.open_boxes.specs.declared.Mark.{Mark}
 use Rattle.search.specs.declared.branch.Best.{Best}
-use Rattle.search.specs.Inside.{keptBy, Tested, bestOf}
+use Rattle.search.specs.Inside.{keptBy, childOf, Tested, bestOf}
 
 -- a number x that was found as far as a cap above c decides as the whole one does, and is the whole one where it is ahead
 module _ (tol c : ℕ) (best : List ℤ) (y : ℕ) (v : List ℤ) (x cap : ℕ) (found : x ≡ min y cap) (far : c < cap) where
@@ -48,16 +48,13 @@ module _ (store : List ℕ) (m : Model) (ok : checkModel store m ≡ Pass) where
   unfolding boundUpTo
   bound-up-to b cap = rw ok
 
-  -- a box whose bound x was found as far as a cap above the cost, and the outcome k of its test
-  pub found-tested :
-      (b : Box) (mark : Mark) (x cap : ℕ) (k : Bool) → x ≡ boundUpTo store m b cap → mark .cost < cap →
-      k ≡ ahead (mark .t) (mark .cost) (mark .best) x (b .low) →
-      Tested (bound m (pointsOf store)) (keptBy (bound m (pointsOf store)) mark) b (record { half = b; bound = x; kept = k })
-  found-tested b mark x cap k f far e =
-      let is = f ∙ bound-up-to b cap in
-      let whole = bound m (pointsOf store) b in
-      record {
-        half = refl;
-        decided = e ∙ same-test (mark .t) (mark .cost) (mark .best) whole (b .low) x cap is far;
-        exact = λ h. whole-ahead (mark .t) (mark .cost) (mark .best) whole (b .low) x cap is far (sym e ∙ h);
-      }
+-- a box whose bound x was found as far as a cap above the cost
+pub found-tested :
+    (bound : Box → ℕ) (b : Box) (mark : Mark) (x cap : ℕ) → x ≡ min (bound b) cap → mark .cost < cap →
+    Tested bound (keptBy bound mark) b (childOf b x mark)
+found-tested bound b mark x cap is far =
+    record {
+      half = refl;
+      decided = same-test (mark .t) (mark .cost) (mark .best) (bound b) (b .low) x cap is far;
+      exact = whole-ahead (mark .t) (mark .cost) (mark .best) (bound b) (b .low) x cap is far;
+    }

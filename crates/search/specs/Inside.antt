@@ -48,6 +48,10 @@ pub record Tested (bound : Box → ℕ) (keep : Box → Bool) (b : Box) (child :
   pub decided : child .kept ≡ keep b
   pub exact : child .kept ≡ true → child .bound ≡ bound b
 
+-- a box beside a number x for its bound, and whether that is kept
+abbrev pub childOf : Box → ℕ → Mark → Child
+childOf b x mark = record { half = b; bound = x; kept = ahead (mark .t) (mark .cost) (mark .best) x (b .low) }
+
 -- a box that was tested beside an earlier best vector, tested beside the one in mark by the number that was found
 abbrev pub testedAgain : Mark → Child → Child
 testedAgain mark child =

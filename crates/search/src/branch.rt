@@ -10,15 +10,23 @@ ghost use mathlib.Core.Path.{_≡_};
 ghost use mathlib.Core.Bool.{false, not};
 ghost use Prim.Native.Nat.{_≤_, _<_, max};
 ghost use Rattle.boxes.specs.Boxes.{volume};
+ghost use Rattle.boxes.specs.Split.{leftHalf, rightHalf};
 ghost use Rattle.points.specs.Points.{pointsOf};
 ghost use Rattle.residuals.specs.Cost.{bound, cost};
 ghost use Rattle.certificate.specs.Search.{ahead, better};
-ghost use Rattle.search.specs.Inside.{Evaluable, bestOf, NextFits, markOf, keptBy, testedAgain, Tested, Cut, Steppable, StepOutcome};
+ghost use Rattle.search.specs.Inside.{Evaluable, bestOf, NextFits, markOf, keptBy, childOf, testedAgain, Tested, Cut};
+ghost use Rattle.search.specs.Inside.{Steppable, StepOutcome};
 
 // The best vector and its cost, C.
 pub struct Best {
     pub vector: [i16; 8],
     pub cost: u64,
+}
+
+// The tested halves of a box.
+pub struct Children {
+    pub left: Child,
+    pub right: Child,
 }
 
 // What a box that is cut leaves.
@@ -79,18 +87,63 @@ fn tried_if(
     }
 }
 
+// A box with what was found of its bound, and whether it is kept.
+fn child_of(half: Box, bound: u64, mark: Mark) -> Child
+    ensures { λ r. ⌜ r ≡ childOf half bound mark ⌝ }
+{
+    let low = half.low;
+    Child {
+        half,
+        bound,
+        kept: ahead(mark, bound, low),
+    }
+}
+
 // Whether a box is kept, with its bound, which is summed until it is above the cost: up to that it is the whole bound.
 pub fn tested(store: &[u8], lanes: &[Chunk], m: Model, half: Box, mark: Mark) -> Child
     requires { ⌜ Evaluable (now store) (now lanes) m × (mark .cost < 18446744073709551615) ⌝ }
     ensures { λ r. ⌜
         Tested (bound m (pointsOf (now (store .entry)))) (keptBy (bound m (pointsOf (now (store .entry)))) mark) half r ⌝ }
 {
-    let low = half.low;
-    let bound = model::bound_in(store, lanes, m, half, mark.cost + 1);
-    Child {
+    child_of(
         half,
-        bound,
-        kept: ahead(mark, bound, low),
+        model::bound_in(store, lanes, m, half, mark.cost + 1),
+        mark,
+    )
+}
+
+// Both halves of b, each tested. They have every line in common but that of the side that is cut; so, with other lines and a p whose bounds
+// are sums, both bounds are found side by side. Of a box whose unused coordinates are 0 the line is one of the n: that test is for the
+// proof's sake.
+fn tested_both(
+    store: &[u8],
+    lanes: &[Chunk],
+    m: Model,
+    b: Box,
+    left: Box,
+    right: Box,
+    mark: Mark,
+) -> Children
+    requires { ⌜
+        Evaluable (now store) (now lanes) m × (mark .cost < 18446744073709551615) × (left ≡ leftHalf b) × (right ≡ rightHalf b) ⌝ }
+    ensures left { λ r. ⌜
+        Tested (bound m (pointsOf (now (store .entry)))) (keptBy (bound m (pointsOf (now (store .entry)))) mark) left (r .left) ⌝ }
+    ensures right { λ r. ⌜
+        Tested (bound m (pointsOf (now (store .entry)))) (keptBy (bound m (pointsOf (now (store .entry)))) mark) right (r .right) ⌝ }
+{
+    let low = b.low;
+    let high = b.high;
+    let line = boxes::longest(low, high) / (m.d as usize);
+    if m.p < 3 && 1 < m.n && line < (m.n as usize) {
+        let sums = halves::sums_up_to(store, lanes, m, left, right, line as u8, mark.cost + 1);
+        return Children {
+            left: child_of(left, sums.left, mark),
+            right: child_of(right, sums.right, mark),
+        };
+    }
+    Children {
+        left: tested(store, lanes, m, left, mark),
+        right: tested(store, lanes, m, right, mark),
     }
 }
 
@@ -119,19 +172,20 @@ fn cut_box(
     given: bool,
 ) -> Branches
     requires { ⌜
-        Evaluable (now store) (now lanes) m × (best ≡ bestOf (cost m (pointsOf (now store))) (best .vector)) × NextFits best × (2 ≤ volume b)
-        × (given ≡ false → better (cost m (pointsOf (now store))) t (best .vector) (b .low) ≡ best .vector) ⌝ }
+        Evaluable (now store) (now lanes) m × (best ≡ bestOf (cost m (pointsOf (now store))) (best .vector)) × NextFits best
+        × (2 ≤ volume b) × (given ≡ false → better (cost m (pointsOf (now store))) t (best .vector) (b .low) ≡ best .vector) ⌝ }
     ensures { λ r. ⌜
         Cut (cost m (pointsOf (now (store .entry)))) (bound m (pointsOf (now (store .entry)))) t b (best .vector) r ⌝ }
 {
-    let halves = boxes::cut(b);
-    let left = halves.left;
-    let right = halves.right;
+    let cut = boxes::cut(b);
+    let left = cut.left;
+    let right = cut.right;
     let left_low = left.low;
     let right_low = right.low;
     let before = mark_of(t, best);
-    let first = tested(store, lanes, m, left, before);
-    let second = tested(store, lanes, m, right, before);
+    let both = tested_both(store, lanes, m, b, left, right, before);
+    let first = both.left;
+    let second = both.right;
     let one = tried_if(store, lanes, m, t, best, left_low, given);
     let new = tried_if(store, lanes, m, t, one, right_low, second.kept);
     let mark = mark_of(t, new);

@@ -1,13 +1,11 @@
 -- The three steps, lane by lane.
-use mathlib.Core.Path.{_≡_, ap, _∙_}
-use Prim.Native.Nat.{ℕ, _+_, _<_}
+use mathlib.Core.Path.{ap, _∙_}
 use lib.IntN.{pos}
-use lib.ListN.{replicate, getD-replicate}
-use lib.Ieee.{Float, nan, binary64, ofInt}
-use Rattle.lanes.specs.Lanes.{lane}
+use lib.Ieee.{binary64, ofInt}
 use Rattle.losses.specs.Losses.{lossIn}
 use Rattle.losses.proofs.Exact.{groups-same}
-use Rattle.kernel.specs.Kernel.{leastBy, groupLosses}
+use Rattle.kernel.specs.Kernel.{groupLosses}
+use Rattle.kernel.proofs.Starting.{lessened-from}
 use borrow.Author.Needs.{needs}
 use Rattle.kernel.proofs.group_losses.Statement.{statement}
 use Rattle.kernel.proofs.group_losses.Tie as tie
@@ -38,12 +36,10 @@ returns c =
     let start = c .before .before .before .before .before .before in
     let a = start .before .args in
     let m = a .m in
-    let least : Float → ℕ → Float = λ x k. leastBy (a .over) (a .s .now) (a .low .now) (a .high .now) (m .d) x (m .n) k in
-    let loss : Float → Float = lossIn (m .p) (ofInt binary64 (pos (m .eps))) in
-    let past : (k : ℕ) → k < 80 → lane (replicate 80 (start .past .result)) k ≡ ofInt binary64 (pos (m .eps + 1)) =
-    λ k h. getD-replicate 80 k (start .past .result) nan h ∙ start .past .ensures in
-    c .group-sums .ensures
-    ∙ groups-same _ _ (λ k h. lose .ensures k h ∙ ap loss (lessen .ensures k h ∙ ap (λ (x : Float). least x k) (past k h)))
+    let sizes =
+    lessened-from (a .over) (a .s .now) (a .low .now) (a .high .now) (m .d) (m .n) (lessen .last .0) (start .past .ensures)
+    (lessen .ensures) in
+    c .group-sums .ensures ∙ groups-same _ _ (λ k h. lose .ensures k h ∙ ap (lossIn (m .p) (ofInt binary64 (pos (m .eps)))) (sizes k h))
 
 pub group-losses-spec : {M : Type 1} → statement M
 group-losses-spec =

@@ -1,6 +1,6 @@
 -- The loop's invariant: each lane is the least of what it was and of the sizes under the lines before j. The measure is what is left of the lines.
-use mathlib.Core.Path.{_≡_, refl, ap, ap₂, _∙_}
-use Prim.Native.Nat.{ℕ, _-_, _≤_, _<_}
+use mathlib.Core.Path.{_≡_, refl, ap, _∙_}
+use Prim.Native.Nat.{ℕ, _*_, _-_, _≤_, _<_, min}
 use native.Mathlib.Numerals.{add-one}
 use native.Mathlib.Omega.{arith}
 use lib.Ieee.{Float}
@@ -12,8 +12,7 @@ use Rattle.kernel.proofs.lessen_all.Statement.{statement}
 use Rattle.kernel.proofs.lessen_all.Tie as tie
 use Rattle.kernel.proofs.lessen_all.Reads as reads
 use Rattle.kernel.proofs.lessen_all.Lts as lts
-use Rattle.kernel.proofs.lessen.Reads as lessen-reads
-use Rattle.kernel.proofs.place.Reads as place-reads
+use Rattle.kernel.proofs.lessen_line.Reads as lessen-line-reads
 
 abbrev Inv-loop : tie.InvT-loop
 Inv-loop least₀ s low high n d over j₀ least j =
@@ -26,11 +25,8 @@ loop-holds : tie.Need-loop-holds Inv-loop μ-loop
 unfolding leastBy
 loop-holds c = (omega arith, λ k h. refl)
 
-place-requires : tie.Need-place-requires Inv-loop μ-loop
-place-requires c κs = search needs
-
-lessen-requires : tie.Need-lessen-requires Inv-loop μ-loop
-lessen-requires c κs = search needs
+lessen-line-requires : tie.Need-lessen-line-requires Inv-loop μ-loop
+lessen-line-requires c κs = search needs
 
 add-j : tie.Need-add-j Inv-loop μ-loop
 add-j c = search needs
@@ -41,12 +37,11 @@ loop-less c = search needs
 loop-again : tie.Need-loop-again Inv-loop μ-loop
 unfolding leastBy
 loop-again c =
-    let p = c .before .before .before .before in
+    let p = c .before .before .before in
     let a = p .before .args in
-    let size = sizeBy (a .over) (a .s .now) (a .low .now) (a .high .now) (a .d) in (
-      omega (arith, c .before .before .before .loop-test .taken),
-      λ k h.
-          rw (add-one (p .loop .j)) (c .lessen .ensures k h ∙ ap₂ (λ (x : Float) (b : ℕ). smallerOf x (size b k)) (p .loop .inv .1 k h) (c .before .place .ensures)),
+    let size = sizeBy (a .over) (a .s .now) (a .low .now) (a .high .now) (a .d) (min (p .loop .j * a .d) 8) in (
+      omega (arith, c .before .before .loop-test .taken),
+      λ k h. rw (add-one (p .loop .j)) (c .lessen-line .ensures k h ∙ ap (λ (x : Float). smallerOf x (size k)) (p .loop .inv .1 k h)),
     )
 
 returns : tie.Need-returns Inv-loop μ-loop
@@ -63,8 +58,7 @@ lessen-all-spec =
     Inv-loop
     μ-loop
     loop-holds
-    place-requires
-    lessen-requires
+    lessen-line-requires
     add-j
     loop-less
     loop-again

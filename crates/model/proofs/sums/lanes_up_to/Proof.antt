@@ -3,10 +3,10 @@ use mathlib.Core.Path.{_≡_, refl, ap, _∙_}
 use Prim.Native.Nat.{ℕ, _*_, _-_, _≤_, min}
 use native.Mathlib.Omega.{arith}
 use Rattle.residuals.specs.Inside.{sumOf}
-use Rattle.residuals.proofs.Sums.{sum-more}
+use Rattle.residuals.proofs.Sums.{sum-more, cap-stays}
 use Rattle.columns.specs.Columns.{decodedChunks}
 use Rattle.model.specs.Inside.{SumIn}
-use Rattle.model.proofs.Summing.{lossAt, cap-stays, sum-in}
+use Rattle.model.proofs.Summing.{lossAt, sum-in}
 use borrow.Author.Needs.{needs}
 use Rattle.model.proofs.sums.lanes_up_to.Statement.{statement}
 use Rattle.model.proofs.sums.lanes_up_to.Tie as tie

@@ -52,17 +52,16 @@ mark-of-requires c κs = search needs
 mark-below : (c : tie.After-mark-of) → c .mark-of .result .cost < 18446744073709551615
 mark-below c = rw (c .mark-of .ensures) (start (c .before) .pre .2)
 
-tested-requires : tie.Need-tested-requires
-tested-requires c κs = (start (c .before) .pre .0, mark-below c)
-
-tested-requires-2 : tie.Need-tested-requires-2
-tested-requires-2 c κs = (start (c .before .before) .pre .0, mark-below (c .before))
+tested-both-requires : tie.Need-tested-both-requires
+tested-both-requires c κs =
+    let low = c .before in
+    (start low .pre .0, mark-below c, ap (λ (h : Halves). h .left) (halves low), ap (λ (h : Halves). h .right) (halves low))
 
 -- the left half has the low vector of the box
 tried-if-requires : tie.Need-tried-if-requires
 unfolding leftHalf
 tried-if-requires c κs =
-    let low = c .before .before .before in
+    let low = c .before .before .before .before in
     let s = start low in
     (s .pre .0, s .pre .1, s .pre .2, rw (halves low) (s .pre .4))
 
@@ -77,23 +76,23 @@ module _ (s : tie.Start) where
 marked : (c : tie.After-mark-of) → let s = start (c .before) in c .mark-of .result ≡ markOf (s .args .t) (bestOf (C s) (v s))
 marked c = let s = start (c .before) in c .mark-of .ensures ∙ ap (markOf (s .args .t)) (s .pre .1)
 
-left-tested : (c : tie.After-tested) → let s = start (c .before .before) in Before s (leftHalf (s .args .b)) (c .tested .result)
+left-tested : (c : tie.After-tested-both) → let s = start (c .before .before) in Before s (leftHalf (s .args .b)) (c .tested-both .result .left)
 left-tested c =
     let low = c .before .before in
     let here = ap (λ (h : Halves). h .left) (halves low) in
-    same-tested (B (start low)) (c .tested .result) (marked (c .before)) here (c .tested .ensures)
+    same-tested (B (start low)) (c .tested-both .result .left) (marked (c .before)) here (c .tested-both .ensures .0)
 
-right-tested : (c : tie.After-tested2) → let s = start (c .before .before .before) in Before s (rightHalf (s .args .b)) (c .tested2 .result)
+right-tested : (c : tie.After-tested-both) → let s = start (c .before .before) in Before s (rightHalf (s .args .b)) (c .tested-both .result .right)
 right-tested c =
-    let low = c .before .before .before in
+    let low = c .before .before in
     let here = ap (λ (h : Halves). h .right) (halves low) in
-    same-tested (B (start low)) (c .tested2 .result) (marked (c .before .before)) here (c .tested2 .ensures)
+    same-tested (B (start low)) (c .tested-both .result .right) (marked (c .before)) here (c .tested-both .ensures .1)
 
 -- the best one after the left low vector is tried; of a right half that was dropped no vector becomes best
 tried-if-requires-2 : tie.Need-tried-if-requires-2
 tried-if-requires-2 c κs =
-    let tests = c .before in
-    let low = tests .before .before .before in
+    let tests = c .before .before .before in
+    let low = tests .before .before in
     let s = start low in
     let b = s .args .b in
     let one = c .tried-if .ensures .0 in
@@ -117,8 +116,8 @@ returns : tie.Need-returns
 returns c =
     let marks = c .before .before in
     let tries = marks .before in
-    let tests = tries .before .before in
-    let low = tests .before .before .before in
+    let tests = tries .before .before .before .before in
+    let low = tests .before .before in
     let s = start low in
     let b = s .args .b in
     let new = tries .tried-if2 .ensures .0 in
@@ -129,10 +128,10 @@ returns c =
       fits = tries .tried-if2 .ensures .1;
       left =
           rw (c .before .tested-again .ensures, marks .mark-of2 .ensures, new, one, halves low)
-          (again (leftHalf b) (tests .before .tested .result) (left-tested (tests .before)));
+          (again (leftHalf b) (tests .tested-both .result .left) (left-tested tests));
       right =
           rw (c .tested-again2 .ensures, marks .mark-of2 .ensures, new, one, halves low)
-          (again (rightHalf b) (tests .tested2 .result) (right-tested tests));
+          (again (rightHalf b) (tests .tested-both .result .right) (right-tested tests));
     }
 
 pub cut-box-spec : {M : Type 1} → statement M
@@ -141,8 +140,7 @@ cut-box-spec =
     (tie.spec
     cut-requires
     mark-of-requires
-    tested-requires
-    tested-requires-2
+    tested-both-requires
     tried-if-requires
     tried-if-requires-2
     mark-of-requires-2
