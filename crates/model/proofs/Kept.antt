@@ -5,19 +5,24 @@ use mathlib.Core.List.{List, [], _∷_, _++_}
 use mathlib.Core.Logic.{⊎-elim}
 use Prim.Native.Nat.{ℕ, _+_, _^_, _≤_, _<_}
 use native.Mathlib.Omega.{arith}
-use lib.IntN.{pos}
 use lib.ListN.{length, getD, set, replicate, length-set, length-append, getD-replicate, List·getD-append}
 use lib.Seq.{getD-set-same, getD-set-other, getD-append-seam}
-use lib.Ieee.{Float, nan, binary64, ofInt}
+use lib.Ieee.{Float, nan}
 use Rattle.integers.proofs.Tests.{le-or-lt}
 use Rattle.lanes.specs.Lanes.{lane}
 use Rattle.jobs.specs.declared.Model.{Model}
 use Rattle.columns.specs.Columns.{ChunkOf}
-use Rattle.kernel.specs.Kernel.{leastBy, chunkSize}
+use Rattle.kernel.specs.Kernel.{leastBy, LeastOf, chunkSize}
+use Rattle.model.specs.Inside.{noSizes}
 
--- what a chunk's sizes begin with
-abbrev pub none : List Float
-none = replicate 80 (ofInt binary64 (pos 8589934592))
+-- what is found in lanes that begin so are the sizes of a chunk
+pub from-none : (over : Bool) (s : List (List Float)) (from to : List Float) (m : Model) (old new : List Float)
+    → old ≡ noSizes → LeastOf over s from to (m .d) (m .n) old new → (k : ℕ) → k < 80 → lane new k ≡ chunkSize over s from to m k
+unfolding chunkSize
+from-none over s from to m old new none found k h =
+    found k h
+    ∙ ap (λ (x : Float). leastBy over s from to (m .d) x (m .n) k)
+    (ap (λ (xs : List Float). lane xs k) none ∙ getD-replicate 80 k _ nan h)
 
 -- of n chunks the first t have the sizes that f gives
 pub record Sized (n : ℕ) (f : ℕ → ℕ → Float) (kept : List (List Float)) (t : ℕ) : Type 0 where
@@ -55,16 +60,6 @@ module _ {n : ℕ} (f : ℕ → ℕ → Float) (kept : List (List Float)) (t : �
               (le-or-lt t i);
         }
 
-    -- what is found in lanes that begin so are the sizes of a chunk
-    pub from-none : t < n → (over : Bool) (s : List (List Float)) (from to : List Float) (m : Model)
-        → ((k : ℕ) → k < 80 → lane r k ≡ leastBy over s from to (m .d) (lane (getD (set kept t none) t []) k) (m .n) k)
-        → (k : ℕ) → k < 80 → lane r k ≡ chunkSize over s from to m k
-    unfolding chunkSize
-    from-none inside over s from to m found k h =
-        found k h
-        ∙ ap (λ (x : Float). leastBy over s from to (m .d) x (m .n) k)
-        (ap (λ (xs : List Float). lane xs k) (getD-set-same kept t none [] (omega (arith, before .long))) ∙ getD-replicate 80 k _ nan h)
-
 -- the sizes of the first t chunks of a store, each decoded by itself
 pub record KeptSizes (store : List ℕ) (m : Model) (over : Bool) (from to : List Float) (kept : List (List Float)) (t : ℕ) : Type 0 where
   pub lanes : List (List (List Float))
@@ -90,8 +85,8 @@ module _ (store : List ℕ) (m : Model) (over : Bool) (from to : List Float) whe
     sizes-of x = chunkSize over x from to m
 
     pub one-kept : (r : List Float) → t < 54 → ChunkOf store t (m .d) (2 ^ m .scale) s
-        → ((k : ℕ) → k < 80 → lane r k ≡ leastBy over s from to (m .d) (lane (getD (set kept t none) t []) k) (m .n) k)
-        → KeptSizes store m over from to (set (set kept t none) t r) (t + 1)
+        → LeastOf over s from to (m .d) (m .n) (getD (set kept t noSizes) t []) r
+        → KeptSizes store m over from to (set (set kept t noSizes) t r) (t + 1)
     one-kept r inside is found =
         let so-far = same-sized _ kept t (before .sized) (λ i. sizes-of (getD all i [])) (λ i h k. ap (λ (x : List (List Float)). sizes-of x k) (sym (old i h))) in
         record {
@@ -105,6 +100,8 @@ module _ (store : List ℕ) (m : Model) (over : Bool) (from to : List Float) whe
               (λ (g : i < t). rw (old i g) (before .chunk i g))
               (le-or-lt t i);
           sized =
-              one-sized _ _ t (still-sized _ kept t so-far none) r inside
-              (λ k l. from-none _ kept t so-far r inside over s from to m found k l ∙ ap (λ (x : List (List Float)). sizes-of x k) (sym new));
+              one-sized _ _ t (still-sized _ kept t so-far noSizes) r inside
+              (λ k l.
+              from-none over s from to m _ r (getD-set-same kept t noSizes [] (omega (arith, before .sized .long))) found k l
+              ∙ ap (λ (x : List (List Float)). sizes-of x k) (sym new));
         }

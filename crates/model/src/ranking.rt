@@ -7,19 +7,51 @@ use lanes::Lanes;
 use loss::least;
 use selection::LIMIT;
 ghost use mathlib.Core.Path.{_≡_};
-ghost use Prim.Native.Nat.{_-_, _≤_, min};
+ghost use mathlib.Core.Bool.{false};
+ghost use mathlib.Core.List.{[]};
+ghost use Prim.Native.Nat.{ℕ, _-_, _≤_, _<_, min};
 ghost use lib.IntN.{pos};
-ghost use lib.ListN.{length};
+ghost use lib.ListN.{length, getD};
 ghost use lib.Ieee.{binary64, ofInt};
 ghost use Rattle.points.specs.Points.{pointsOf};
 ghost use Rattle.ranks.specs.Largest.{nthLargest};
 ghost use Rattle.residuals.specs.Inside.{Ready};
+ghost use Rattle.lanes.specs.Lanes.{lane};
+ghost use Rattle.columns.specs.Columns.{decodedChunks};
+ghost use Rattle.kernel.specs.Kernel.{chunkSize};
 ghost use Rattle.selection.specs.Selection.{exceedingIn, selected};
 ghost use Rattle.model.specs.Calls.{exceedingBy};
-ghost use Rattle.model.specs.Inside.{leastSizes, RankIn};
+ghost use Rattle.model.specs.Inside.{leastSizes, noSizes, RankIn};
 
 // No size reaches 2^33.
 const NO_SIZE: u64 = 8589934592;
+
+// The same as a double.
+fn most() -> f64
+    ensures { λ r. ⌜ r ≡ ofInt binary64 (pos 8589934592) ⌝ }
+{
+    NO_SIZE as f64
+}
+
+// The least sizes of a chunk's points, found in lanes that hold a number that no size reaches: they are filled with it, or are already.
+fn chunk_sizes(
+    sizes: &mut Lanes,
+    s: &Chunk,
+    from: &Coordinates,
+    to: &Coordinates,
+    m: Model,
+    over: bool,
+    fill: bool,
+)
+    requires { ⌜ (fill ≡ false → now sizes ≡ noSizes) ⌝ }
+    ensures { λ _. ⌜ ((k : ℕ) → k < 80 → lane (now (sizes .exit)) k
+        ≡ chunkSize over (now (s .entry)) (now (from .entry)) (now (to .entry)) m k) ⌝ }
+{
+    if fill {
+        *sizes = [most(); 80];
+    }
+    kernel::lessen_all(sizes, s, from, to, m.n, m.d, over);
+}
 
 // How many of a chunk reach a cap; none is looked at if no size reaches it.
 fn reaching(sizes: &Lanes, cap: u64) -> u64
@@ -35,6 +67,7 @@ fn reaching(sizes: &Lanes, cap: u64) -> u64
 // Of the sizes in so many chunks, up to a cap: no more are made once more than q reach it.
 fn kept_rank(
     sizes: &mut [Lanes],
+    fill: bool,
     lanes: &[Chunk],
     count: usize,
     from: &Coordinates,
@@ -43,17 +76,15 @@ fn kept_rank(
     over: bool,
     cap: u64,
 ) -> u64
-    requires { ⌜ (count ≤ length (now sizes)) × (count ≤ length (now lanes)) × (count ≤ 54) ⌝ }
+    requires { ⌜ (count ≤ length (now sizes)) × (count ≤ length (now lanes)) × (count ≤ 54)
+        × (fill ≡ false → (i : ℕ) → i < count → getD (now sizes) i [] ≡ noSizes) ⌝ }
     ensures { λ r. ⌜ r ≡ selected (exceedingBy over (now (lanes .entry)) (now (from .entry)) (now (to .entry)) m count) (m .eps)
         (min cap 4503599627370496) ⌝ }
 {
-    let most = NO_SIZE as f64;
-    let none: Lanes = [most; 80];
     let mut reached: u64 = 0;
     let mut t: usize = 0;
     while t < count {
-        sizes[t] = none;
-        kernel::lessen_all(&mut sizes[t], &lanes[t], from, to, m.n, m.d, over);
+        chunk_sizes(&mut sizes[t], &lanes[t], from, to, m, over, fill);
         reached = reached + reaching(&sizes[t], cap);
         if (m.eps as u64) < reached {
             return least(cap, LIMIT);
@@ -63,7 +94,7 @@ fn kept_rank(
     selection::nth_largest(&sizes[..count], m.eps, cap, reached)
 }
 
-// Of a few chunks: the array is filled at each call, whatever is used of it.
+// Of at most eight chunks: the array is filled at each call, whatever is used of it.
 fn short_rank(
     lanes: &[Chunk],
     count: usize,
@@ -77,12 +108,13 @@ fn short_rank(
     ensures { λ r. ⌜ r ≡ selected (exceedingBy over (now (lanes .entry)) (now (from .entry)) (now (to .entry)) m count) (m .eps)
         (min cap 4503599627370496) ⌝ }
 {
-    let zeros: Lanes = [0.0; 80];
-    let mut sizes: [Lanes; 8] = [zeros; 8];
-    kept_rank(&mut sizes, lanes, count, from, to, m, over, cap)
+    let none: Lanes = [most(); 80];
+    let mut sizes: [Lanes; 8] = [none; 8];
+    kept_rank(&mut sizes, false, lanes, count, from, to, m, over, cap)
 }
 
-// Of any number. The compiler lays the two arrays over each other, since each is that of a function of its own.
+// Of any number. The array is set to zeros, and a chunk filled when its turn comes: none behind the one where the cap is reached. The
+// compiler lays the two arrays over each other, since each is that of a function of its own.
 fn long_rank(
     lanes: &[Chunk],
     count: usize,
@@ -98,11 +130,11 @@ fn long_rank(
 {
     let zeros: Lanes = [0.0; 80];
     let mut sizes: [Lanes; 54] = [zeros; 54];
-    kept_rank(&mut sizes, lanes, count, from, to, m, over, cap)
+    kept_rank(&mut sizes, true, lanes, count, from, to, m, over, cap)
 }
 
 // Over the lanes of a store that was decoded before.
-pub fn lanes_rank(
+fn many_rank(
     store: &[u8],
     lanes: &[Chunk],
     m: Model,
@@ -121,6 +153,53 @@ pub fn lanes_rank(
         return short_rank(lanes, count, &from, &to, m, over, cap);
     }
     long_rank(lanes, count, &from, &to, m, over, cap)
+}
+
+// The same of at most four chunks, in an array of their own.
+fn few_rank(
+    store: &[u8],
+    lanes: &[Chunk],
+    m: Model,
+    low: [i16; 8],
+    high: [i16; 8],
+    over: bool,
+    cap: u64,
+) -> u64
+    requires { ⌜ Ready (length (now store)) m × (decodedChunks (now store) (now lanes) ≤ 4) ⌝ }
+    ensures { λ r. ⌜ RankIn over (now (store .entry)) (now (lanes .entry)) m low high cap r ⌝ }
+{
+    let from = kernel::coordinates(low);
+    let to = kernel::coordinates(high);
+    let count = columns::chunk_count(store.len(), lanes.len());
+    let none: Lanes = [most(); 80];
+    let mut sizes: [Lanes; 4] = [none; 4];
+    kept_rank(&mut sizes, false, lanes, count, &from, &to, m, over, cap)
+}
+
+// By how many chunks there are. Each rank is called twice: the compiler puts a function with one call into its caller, and few chunks, and
+// every sum, would then take the stack of all sizes.
+pub fn lanes_rank(
+    store: &[u8],
+    lanes: &[Chunk],
+    m: Model,
+    low: [i16; 8],
+    high: [i16; 8],
+    over: bool,
+    cap: u64,
+) -> u64
+    requires { ⌜ Ready (length (now store)) m ⌝ }
+    ensures { λ r. ⌜ RankIn over (now (store .entry)) (now (lanes .entry)) m low high cap r ⌝ }
+{
+    if columns::chunk_count(store.len(), lanes.len()) < 5 {
+        if over {
+            return few_rank(store, lanes, m, low, high, true, cap);
+        }
+        return few_rank(store, lanes, m, low, high, false, cap);
+    }
+    if over {
+        return many_rank(store, lanes, m, low, high, true, cap);
+    }
+    many_rank(store, lanes, m, low, high, false, cap)
 }
 
 // Of the whole store, each chunk decoded into one that is used again.

@@ -9,8 +9,8 @@ ghost use Rattle.points.specs.Points.{pointsOf};
 ghost use Rattle.residuals.specs.Inside.{Ready};
 ghost use Rattle.model.specs.Inside.{valueOf, ValueIn};
 
-// Of the whole store. Here and below a rank is called twice: the compiler puts a function with one call into its caller, and every sum
-// would then take the stack of its sizes.
+// Of the whole store. A rank is called twice: the compiler puts a function with one call into its caller, and every sum would then take the
+// stack of its sizes.
 pub fn whole(store: &[u8], m: Model, low: [i16; 8], high: [i16; 8], over: bool) -> u64
     requires { ⌜ Ready (length (now store)) m ⌝ }
     ensures { λ r. ⌜ r ≡ valueOf over m (pointsOf (now (store .entry))) low high ⌝ }
@@ -38,10 +38,7 @@ pub fn up_to(
     ensures { λ r. ⌜ ValueIn over (now (store .entry)) (now (lanes .entry)) m low high cap r ⌝ }
 {
     if m.p == 3 {
-        if over {
-            return ranking::lanes_rank(store, lanes, m, low, high, true, cap);
-        }
-        return ranking::lanes_rank(store, lanes, m, low, high, false, cap);
+        return ranking::lanes_rank(store, lanes, m, low, high, over, cap);
     }
     sums::lanes_up_to(store, lanes, m, low, high, over, cap)
 }

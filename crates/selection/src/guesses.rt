@@ -75,16 +75,21 @@ fn before(a: f64, x: f64) -> f64 {
     if x < a { x } else { 0.0 }
 }
 
-// The largest of a chunk that is below a: of even and of odd lanes apart, which the compiler keeps in one register.
+// The largest of a chunk that is below a: of every fourth lane apart, which the compiler keeps in two registers that do not wait for each
+// other.
 fn largest_before(sizes: &Lanes, a: f64) -> f64 {
     known(*sizes);
-    let mut even: f64 = 0.0;
-    let mut odd: f64 = 0.0;
-    for i in 0..40 {
-        even = larger(even, before(a, sizes[i * 2]));
-        odd = larger(odd, before(a, sizes[i * 2 + 1]));
+    let mut first: f64 = 0.0;
+    let mut second: f64 = 0.0;
+    let mut third: f64 = 0.0;
+    let mut fourth: f64 = 0.0;
+    for i in 0..20 {
+        first = larger(first, before(a, sizes[i * 4]));
+        second = larger(second, before(a, sizes[i * 4 + 1]));
+        third = larger(third, before(a, sizes[i * 4 + 2]));
+        fourth = larger(fourth, before(a, sizes[i * 4 + 3]));
     }
-    larger(even, odd)
+    larger(larger(first, second), larger(third, fourth))
 }
 
 // The largest of a chunk that at most so many exceed, found from the top down: quick where few are skipped.

@@ -1,74 +1,65 @@
--- The loop's invariant: the chunks before t have their sizes, and so many of these, or more, reach the cap. The measure is what is left of
--- the chunks.
-use mathlib.Core.Path.{sym, _∙_}
+-- The loop's invariant: the chunks before t have their sizes, and so many of these, or more, reach the cap; the others are as they came. The
+-- measure is what is left of the chunks.
+use mathlib.Core.Path.{_≡_, sym, _∙_}
+use mathlib.Core.Bool.{false}
 use mathlib.Core.List.{List, []}
 use Prim.Native.Nat.{ℕ, _+_, _-_, _*_, _≤_, _<_, min}
 use native.Mathlib.Omega.{arith}
-use lib.IntN.{pos}
 use lib.ListN.{length, getD, set}
-use lib.Seq.{length-take-le}
+use lib.Seq.{length-take-le, getD-set-other}
 use lib.Ieee.{Float}
-use Rattle.whole.proofs.Laws.{cast-asks}
-use Rattle.lanes.specs.Lanes.{lane}
 use Rattle.kernel.specs.Kernel.{chunkSize}
 use Rattle.model.specs.Calls.{exceedingBy}
+use Rattle.model.specs.Inside.{noSizes}
 use Rattle.residuals.specs.Inside.{sumOf}
 use Rattle.model.proofs.Counting.{chunk-counted, cap-reached, kept-selected}
-use Rattle.model.proofs.Kept.{Sized, none, none-sized, still-sized, one-sized, from-none}
+use Rattle.model.proofs.Kept.{Sized, none-sized, one-sized}
 use borrow.Author.Needs.{needs}
 use Rattle.model.proofs.ranking.kept_rank.Statement.{statement}
 use Rattle.model.proofs.ranking.kept_rank.Tie as tie
 use Rattle.model.proofs.ranking.kept_rank.Reads as reads
 use Rattle.model.proofs.ranking.kept_rank.Lts as lts
-use Rattle.kernel.proofs.lessen_all.Reads as lessen-all-reads
 use Rattle.loss.proofs.least.Reads as least-reads
+use Rattle.model.proofs.ranking.chunk_sizes.Reads as chunk-sizes-reads
 use Rattle.model.proofs.ranking.reaching.Reads as reaching-reads
 use Rattle.selection.proofs.nth_largest.Reads as nth-largest-reads
 
 abbrev Inv-loop : tie.InvT-loop
-Inv-loop sizes₀ lanes count from to m over cap most none reached₀ t₀ sizes reached t =
+Inv-loop sizes₀ fill lanes count from to m over cap reached₀ t₀ sizes reached t =
     (t ≤ count)
     × Sized (length sizes₀) (λ i k. chunkSize over (getD lanes i []) from to m k) sizes t
     × (reached ≤ 80 * t)
     × (reached ≤ exceedingBy over lanes from to m t (min cap 4503599627370496 - 1))
+    × (fill ≡ false → (i : ℕ) → t ≤ i → i < count → getD sizes i [] ≡ noSizes)
 
 abbrev μ-loop : tie.MeasureT-loop
-μ-loop sizes₀ lanes count from to m over cap most none reached₀ t₀ sizes reached t = count - t
-
-int-to-float-most : tie.Need-int-to-float-most Inv-loop μ-loop
-int-to-float-most c = cast-asks (pos 8589934592) (omega arith)
+μ-loop sizes₀ fill lanes count from to m over cap reached₀ t₀ sizes reached t = count - t
 
 loop-holds : tie.Need-loop-holds Inv-loop μ-loop
 unfolding exceedingBy sumOf
-loop-holds c = (omega arith, none-sized _ _, omega arith, omega arith)
-
-mul-none : tie.Need-mul-none Inv-loop μ-loop
-mul-none c = search needs
+loop-holds c = (omega arith, none-sized _ _, omega arith, omega arith, λ e i h l. c .pre .3 e i l)
 
 -- a turn's chunk has its place among the sizes
 inside-at : (c : tie.In-loop Inv-loop μ-loop) → c .before .loop .t < length (c .before .before .args .sizes .now)
 inside-at c = omega (arith, c .loop-test .taken, c .before .before .pre .0)
 
-slice-set-from-none : tie.Need-slice-set-from-none Inv-loop μ-loop
-slice-set-from-none c = omega (arith, inside-at c, c .before .loop .inv .1 .long)
+mul-chunk-sizes : tie.Need-mul-chunk-sizes Inv-loop μ-loop
+mul-chunk-sizes c = search needs
 
-mul-lessen-all : tie.Need-mul-lessen-all Inv-loop μ-loop
-mul-lessen-all c = search needs
+index-1-chunk-sizes : tie.Need-index-1-chunk-sizes Inv-loop μ-loop
+index-1-chunk-sizes c = omega (arith, inside-at c, c .before .loop .inv .1 .long)
 
-index-1-lessen-all : tie.Need-index-1-lessen-all Inv-loop μ-loop
-index-1-lessen-all c = omega (arith, inside-at c, still-sized _ _ _ (c .before .loop .inv .1) none .long)
+mul-chunk-sizes-2 : tie.Need-mul-chunk-sizes-2 Inv-loop μ-loop
+mul-chunk-sizes-2 c = search needs
 
-mul-lessen-all-2 : tie.Need-mul-lessen-all-2 Inv-loop μ-loop
-mul-lessen-all-2 c = search needs
+shared-slice-element-chunk-sizes : tie.Need-shared-slice-element-chunk-sizes Inv-loop μ-loop
+shared-slice-element-chunk-sizes c = let turn = c .before in omega (arith, turn .loop-test .taken, turn .before .before .pre .1)
 
-shared-slice-element-lessen-all : tie.Need-shared-slice-element-lessen-all Inv-loop μ-loop
-shared-slice-element-lessen-all c = let turn = c .before in omega (arith, turn .loop-test .taken, turn .before .before .pre .1)
-
-lessen-all-requires : tie.Need-lessen-all-requires Inv-loop μ-loop
-lessen-all-requires c κs = search needs
+chunk-sizes-requires : tie.Need-chunk-sizes-requires Inv-loop μ-loop
+chunk-sizes-requires c κs = let turn = c .before .before in λ e. turn .before .loop .inv .4 e _ (omega arith) (turn .loop-test .taken)
 
 -- the chunk at t has its sizes, and with it as many reach the cap
-module _ (c : tie.After-lessen-all Inv-loop μ-loop) where
+module _ (c : tie.After-chunk-sizes Inv-loop μ-loop) where
   abbrev turn : tie.In-loop Inv-loop μ-loop
   turn = c .before .before .before
 
@@ -88,14 +79,10 @@ module _ (c : tie.After-lessen-all Inv-loop μ-loop) where
   sizes-of i k = chunkSize (start .args .over) (getD (start .args .lanes .now) i []) from to (start .args .m) k
 
   abbrev kept : List (List Float)
-  kept = set (set (p .loop .sizes) (p .loop .t) none) (p .loop .t) (c .lessen-all .last .0)
+  kept = set (p .loop .sizes) (p .loop .t) (c .chunk-sizes .last .0)
 
   sized : Sized (length (start .args .sizes .now)) sizes-of kept (p .loop .t + 1)
-  sized =
-      one-sized _ _ (p .loop .t) (still-sized _ (p .loop .sizes) (p .loop .t) (p .loop .inv .1) none) (c .lessen-all .last .0)
-      (inside-at turn)
-      (from-none _ (p .loop .sizes) (p .loop .t) (p .loop .inv .1) (c .lessen-all .last .0) (inside-at turn) (start .args .over)
-      (getD (start .args .lanes .now) (p .loop .t) []) from to (start .args .m) (c .lessen-all .ensures))
+  sized = one-sized _ (p .loop .sizes) (p .loop .t) (p .loop .inv .1) (c .chunk-sizes .last .0) (inside-at turn) (c .chunk-sizes .ensures)
 
 counted : (c : tie.After-reaching Inv-loop μ-loop) →
     let l = c .before .before in
@@ -155,8 +142,15 @@ loop-less c = search needs
 loop-again : tie.Need-loop-again Inv-loop μ-loop
 loop-again c =
     let r = c .before .before in
-    let l = r .before .before in
-    (omega (arith, turn l .loop-test .taken), sized l, omega (arith, p l .loop .inv .2, r .reaching .ensures .1), counted r)
+    let l = r .before .before in (
+      omega (arith, turn l .loop-test .taken),
+      sized l,
+      omega (arith, p l .loop .inv .2, r .reaching .ensures .1),
+      counted r,
+      λ e i h m.
+          getD-set-other (p l .loop .sizes) (p l .loop .t) i (l .chunk-sizes .last .0) [] (λ (same : i ≡ p l .loop .t). omega arith)
+          ∙ p l .loop .inv .4 e i (omega arith) m,
+    )
 
 slice-reshare-prefix-nth-largest : tie.Need-slice-reshare-prefix-nth-largest Inv-loop μ-loop
 slice-reshare-prefix-nth-largest c = omega (arith, c .before .loop .inv .1 .long, c .before .before .pre .0)
@@ -187,15 +181,12 @@ kept-rank-spec =
     (tie.spec
     Inv-loop
     μ-loop
-    int-to-float-most
     loop-holds
-    mul-none
-    slice-set-from-none
-    mul-lessen-all
-    index-1-lessen-all
-    mul-lessen-all-2
-    shared-slice-element-lessen-all
-    lessen-all-requires
+    mul-chunk-sizes
+    index-1-chunk-sizes
+    mul-chunk-sizes-2
+    shared-slice-element-chunk-sizes
+    chunk-sizes-requires
     mul-reaching
     index-1-reaching
     reaching-requires
