@@ -12,7 +12,7 @@
  *
  * A length counts elements, not bytes. No pointer is null, each points to as many elements as its length says, and what one argument
  * lends for writing no other argument reaches. Nothing is allocated or kept, so calls on different memory may run at the same time.
- * A search takes less than 180,000 bytes of stack, with p = 3 less than 215,000; a cost or bound with p = 3 less than 45,000, every other
+ * A search takes less than 190,000 bytes of stack, with p = 3 less than 220,000; a cost or bound with p = 3 less than 45,000, every other
  * call less than 8,000.
  *
  * store    point records of 12 bytes, 1 to 4,096 of them; one whose y is -32,768 is a gap, a sample that the board didn't take: it adds 0

@@ -45,7 +45,7 @@ static size_t taken(void (*call)(void))
 int main(void)
 {
     static const struct { const char *name; void (*call)(void); size_t sum, rank; } calls[] = {
-        {"cost", cost, 8000, 45000}, {"bound", bound, 8000, 45000}, {"search", search, 180000, 215000},
+        {"cost", cost, 8000, 45000}, {"bound", bound, 8000, 45000}, {"search", search, 190000, 220000},
         {"cost_by_beacon", by_beacon, 8000, 0}, {"labels", label, 8000, 0},
     };
     int passed = 0, failed = 0;

@@ -1,2 +1,1 @@
 pub mod FirstSmallest
-pub mod Inside

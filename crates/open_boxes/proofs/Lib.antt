@@ -1,3 +1,3 @@
 pub mod Picking
 pub mod Listing
-pub mod Placing
+pub mod Choosing

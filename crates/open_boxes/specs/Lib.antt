@@ -1,2 +1,1 @@
 pub mod OpenBoxes
-pub mod Inside

@@ -1,28 +1,21 @@
 // The list of open boxes in lent memory: the boxes are the first rows of the table, and their bounds the first entries of a list beside it.
 use boxes::Box;
 ghost use mathlib.Core.Path.{_≡_};
-ghost use mathlib.Core.Bool.{cond, false};
+ghost use mathlib.Core.Bool.{cond};
+ghost use mathlib.Core.List.{_++_};
 ghost use Prim.Native.Nat.{_+_, _-_, _≤_, _<_, min};
-ghost use lib.Dec.{ltb};
-ghost use lib.ListN.{length, getD, set, drop};
+ghost use lib.ListN.{length, getD, set, take, drop};
 ghost use lib.Seq.{paste};
 ghost use Rattle.certificate.specs.Search.{ahead};
 ghost use Rattle.first_smallest.specs.FirstSmallest.{entryAt};
-ghost use Rattle.rows.specs.Rows.{rowCount, rowAt, withRow};
-ghost use Rattle.open_boxes.specs.OpenBoxes.{Held, ReplacedBy, fits, number, picked, roomIn, staysAt};
-ghost use Rattle.open_boxes.specs.Inside.{othersThan};
+ghost use Rattle.rows.specs.Rows.{rowCount, rowAt, rowsOf, withRow};
+ghost use Rattle.open_boxes.specs.OpenBoxes.{Held, Settled, fits, keptAt, number, othersThan, picked, roomIn};
 
 // A box that is to be open if it is kept, with its bound, which has to be exact only then.
 pub struct Child {
     pub half: Box,
     pub bound: u64,
     pub kept: bool,
-}
-
-// How many boxes are open where one was replaced by its halves, or that there is no room for so many.
-pub struct Replaced {
-    pub full: bool,
-    pub rows: usize,
 }
 
 fn smaller(a: usize, b: usize) -> usize
@@ -71,34 +64,21 @@ fn keeps(table: &[i16], i: usize, bound: u64, mark: Mark) -> bool
     ahead(mark, bound, low)
 }
 
-// Whether the box in row i stays where the one in row `at` is taken out. Where all others stay none is tested.
-fn stays(table: &[i16], bounds: &[u64], at: usize, i: usize, mark: Mark, all: bool) -> bool
-    requires { ⌜ i < length (now bounds) ⌝ }
-    ensures { λ r. ⌜ r ≡ staysAt (now (table .entry)) (now (bounds .entry)) at mark all i ⌝ }
+// How many of the first n boxes are kept.
+pub fn keeping(table: &[i16], bounds: &[u64], n: usize, mark: Mark) -> usize
+    ensures { λ r. ⌜ r
+        ≡ number (keptAt (now (table .entry)) (now (bounds .entry)) mark) (min n (roomIn (now (table .entry)) (now (bounds .entry)))) ⌝ }
 {
-    if i == at {
-        return false;
-    }
-    if all {
-        return true;
-    }
-    keeps(table, i, bounds[i], mark)
-}
-
-// How many of the first n boxes stay.
-fn staying(table: &[i16], bounds: &[u64], n: usize, at: usize, mark: Mark, all: bool) -> usize
-    requires { ⌜ n ≤ length (now bounds) ⌝ }
-    ensures { λ r. ⌜ r ≡ number (staysAt (now (table .entry)) (now (bounds .entry)) at mark all) n ⌝ }
-{
-    let mut stay = 0;
+    let listed = smaller(n, smaller(table.len() / 16, bounds.len()));
+    let mut kept = 0;
     let mut i = 0;
-    while i < n {
-        if stays(table, bounds, at, i, mark, all) {
-            stay += 1;
+    while i < listed {
+        if keeps(table, i, bounds[i], mark) {
+            kept += 1;
         }
         i += 1;
     }
-    stay
+    kept
 }
 
 // Moves a box and its bound from one row to another, no later one.
@@ -113,19 +93,19 @@ fn move_box(table: &mut [i16], bounds: &mut [u64], i: usize, to: usize)
     }
 }
 
-// Of the first n boxes those that stay become the first, in order. Each is tested.
-fn sort_out(table: &mut [i16], bounds: &mut [u64], n: usize, at: usize, mark: Mark) -> usize
+// Of the first n boxes those that are kept become the first, in order.
+fn sort_out(table: &mut [i16], bounds: &mut [u64], n: usize, mark: Mark) -> usize
     requires { ⌜ n ≤ roomIn (now table) (now bounds) ⌝ }
     ensures { λ r. ⌜
         Held (now (table .entry)) (now (bounds .entry)) n
-        (picked (rowAt (now (table .entry))) (staysAt (now (table .entry)) (now (bounds .entry)) at mark false) n)
-        (picked (entryAt (now (bounds .entry))) (staysAt (now (table .entry)) (now (bounds .entry)) at mark false) n)
+        (picked (rowAt (now (table .entry))) (keptAt (now (table .entry)) (now (bounds .entry)) mark) n)
+        (picked (entryAt (now (bounds .entry))) (keptAt (now (table .entry)) (now (bounds .entry)) mark) n)
         r (now (table .exit)) (now (bounds .exit)) ⌝ }
 {
     let mut stay = 0;
     let mut i = 0;
     while i < n {
-        if stays(table, bounds, at, i, mark, false) {
+        if keeps(table, i, bounds[i], mark) {
             move_box(table, bounds, i, stay);
             stay += 1;
         }
@@ -147,51 +127,22 @@ fn slide_entries(part: &mut [u64])
     }
 }
 
-// Takes the box in row `at` out of the first n, where all others stay: those behind it move by one row, and nothing before it is read.
-fn take_out(table: &mut [i16], bounds: &mut [u64], n: usize, at: usize) -> usize
-    requires { ⌜ n ≤ roomIn (now table) (now bounds) ⌝ }
+// Takes the box in row `at` out of the first n: those behind it move by one row, and nothing before it is read. Of n boxes as many are
+// meant as there is room for.
+pub fn take_out(table: &mut [i16], bounds: &mut [u64], n: usize, at: usize) -> usize
     ensures { λ r. ⌜
-        Held (now (table .entry)) (now (bounds .entry)) n
-        (picked (rowAt (now (table .entry))) (othersThan at) n)
-        (picked (entryAt (now (bounds .entry))) (othersThan at) n)
+        Held (now (table .entry)) (now (bounds .entry)) (min n (roomIn (now (table .entry)) (now (bounds .entry))))
+        (picked (rowAt (now (table .entry))) (othersThan at) (min n (roomIn (now (table .entry)) (now (bounds .entry)))))
+        (picked (entryAt (now (bounds .entry))) (othersThan at) (min n (roomIn (now (table .entry)) (now (bounds .entry)))))
         r (now (table .exit)) (now (bounds .exit)) ⌝ }
 {
-    if n <= at {
-        return n;
+    let listed = smaller(n, smaller(table.len() / 16, bounds.len()));
+    if listed <= at {
+        return listed;
     }
-    rows::take_row(table, at, n);
-    slide_entries(&mut bounds[at..n]);
-    n - 1
-}
-
-// Of the first n boxes those that stay become the first, in order.
-fn close_up(
-    table: &mut [i16],
-    bounds: &mut [u64],
-    n: usize,
-    at: usize,
-    mark: Mark,
-    all: bool,
-) -> usize
-    requires { ⌜ n ≤ roomIn (now table) (now bounds) ⌝ }
-    ensures { λ r. ⌜
-        Held (now (table .entry)) (now (bounds .entry)) n
-        (picked (rowAt (now (table .entry))) (staysAt (now (table .entry)) (now (bounds .entry)) at mark all) n)
-        (picked (entryAt (now (bounds .entry))) (staysAt (now (table .entry)) (now (bounds .entry)) at mark all) n)
-        r (now (table .exit)) (now (bounds .exit)) ⌝ }
-{
-    if all {
-        take_out(table, bounds, n, at)
-    } else {
-        sort_out(table, bounds, n, at, mark)
-    }
-}
-
-// How many boxes a half adds.
-fn added(child: Child) -> usize
-    ensures { λ r. ⌜ r ≡ cond (child .kept) 1 0 ⌝ }
-{
-    if child.kept { 1 } else { 0 }
+    rows::take_row(table, at, listed);
+    slide_entries(&mut bounds[at..listed]);
+    listed - 1
 }
 
 // Writes a box that is kept and its bound behind the first n. Where there is no room, nothing changes.
@@ -216,62 +167,57 @@ pub fn put(table: &mut [i16], bounds: &mut [u64], n: usize, child: Child) -> usi
     n
 }
 
-// Whether more than `room` boxes would remain. They are counted only where there may be too many.
-fn too_many(
-    table: &[i16],
-    bounds: &[u64],
-    n: usize,
-    at: usize,
-    mark: Mark,
-    all: bool,
-    more: usize,
-    room: usize,
-) -> bool
-    requires { ⌜ (n ≤ length (now bounds)) × (more ≤ 2) × (n ≤ room) × (room < 1152921504606846976) ⌝ }
-    ensures { λ r. ⌜ r ≡ ltb room (number (staysAt (now (table .entry)) (now (bounds .entry)) at mark all) n + more) ⌝ }
-{
-    if more <= room - n {
-        return false;
-    }
-    room < staying(table, bounds, n, at, mark, all) + more
-}
-
-// Takes out the box in row `at` of the first n and those that are not kept, and puts its halves behind the others. Where `all` others stay,
-// by what the caller knows, none is tested. Where more boxes would remain than there is room for, nothing is written.
-pub fn replace(
+// Writes those of the first m late boxes that are kept behind the first n, as many as there is room for.
+fn append(
     table: &mut [i16],
     bounds: &mut [u64],
     n: usize,
-    at: usize,
+    late: &[i16],
+    beside: &[u64],
+    m: usize,
     mark: Mark,
-    all: bool,
-    left: Child,
-    right: Child,
-) -> Replaced
+) -> usize
+    requires { ⌜ (n ≤ roomIn (now table) (now bounds)) × (m ≤ length (now beside)) ⌝ }
     ensures { λ r. ⌜
-        ReplacedBy (now (table .entry)) (now (bounds .entry)) n at mark all left right r (now (table .exit)) (now (bounds .exit)) ⌝ }
+        Held (now (table .entry)) (now (bounds .entry)) r
+        (take (roomIn (now (table .entry)) (now (bounds .entry)))
+        (rowsOf (now (table .entry)) n
+        ++ picked (rowAt (now (late .entry))) (keptAt (now (late .entry)) (now (beside .entry)) mark) m))
+        (take (roomIn (now (table .entry)) (now (bounds .entry)))
+        (take n (now (bounds .entry))
+        ++ picked (entryAt (now (beside .entry))) (keptAt (now (late .entry)) (now (beside .entry)) mark) m))
+        r (now (table .exit)) (now (bounds .exit)) ⌝ }
 {
-    let room = smaller(table.len() / 16, bounds.len());
-    let listed = smaller(n, room);
-    if too_many(
-        table,
-        bounds,
-        listed,
-        at,
-        mark,
-        all,
-        added(left) + added(right),
-        room,
-    ) {
-        return Replaced {
-            full: true,
-            rows: listed,
-        };
+    let mut end = n;
+    let mut i = 0;
+    while i < m {
+        let half = rows::read_row(late, i);
+        let bound = beside[i];
+        let kept = keeps(late, i, bound, mark);
+        end = put(table, bounds, end, Child { half, bound, kept });
+        i += 1;
     }
-    let stay = close_up(table, bounds, listed, at, mark, all);
-    let with_left = put(table, bounds, stay, left);
-    Replaced {
-        full: false,
-        rows: put(table, bounds, with_left, right),
-    }
+    end
+}
+
+// Makes one list of two: those of the first n boxes that are kept become the first, and those of the first m late ones, which have their
+// bounds beside them, follow, all in order and as many as there is room for.
+pub fn settle(
+    table: &mut [i16],
+    bounds: &mut [u64],
+    n: usize,
+    late: &[i16],
+    beside: &[u64],
+    m: usize,
+    mark: Mark,
+) -> usize
+    ensures { λ r. ⌜
+        Settled (now (table .entry)) (now (bounds .entry)) (min n (roomIn (now (table .entry)) (now (bounds .entry))))
+        (now (late .entry)) (now (beside .entry)) (min m (roomIn (now (late .entry)) (now (beside .entry))))
+        mark r (now (table .exit)) (now (bounds .exit)) ⌝ }
+{
+    let listed = smaller(n, smaller(table.len() / 16, bounds.len()));
+    let more = smaller(m, smaller(late.len() / 16, beside.len()));
+    let stay = sort_out(table, bounds, listed, mark);
+    append(table, bounds, stay, late, beside, more, mark)
 }

@@ -1,7 +1,7 @@
 -- What an accepted or a refused job comes to. Assumes nothing.
 use mathlib.Core.Path.{_≡_, refl, sym, ap, _∙_}
 use mathlib.Core.List.{List, [], _++_, map}
-use Prim.Native.Nat.{ℕ, _*_, _≤_}
+use Prim.Native.Nat.{ℕ, _≤_}
 use native.Mathlib.Omega.{arith}
 use lib.IntN.{ℤ}
 use lib.ListN.{length, take, drop, take-append-drop}
@@ -15,16 +15,15 @@ use Rattle.points.specs.Points.{pointsOf}
 use Rattle.residuals.specs.Cost.{cost, bound}
 use Rattle.residuals.proofs.Bounds.{bound-laws}
 use Rattle.rows.specs.Rows.{rowCount, rowsOf}
-use Rattle.rows.proofs.Rows.{rest-later, rows-take}
+use Rattle.rows.proofs.Rows.{rows-take}
 use Rattle.certificate.specs.Search as Search
 use Rattle.certificate.specs.Certificate.{stateOf}
 use Rattle.certificate.proofs.Reached.{reached-sound}
 use Rattle.made.proofs.Made.{fit-certified}
 use Rattle.search_checks.proofs.Passed.{runs-accepted, rows-accepted}
 use Rattle.search.specs.declared.Answer.{Answer}
-use Rattle.search.specs.declared.branch.State.{State}
 use Rattle.search.specs.Search.{searched, refused, CertifiedIn, checkLent, searchAnswer, TableSearched, BoundsSearched, Certified}
-use Rattle.search.specs.Inside.{Begun, Ran}
+use Rattle.search.specs.Inside.{Ran}
 
 -- a list whose first n are known, in two parts
 two-parts : {A : Type 0} (xs front : List A) (n : ℕ) → take n xs ≡ front → xs ≡ front ++ drop n xs
@@ -59,35 +58,30 @@ module _ (store : List ℕ) (job : Job) (t : List ℤ) (d : List ℕ) where
         in
         omega (arith, sound .room, rows-accepted store job (length t) (length d) ok)
 
-    pub promised-pass :
-        (u v : List ℤ) (e f : List ℕ) (first : State) (r : Answer) →
-        Begun (cost (job .model) (pointsOf store)) B (job .t) (job .start) (job .domain) t d first u e →
-        Ran B (searched store job (rowCount u)) u e first r v f →
-        Promised r v f
+    pub promised-pass : (v : List ℤ) (f : List ℕ) (r : Answer) → Ran B found t d r v f → Promised r v f
     unfolding searchAnswer
-    promised-pass u v e f first r b ran =
-        let q = rw (b .long) at ran in (
-          rw ok (q .answer),
-          (
-            record {
-              long = q .long ∙ b .long;
-              untouched = λ why h. refused-not-passed why (sym h ∙ ok);
-              leftovers = drop open-count (rowsOf v (found .peak));
-              rows = λ h. two-parts (rowsOf v (found .peak)) (found .list) open-count (rows-take v (found .peak) open-count (q .few) ∙ q .open-rows);
-              rest = λ h. q .rest ∙ rest-later t u (16 * first .peak) (16 * found .peak) (omega (arith, q .longer)) (b .rest);
-            },
-            (
-              record {
-                long = q .long-entries ∙ b .long-entries;
-                untouched = λ why h. refused-not-passed why (sym h ∙ ok);
-                leftovers = drop open-count (take (found .peak) f);
-                entries = λ h. two-parts (take (found .peak) f) (map B (found .list)) open-count (take-take open-count (found .peak) f (q .few) ∙ q .open-entries);
-                rest = λ h. q .rest-entries ∙ rest-later d e (first .peak) (found .peak) (q .longer) (b .rest-entries);
-              },
-              λ h. (q .answer, certificate),
-            ),
-          ),
-        )
+    promised-pass v f r q = (
+      rw ok (q .answer),
+      (
+        record {
+          long = q .within .long;
+          untouched = λ why h. refused-not-passed why (sym h ∙ ok);
+          leftovers = drop open-count (rowsOf v (found .peak));
+          rows = λ h. two-parts (rowsOf v (found .peak)) (found .list) open-count (rows-take v (found .peak) open-count (q .few) ∙ q .open-rows);
+          rest = λ h. q .within .rest;
+        },
+        (
+          record {
+            long = q .within .long-entries;
+            untouched = λ why h. refused-not-passed why (sym h ∙ ok);
+            leftovers = drop open-count (take (found .peak) f);
+            entries = λ h. two-parts (take (found .peak) f) (map B (found .list)) open-count (take-take open-count (found .peak) f (q .few) ∙ q .open-entries);
+            rest = λ h. q .within .rest-entries;
+          },
+          λ h. (q .answer, certificate),
+        ),
+      ),
+    )
 
   pub promised-refused : (why : Refusal) (r : Answer) → checkLent store job t d ≡ Refuse why → r ≡ refused why → Promised r t d
   unfolding searchAnswer

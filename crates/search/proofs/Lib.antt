@@ -1,12 +1,11 @@
 pub mod Accepted
 pub mod Cutting
-pub mod Taking
 pub mod UpTo
 pub mod Halves
-pub mod Keeping
-pub mod Lowest
+pub mod Replacing
 pub mod Beginning
 pub mod Stepping
 pub mod Going
+pub mod Ending
 pub mod Solved
 pub mod SameVector

@@ -1,71 +1,39 @@
--- The split of the definition, in terms of the table and the list of bounds: what is kept is what stays of the first rows, and the halves
--- of the row taken out. Assumes nothing.
+-- The split of the definition, by how the list is held: what remains is what is kept of the others, and the halves of the box that was found.
+-- Assumes nothing.
 use mathlib.Core.Path.{_≡_, refl, sym, ap, subst, _∙_}
-use mathlib.Core.Bool.{Bool, true, false, cond, not, _||_}
-use mathlib.Core.List.{List, [], _∷_, _++_, append-assoc, map, map-append}
+use mathlib.Core.Bool.{Bool, true, false, cond, not}
+use mathlib.Core.List.{List, [], _∷_}
+use mathlib.Core.Logic.{⊎-elim}
 use Prim.Native.Nat.{ℕ, suc, _+_, _*_, _≤_, _<_, min, max}
 use native.Mathlib.Numerals.{add-one}
 use native.Mathlib.Omega.{arith}
-use lib.Dec.{T, T-not, ltb, eqb}
+use lib.Dec.{T, T-not, ltb, leb}
 use lib.IntN.{ℤ}
-use lib.ListN.{length, length-append, List·getD-append}
-use lib.Seq.{getD-take}
-use borrow.Author.Tests.{ne-eqb}
+use lib.ListN.{length, length-append}
+use borrow.Author.Tests.{leb-true, leb-false, le-ltb, lt-ltb}
+use Rattle.integers.specs.Lists.{All}
+use Rattle.integers.proofs.Tests.{by-test, le-or-lt}
 use Rattle.boxes.specs.declared.Box.{Box}
 use Rattle.boxes.specs.Split.{leftHalf, rightHalf, zeroBox}
-use Rattle.rows.specs.Rows.{rowCount, rowAt, rowsOf}
-use Rattle.rows.proofs.Rows.{rest-later, rows-at}
-use Rattle.open_boxes.specs.declared.Child.{Child}
+use Rattle.rows.specs.Rows.{rowCount, rowAt}
+use Rattle.rows.proofs.Rows.{rest-later}
 use Rattle.open_boxes.specs.declared.Mark.{Mark}
-use Rattle.open_boxes.specs.declared.Replaced.{Replaced}
-use Rattle.open_boxes.specs.OpenBoxes.{boundsLeft, boxesLeft, ifKept, picked, roomIn, staysAt, ReplacedBy}
-use Rattle.first_smallest.specs.FirstSmallest.{entryAt}
-use Rattle.open_boxes.proofs.Picking.{picked-at, picked-length, picked-map}
-use Rattle.open_boxes.proofs.Placing.{left-number}
+use Rattle.open_boxes.specs.OpenBoxes.{keptAt, number, picked, roomIn}
+use Rattle.open_boxes.proofs.Picking.{picked-length}
+use Rattle.listing.specs.declared.Found.{Found}
+use Rattle.listing.specs.declared.Listing.{Listing}
+use Rattle.listing.specs.Listing.{listOf, boxIn}
+use Rattle.listing.proofs.Settling.{boxes-are}
 use Rattle.certificate.specs.Search as Search
-use Rattle.certificate.specs.Search.{ahead, better, keepIf, boxAt, without, split}
+use Rattle.certificate.specs.Search.{ahead, better, keepIf, firstSmallest, without, split}
 use Rattle.certificate.proofs.Ahead.{Settled, none-better}
-use Rattle.certificate.proofs.Lists.{append-kept}
+use Rattle.certificate.proofs.Lists.{sum, append-kept, length-kept, takes-at, takes-all, takes-sum}
 use Rattle.search.specs.declared.branch.Best.{Best}
 use Rattle.search.specs.declared.branch.Branches.{Branches}
-use Rattle.search.specs.declared.branch.State.{State}
-use Rattle.search.specs.Inside.{bestOf, keptBy, markOf, Tested, Cut, stateIn, Steppable, Moved}
-use Rattle.search.proofs.Keeping.{picked-kept, stored-at}
-
--- A half, kept or not, for any test.
-module _ (bound : Box → ℕ) (keep : Box → Bool) (b : Box) (child : Child) (s : Tested bound keep b child) where
-  pub half-box : ifKept child (child .half) ≡ keepIf keep (b ∷ [])
-  half-box = rw (s .decided, s .half)
-
-  pub half-bound : ifKept child (child .bound) ≡ map bound (ifKept child (child .half))
-  half-bound = go (child .kept) refl
-    where
-      go : (k : Bool) → child .kept ≡ k → cond k (child .bound ∷ []) [] ≡ map bound (cond k (child .half ∷ []) [])
-      go true e = rw (s .exact e, s .half)
-      go false e = refl
-
--- Any test p of a box, which the entries decide.
-module _
-    (bound : Box → ℕ) (p : Box → Bool) (t : List ℤ) (d : List ℕ) (n at : ℕ) (mark : Mark) (all : Bool) (entries : (k : ℕ) → k < n → entryAt d k ≡ bound (rowAt t k))
-    (decides : (k : ℕ) → k < n → staysAt t d at mark all k ≡ cond (eqb k at) false (p (rowAt t k)))
-    (b₁ b₂ : Box) (left right : Child) (l : Tested bound p b₁ left) (r : Tested bound p b₂ right)
-  where
-    pub left-kept : boxesLeft t d n at mark all left right ≡ keepIf p (without (rowsOf t n) at ++ (b₁ ∷ b₂ ∷ []))
-    left-kept =
-        let stay = without (rowsOf t n) at in
-        rw (picked-kept p t at (staysAt t d at mark all) n decides, half-box bound p b₁ left l, half-box bound p b₂ right r)
-        (append-assoc (keepIf p stay) (keepIf p (b₁ ∷ [])) (keepIf p (b₂ ∷ []))
-        ∙ ap (λ (x : List Box). keepIf p stay ++ x) (sym (append-kept p (b₁ ∷ []) (b₂ ∷ [])))
-        ∙ sym (append-kept p stay (b₁ ∷ b₂ ∷ [])))
-
-    -- and the numbers beside them are their bounds
-    pub left-bounds : boundsLeft t d n at mark all left right ≡ map bound (boxesLeft t d n at mark all left right)
-    left-bounds =
-        let f = picked (rowAt t) (staysAt t d at mark all) n in
-        let g = ifKept left (left .half) in
-        let h = ifKept right (right .half) in
-        rw (picked-map bound (rowAt t) (entryAt d) (staysAt t d at mark all) n entries, half-bound bound p b₁ left l, half-bound bound p b₂ right r)
-        (sym (map-append bound (f ++ g) h ∙ ap (λ (x : List ℕ). x ++ map bound h) (map-append bound f g)))
+use Rattle.search.specs.declared.step.State.{State}
+use Rattle.search.specs.Inside.{bestOf, keptBy, markOf, Cut, tooMany, Replaceable, remaining, ReplacedIn, stateIn, Steppable, Moved}
+use Rattle.search.proofs.Cutting.{same-tested}
+use Rattle.search.proofs.Replacing.{all-kept}
 
 -- where what is best after both halves were tried is not ahead of what was, it is the same
 pub best-stays :
@@ -80,93 +48,179 @@ best-stays cost tol old new l r was is all told stays =
     let settled : Settled cost tol v w = T-not (ahead tol (cost v) v (cost w) w) (subst T (sym behind) tt) in
     is ∙ ap (bestOf cost) (none-better cost tol v l r settled) ∙ sym was
 
+-- how many are kept, one by one
+count-kept : (keep : Box → Bool) (bs : List Box) → sum (λ b. cond (keep b) 1 0) bs ≡ length (keepIf keep bs)
+count-kept keep [] = refl
+count-kept keep (b ∷ bs) =
+    let rest = count-kept keep bs in
+    by-test (keep b) (b ∷ keepIf keep bs) (keepIf keep bs) (λ (xs : List Box). cond (keep b) 1 0 + sum (λ b. cond (keep b) 1 0) bs ≡ length xs)
+    (λ e. rw e (omega arith))
+    (λ e. rw e (omega arith))
+
+-- the same number on both sides of a test
+shifted : (a x c y : ℕ) → ltb (a + c) (x + c + y) ≡ ltb a (x + y)
+shifted a x c y =
+    ⊎-elim
+    (λ (h : x + y ≤ a). le-ltb (a + c) (x + c + y) (omega arith) ∙ sym (le-ltb a (x + y) h))
+    (λ (h : a < x + y). lt-ltb (a + c) (x + c + y) (omega arith) ∙ sym (lt-ltb a (x + y) h))
+    (le-or-lt (x + y) a)
+
 module _
-    (cost : List ℤ → ℕ) (bound : Box → ℕ) (tol : ℕ) (t : List ℤ) (d : List ℕ) (s : State) (at : ℕ) (p : Steppable cost bound tol t d s at)
-    (br : Branches) (made : Cut cost bound tol (rowAt t at) (s .best .vector) br) (all : Bool) (stay : all ≡ true → br .best ≡ s .best)
+    (cost : List ℤ → ℕ) (bound : Box → ℕ) (tol : ℕ) (t : List ℤ) (d l p : List ℕ) (v : List ℤ) (f : List ℕ) (s : State) (found : Found)
+    (h : Steppable cost bound tol t d l p v f s found) (br : Branches) (made : Cut cost bound tol (boxIn t v found) (s .best .vector) br)
+    (all : Bool) (stay : all ≡ true → br .best ≡ s .best)
   where
-    abbrev n : ℕ
-    n = s .rows
+    abbrev g : Listing
+    g = s .list
+
+    abbrev list : List Box
+    list = listOf t d v g
+
+    abbrev at : ℕ
+    at = firstSmallest bound list
+
+    abbrev rest : List Box
+    rest = without list at
 
     abbrev mark : Mark
     mark = markOf tol (br .best)
 
+    abbrev keep : Box → Bool
+    keep = keptBy bound mark
+
     abbrev b : Box
-    b = rowAt t at
+    b = boxIn t v found
 
     abbrev kept : List Box
-    kept = boxesLeft t d n at mark all (br .left) (br .right)
+    kept = remaining bound mark list (leftHalf b) (rightHalf b)
 
     abbrev after : Search.State
-    after = split cost bound tol (stateIn t s)
-
-    entries : (k : ℕ) → k < n → entryAt d k ≡ bound (rowAt t k)
-    entries = stored-at bound t d n (p .stored)
-
-    -- where best stays every open box is kept beside it, tested or not
-    decides : (k : ℕ) → k < n → staysAt t d at mark all k ≡ cond (eqb k at) false (keptBy bound mark (rowAt t k))
-    decides k h = rw (entries k h, by all stay)
-      where
-        by : (a : Bool) → (a ≡ true → br .best ≡ s .best) → (a || keptBy bound mark (rowAt t k)) ≡ keptBy bound mark (rowAt t k)
-        by true same = rw (same refl) (sym (p .kept k h))
-        by false same = refl
-
-    taken : boxAt (rowsOf t n) at ≡ b
-    taken = rows-at t n at zeroBox (p .inside)
-
-    kept-is : keepIf (keptBy bound mark) (without (rowsOf t n) at ++ (leftHalf b ∷ rightHalf b ∷ [])) ≡ kept
-    kept-is =
-        sym (left-kept bound (keptBy bound mark) t d n at mark all entries decides (leftHalf b) (rightHalf b) (br .left) (br .right) (made .left) (made .right))
+    after = split cost bound tol (stateIn t d v s)
 
     -- the split, part by part
     split-is : after ≡ record { best = br .best .vector; list = kept; count = suc (s .count); peak = max (s .peak) (length kept) }
     unfolding split
-    split-is = rw (← p .first, taken, ← kept-is, made .best)
+    split-is = rw (h .chosen .box, made .best)
 
-    -- there is room for as many boxes as the table has rows, and for all that are open
-    room-is : roomIn t d ≡ rowCount t
-    room-is = omega (arith, p .entries)
+    all-stay : all ≡ true → All (λ x. keep x ≡ true) list
+    all-stay e = rw (stay e) (h .kept)
 
-    all-open : min n (roomIn t d) ≡ n
-    all-open = omega (arith, p .room, p .entries)
+    pub replaceable : Replaceable bound t d l p v f g found mark all (br .left) (br .right)
+    replaceable =
+        record {
+          listed = h .stands .listed;
+          chosen = h .chosen;
+          below = made .fits;
+          stay = all-stay;
+          left-tested = same-tested bound (br .left) refl (sym (made .left .half)) (made .left);
+          right-tested = same-tested bound (br .right) refl (sym (made .right .half)) (made .right);
+          room = omega (arith, h .room, h .entries);
+        }
 
-    module _ (r : Replaced) (u : List ℤ) (e : List ℕ) (out : ReplacedBy t d n at mark all (br .left) (br .right) r u e) where
-      -- whether the table is too small
-      pub step-told : r .full ≡ ltb (rowCount t) (length (after .list))
-      step-told = rw (all-open, room-is) at (out .told) ∙ ap (λ (x : Search.State). ltb (rowCount t) (length (x .list))) (sym split-is)
+    -- how many of the others are kept, and how many halves
+    abbrev others : ℕ
+    others = length (keepIf keep rest)
 
-      pub step-moved :
-          r .full ≡ false → (count peak : ℕ) → count ≡ s .count + 1 → peak ≡ max (s .peak) (r .rows) →
-          Moved cost bound tol t d s (record { best = br .best; rows = r .rows; count = count; peak = peak }) u e
-      step-moved left count peak counts peaks =
-          let h = rw all-open at (out .held left) in
-          let j = r .rows in
-          record {
-            best = rw (made .best);
-            fits = made .fits;
-            stored =
-                h .entries
-                ∙ left-bounds bound (keptBy bound mark) t d n at mark all entries decides (leftHalf b) (rightHalf b) (br .left) (br .right) (made .left) (made .right)
-                ∙ ap (map bound) (sym (h .rows));
-            state = rw (counts, peaks, h .rows, add-one, h .told) (sym split-is);
-            long = h .long;
-            long-entries = h .long-entries;
-            rest = rw peaks (rest-later t u (16 * max n j) (16 * max (s .peak) j) (omega (arith, p .longest)) (h .rest));
-            rest-entries = rw peaks (rest-later d e (max n j) (max (s .peak) j) (omega (arith, p .longest)) (h .rest-entries));
-          }
+    halves : (x : Box) (k : Bool) → k ≡ keep x → length (keepIf keep (x ∷ [])) ≡ cond k 1 0
+    halves x true e = rw (← e)
+    halves x false e = rw (← e)
 
-      -- where best stays, so do the entries before the row taken out
-      pub step-front : r .full ≡ false → all ≡ true → (k : ℕ) → k < at → entryAt e k ≡ entryAt d k
-      step-front left stays k less =
-          let h = rw all-open at (out .held left) in
-          let q = staysAt t d at mark all in
-          let front = picked (entryAt d) q n in
-          let passes : (j : ℕ) → j ≤ k → q j ≡ true = λ j before. rw (ne-eqb j at (λ same. absurd (omega arith)), stays) in
-          let here = picked-at (entryAt d) q 0 k n (omega (arith, p .inside)) passes in
-          let first = ifKept (br .left) (br .left .bound) in
-          let second = ifKept (br .right) (br .right .bound) in
-          let there : k < r .rows = omega (arith, h .told, left-number t d at mark all (br .left) (br .right) n, picked-length (entryAt d) q n, here .0) in
-          sym (getD-take (r .rows) e k 0 there)
-          ∙ ap (λ (l : List ℕ). entryAt l k) (h .entries)
-          ∙ List·getD-append (front ++ first) second 0 k (omega (arith, length-append front first, here .0))
-          ∙ List·getD-append front first 0 k (here .0)
-          ∙ here .1
+    abbrev more : ℕ
+    more = cond (br .left .kept) 1 0 + cond (br .right .kept) 1 0
+
+    remain : length kept ≡ others + more
+    remain =
+        let two = leftHalf b ∷ rightHalf b ∷ [] in
+        omega (
+          arith,
+          ap (λ (x : List Box). length x) (append-kept keep rest two),
+          length-append (keepIf keep rest) (keepIf keep two),
+          ap (λ (x : List Box). length x) (append-kept keep (leftHalf b ∷ []) (rightHalf b ∷ [])),
+          length-append (keepIf keep (leftHalf b ∷ [])) (keepIf keep (rightHalf b ∷ [])),
+          halves (leftHalf b) (br .left .kept) (made .left .decided),
+          halves (rightHalf b) (br .right .kept) (made .right .decided),
+        )
+
+    -- the box that was found is one more, if it is kept
+    with-own : (own : Bool) → own ≡ keep b → length (keepIf keep list) ≡ others + cond own 1 0
+    with-own own is =
+        omega (
+          arith,
+          takes-sum (λ x. cond (keep x) 1 0) (takes-at zeroBox list at (h .chosen .inside)),
+          count-kept keep list,
+          count-kept keep rest,
+          ap {B = ℕ} (λ (x : Box). cond (keep x) 1 0) (h .chosen .box),
+          ap {B = ℕ} (λ (x : Bool). cond x 1 0) is,
+        )
+
+    counted : number (keptAt t d mark) (min (g .rows) (roomIn t d)) + number (keptAt v f mark) (min (g .late) (roomIn v f)) ≡ length (keepIf keep list)
+    counted =
+        let far = picked (rowAt t) (keptAt t d mark) (g .rows) in
+        let near = picked (rowAt v) (keptAt v f mark) (g .late) in
+        let listed = h .stands .listed in
+        let rows-all : min (g .rows) (roomIn t d) ≡ g .rows = omega (arith, listed .room) in
+        let late-all : min (g .late) (roomIn v f) ≡ g .late = omega (arith, listed .late-room) in
+        rw (rows-all, late-all)
+        (omega (
+          arith,
+          picked-length (rowAt t) (keptAt t d mark) (g .rows),
+          picked-length (rowAt v) (keptAt v f mark) (g .late),
+          length-append far near,
+          ap (λ (x : List Box). length x) (boxes-are bound t d l p v f g list listed mark (made .fits)),
+        ))
+
+    -- whether the table is too small
+    pub step-told : (own : Bool) → own ≡ keep b → (full : Bool) → full ≡ tooMany t d v f g mark all own more → full ≡ ltb (rowCount t) (length (after .list))
+    step-told own is full told = told ∙ rw split-is (by (leb (g .number + more) (rowCount t + 1)) refl)
+      where
+        one-less : length list ≡ suc (length rest)
+        one-less =
+            omega (arith, takes-sum (λ x. 1) (takes-at zeroBox list at (h .chosen .inside)), ones list, ones rest)
+          where
+            ones : (xs : List Box) → sum (λ x. 1) xs ≡ length xs
+            ones [] = refl
+            ones (x ∷ xs) = omega (arith, ones xs)
+
+        exact : (a : Bool) → a ≡ all → rowCount t + 1 < g .number + more →
+            cond a true (ltb (rowCount t + cond own 1 0) (number (keptAt t d mark) (min (g .rows) (roomIn t d)) + number (keptAt v f mark) (min (g .late) (roomIn v f)) + more))
+            ≡ ltb (rowCount t) (length kept)
+        exact true e many =
+            let whole = all-kept keep ((takes-all (takes-at zeroBox list at (h .chosen .inside)) (all-stay (sym e))) .1) in
+            sym (lt-ltb (rowCount t) (length kept) (omega (arith, remain, one-less, ap (λ (x : List Box). length x) whole, h .stands .listed .number)))
+        exact false e many = rw (counted, with-own own is, remain) (shifted (rowCount t) others (cond own 1 0) more)
+
+        by : (x : Bool) → leb (g .number + more) (rowCount t + 1) ≡ x →
+            cond x false (cond all true (ltb (rowCount t + cond own 1 0) (number (keptAt t d mark) (min (g .rows) (roomIn t d)) + number (keptAt v f mark) (min (g .late) (roomIn v f)) + more)))
+            ≡ ltb (rowCount t) (length kept)
+        by true e =
+            let few = leb-true (g .number + more) (rowCount t + 1) e in
+            sym (le-ltb (rowCount t) (length kept) (omega (arith, remain, one-less, length-kept keep rest, h .stands .listed .number)))
+        by false e = exact all refl (leb-false (g .number + more) (rowCount t + 1) e)
+
+    module _ (r : Listing) (u : List ℤ) (e m q : List ℕ) (w : List ℤ) (k : List ℕ)
+        (out : ReplacedIn bound t d v g mark (br .left .half) (br .right .half) r u e m q w k)
+      where
+        pub step-moved :
+            (count peak : ℕ) → count ≡ s .count + 1 → peak ≡ max (s .peak) (r .number) →
+            Moved cost bound tol t d v s (record { best = br .best; list = r; count = count; peak = peak }) u e m q w k
+        step-moved count peak counts peaks =
+            let listed = rw (made .left .half, made .right .half) at (out .listed) in
+            let longest : max (g .rows) (g .number) ≤ peak = omega (arith, h .stands .few, h .longest) in
+            record {
+              stands =
+                  record {
+                    best = rw (made .best);
+                    fits = made .fits;
+                    listed = rw (← listed .is) at listed;
+                    few = omega (arith, out .rows);
+                    late = out .late;
+                  };
+              state = rw (counts, peaks, listed .is, listed .number, add-one) (sym split-is);
+              within =
+                  record {
+                    long = out .within .long;
+                    long-entries = out .within .long-entries;
+                    rest = rest-later t u (16 * max (g .rows) (g .number)) (16 * peak) (omega arith) (out .within .rest);
+                    rest-entries = rest-later d e (max (g .rows) (g .number)) peak longest (out .within .rest-entries);
+                  };
+            }

@@ -1,21 +1,19 @@
-// One step of the search: the first box with the smallest bound is cut, and its halves take its place in the list.
+// A box is cut: the best vector after it, and the halves with their bounds.
 use boxes::Box;
 use jobs::Model;
 use lanes::Chunk;
 use open_boxes::Child;
 use open_boxes::Mark;
 use open_boxes::ahead;
-use open_boxes::replace;
 ghost use mathlib.Core.Path.{_≡_};
-ghost use mathlib.Core.Bool.{false, not};
-ghost use Prim.Native.Nat.{_≤_, _<_, max};
+ghost use mathlib.Core.Bool.{false};
+ghost use Prim.Native.Nat.{_≤_, _<_};
 ghost use Rattle.boxes.specs.Boxes.{volume};
 ghost use Rattle.boxes.specs.Split.{leftHalf, rightHalf};
 ghost use Rattle.points.specs.Points.{pointsOf};
 ghost use Rattle.residuals.specs.Cost.{bound, cost};
-ghost use Rattle.certificate.specs.Search.{ahead, better};
+ghost use Rattle.certificate.specs.Search.{better};
 ghost use Rattle.search.specs.Inside.{Evaluable, bestOf, NextFits, markOf, keptBy, childOf, testedAgain, Tested, Cut};
-ghost use Rattle.search.specs.Inside.{Steppable, StepOutcome};
 
 // The best vector and its cost, C.
 pub struct Best {
@@ -162,7 +160,7 @@ fn tested_again(child: Child, mark: Mark) -> Child
 
 // Cuts a box of two vectors or more, finds the halves' bounds, and tries the low vector of each half. The left half has the low vector of
 // the box itself, which is new only if the box is the given one; of a right half that is dropped no vector becomes best.
-fn cut_box(
+pub fn cut_box(
     store: &[u8],
     lanes: &[Chunk],
     m: Model,
@@ -193,80 +191,5 @@ fn cut_box(
         best: new,
         left: tested_again(first, mark),
         right: tested_again(second, mark),
-    }
-}
-
-// Whether the best vector is still the same: what is best after both halves were tried is not ahead of it.
-fn stayed(t: u64, best: Best, new: Best) -> bool
-    ensures { λ r. ⌜ r ≡ not (ahead t (best .cost) (best .vector) (new .cost) (new .vector)) ⌝ }
-{
-    let vector = new.vector;
-    !ahead(mark_of(t, best), new.cost, vector)
-}
-
-fn larger(a: usize, b: usize) -> usize
-    ensures { λ r. ⌜ r ≡ max a b ⌝ }
-{
-    if a < b { b } else { a }
-}
-
-// The state of a search but for the open boxes and their bounds, which are the first rows of the table and the first entries beside it.
-pub struct State {
-    pub best: Best,
-    pub rows: usize,
-    pub count: u32,
-    pub peak: usize,
-}
-
-// What a step comes to: the state after one more split, or the same state where there is no room for it; and whether best stayed.
-pub struct Stepped {
-    pub full: bool,
-    pub stayed: bool,
-    pub state: State,
-}
-
-// Splits the box in row `at`, the first with the smallest bound. Where best stays, so do all other boxes, which are then not tested. Where
-// there is no room nothing is written.
-pub fn step(
-    store: &[u8],
-    lanes: &[Chunk],
-    m: Model,
-    t: u64,
-    table: &mut [i16],
-    bounds: &mut [u64],
-    s: State,
-    at: usize,
-) -> Stepped
-    requires { ⌜
-        Evaluable (now store) (now lanes) m
-        × Steppable (cost m (pointsOf (now store))) (bound m (pointsOf (now store))) t (now table) (now bounds) s at ⌝ }
-    ensures { λ r. ⌜
-        StepOutcome (cost m (pointsOf (now (store .entry)))) (bound m (pointsOf (now (store .entry)))) t
-        (now (table .entry)) (now (bounds .entry)) s at r (now (table .exit)) (now (bounds .exit)) ⌝ }
-{
-    let best = s.best;
-    let b = rows::read_row(table, at);
-    let br = cut_box(store, lanes, m, t, b, best, s.count == 0);
-    let new = br.best;
-    let left = br.left;
-    let right = br.right;
-    let all = stayed(t, best, new);
-    let after = replace(table, bounds, s.rows, at, mark_of(t, new), all, left, right);
-    if after.full {
-        return Stepped {
-            full: true,
-            stayed: all,
-            state: s,
-        };
-    }
-    Stepped {
-        full: false,
-        stayed: all,
-        state: State {
-            best: new,
-            rows: after.rows,
-            count: s.count + 1,
-            peak: larger(s.peak, after.rows),
-        },
     }
 }

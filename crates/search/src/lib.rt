@@ -1,6 +1,7 @@
 // The search: branch and bound over the boxes of a lent table, with the certificate of its answer.
 mod branch;
 mod run;
+mod step;
 
 use crate::run::begin;
 use crate::run::run;
@@ -64,8 +65,28 @@ pub fn search(store: &[u8], job: Job, table: &mut [i16], bounds: &mut [u64]) -> 
             let chunk: Chunk = [column; 5];
             let mut lanes = [chunk; 54];
             stores::decode(&mut lanes, store, m.d, scale::power(m.scale));
-            let first = begin(store, &lanes, m, job.t, table, bounds, domain, start);
-            run(store, &lanes, job, table, bounds, first)
+            let mut late = [0i16; 2048];
+            let mut beside = [0u64; 128];
+            let first = begin(
+                store,
+                &lanes,
+                m,
+                job.t,
+                &mut late,
+                &mut beside,
+                domain,
+                start,
+            );
+            run(
+                store,
+                &lanes,
+                job,
+                table,
+                bounds,
+                &mut late,
+                &mut beside,
+                first,
+            )
         }
         Check::Refuse(why) => refusal(why),
     }

@@ -1,64 +1,73 @@
-// The run of a search: its beginning, and step after step up to an answer.
+// The run of a search: its beginning, step after step, and its end.
 use crate::Answer;
 use crate::Kind;
 use crate::branch::Best;
-use crate::branch::State;
 use crate::branch::mark_of;
-use crate::branch::step;
 use crate::branch::tested;
+use crate::step::State;
+use crate::step::add;
+use crate::step::step;
+use blocks::GONE;
+use blocks::Leasts;
+use blocks::Places;
 use boxes::Box;
-use first_smallest::Front;
-use first_smallest::lower_bound;
+use first_smallest::Lowest;
 use jobs::Job;
 use jobs::Model;
 use lanes::Chunk;
+use listing::Listing;
 use model::NO_CAP;
-use open_boxes::put;
 ghost use mathlib.Core.Path.{_≡_};
-ghost use mathlib.Core.Bool.{cond, _&&_};
+ghost use mathlib.Core.Bool.{cond};
 ghost use Prim.Native.Nat.{_≤_};
 ghost use lib.Dec.{eqb, leb};
 ghost use lib.ListN.{length};
 ghost use Rattle.boxes.specs.Boxes.{InBox};
-ghost use Rattle.first_smallest.specs.FirstSmallest.{nothing};
 ghost use Rattle.points.specs.Points.{pointsOf};
 ghost use Rattle.residuals.specs.Cost.{cost, bound};
 ghost use Rattle.rows.specs.Rows.{rowCount};
-ghost use Rattle.search.specs.Inside.{Evaluable, Begun, answerWith, Ran};
+ghost use Rattle.search.specs.Inside.{Evaluable, Begun, Ended, answerWith, Ran};
 ghost use Rattle.search.specs.Search.{searched};
 
-// The best vector is the start vector. The given box is open if it is kept.
+// The best vector is the start vector. The given box is open if it is kept: it is late, and the table is not written.
 pub fn begin(
     store: &[u8],
     lanes: &[Chunk],
     m: Model,
     t: u64,
-    table: &mut [i16],
-    bounds: &mut [u64],
+    late: &mut [i16],
+    beside: &mut [u64],
     domain: Box,
     start: [i16; 8],
 ) -> State
-    requires { ⌜ Evaluable (now store) (now lanes) m × (1 ≤ rowCount (now table)) × (1 ≤ length (now bounds)) ⌝ }
+    requires { ⌜ Evaluable (now store) (now lanes) m × (length (now late) ≡ 2048) × (length (now beside) ≡ 128) ⌝ }
     ensures { λ r. ⌜
         Begun (cost m (pointsOf (now (store .entry)))) (bound m (pointsOf (now (store .entry)))) t start domain
-        (now (table .entry)) (now (bounds .entry)) r (now (table .exit)) (now (bounds .exit)) ⌝ }
+        r (now (late .exit)) (now (beside .exit)) ⌝ }
 {
     let c = model::cost_in(store, lanes, m, start, NO_CAP);
     let best = Best {
         vector: start,
         cost: c,
     };
-    let rows = put(
-        table,
-        bounds,
-        0,
+    let none = Listing {
+        rows: 0,
+        blocks: 0,
+        late: 0,
+        near: Lowest { at: 0, bound: GONE },
+        number: 0,
+    };
+    let list = add(
+        late,
+        beside,
+        none,
         tested(store, lanes, m, domain, mark_of(t, best)),
     );
     State {
         best,
-        rows,
+        list,
         count: 0,
-        peak: rows,
+        peak: list.number,
     }
 }
 
@@ -67,13 +76,14 @@ fn answer(kind: Kind, s: State, low: u64) -> Answer
 {
     let best = s.best;
     let vector = best.vector;
+    let list = s.list;
     Answer {
         kind,
         vector,
         cost: best.cost,
         bound: low,
         count: s.count,
-        open: s.rows,
+        open: list.number,
         peak: s.peak,
     }
 }
@@ -85,26 +95,89 @@ fn is_solved(t: u64, gap: u64, open: usize) -> bool
     if t == 0 { open == 0 } else { gap <= t }
 }
 
-// What is known of the list's front after a step that took out the box in row `at`: where best stayed, what was known of the entries before
-// that row, since these did not move.
-fn kept_front(stayed: bool, known: Front, at: usize) -> Front
-    ensures { λ r. ⌜ r ≡ cond (stayed && leb (known .end) at) known nothing ⌝ }
+// What the steps come to: the answer's kind, L, and the state.
+pub struct End {
+    pub kind: Kind,
+    pub low: u64,
+    pub state: State,
+}
+
+fn ended(kind: Kind, low: u64, state: State) -> End
+    ensures { λ r. ⌜ r ≡ record { kind = kind; low = low; state = state } ⌝ }
 {
-    if stayed {
-        if known.end <= at {
-            return known;
-        }
-    }
-    Front { at: 0, end: 0 }
+    End { kind, low, state }
 }
 
 // Step after step, from the beginning: solved is the paper's (a), spent its (b), and `step` its (c).
+fn steps(
+    store: &[u8],
+    lanes: &[Chunk],
+    job: Job,
+    table: &mut [i16],
+    bounds: &mut [u64],
+    leasts: &mut Leasts,
+    places: &mut Places,
+    late: &mut [i16],
+    beside: &mut [u64],
+    first: State,
+) -> End
+    requires { ⌜
+        Evaluable (now store) (now lanes) (job .model) × (1 ≤ rowCount (now table)) × (rowCount (now table) ≤ length (now bounds))
+        × InBox (job .start) (job .domain) × (length (now leasts) ≡ 64) × (length (now places) ≡ 64) ⌝ }
+    requires { ⌜
+        Begun (cost (job .model) (pointsOf (now store))) (bound (job .model) (pointsOf (now store))) (job .t) (job .start) (job .domain)
+        first (now late) (now beside) ⌝ }
+    ensures { λ r. ⌜
+        Ended (bound (job .model) (pointsOf (now (store .entry)))) (job .t)
+        (searched (now (store .entry)) job (rowCount (now (table .entry)))) (now (table .entry)) (now (bounds .entry))
+        r (now (table .exit)) (now (bounds .exit)) (now (leasts .exit)) (now (places .exit)) (now (late .exit)) (now (beside .exit)) ⌝ }
+{
+    let m = job.model;
+    let mut s = first;
+    loop {
+        let best = s.best;
+        let list = s.list;
+        let found = listing::lowest(leasts, places, list, best.cost);
+        let spot = found.spot;
+        let low = spot.bound;
+        let solved = is_solved(job.t, best.cost - low, list.number);
+        let spent = s.count == job.budget;
+        if solved {
+            return ended(Kind::Solved, low, s);
+        }
+        if spent {
+            return ended(Kind::Spent, low, s);
+        }
+        let next = step(
+            store,
+            lanes,
+            m,
+            job.t,
+            table,
+            bounds,
+            leasts,
+            places,
+            late,
+            beside,
+            s,
+            found,
+        );
+        if next.full {
+            return ended(Kind::Full, low, s);
+        }
+        s = next.state;
+    }
+}
+
+// From the beginning to the answer. In the end the open boxes are the first rows of the table.
 pub fn run(
     store: &[u8],
     lanes: &[Chunk],
     job: Job,
     table: &mut [i16],
     bounds: &mut [u64],
+    late: &mut [i16],
+    beside: &mut [u64],
     first: State,
 ) -> Answer
     requires { ⌜
@@ -112,31 +185,38 @@ pub fn run(
         × InBox (job .start) (job .domain) ⌝ }
     requires { ⌜
         Begun (cost (job .model) (pointsOf (now store))) (bound (job .model) (pointsOf (now store))) (job .t) (job .start) (job .domain)
-        (now table) (now bounds) first (now table) (now bounds) ⌝ }
+        first (now late) (now beside) ⌝ }
     ensures { λ r. ⌜
         Ran (bound (job .model) (pointsOf (now (store .entry)))) (searched (now (store .entry)) job (rowCount (now (table .entry))))
-        (now (table .entry)) (now (bounds .entry)) first r (now (table .exit)) (now (bounds .exit)) ⌝ }
+        (now (table .entry)) (now (bounds .entry)) r (now (table .exit)) (now (bounds .exit)) ⌝ }
 {
-    let m = job.model;
-    let mut s = first;
-    let mut front = Front { at: 0, end: 0 };
-    loop {
-        let best = s.best;
-        let low = lower_bound(bounds, s.rows, best.cost, front);
-        let solved = is_solved(job.t, best.cost - low.bound, s.rows);
-        let spent = s.count == job.budget;
-        if solved {
-            return answer(Kind::Solved, s, low.bound);
-        }
-        if spent {
-            return answer(Kind::Spent, s, low.bound);
-        }
-        let next = step(store, lanes, m, job.t, table, bounds, s, low.at);
-        if next.full {
-            return answer(Kind::Full, s, low.bound);
-        }
-        let known = low.front;
-        front = kept_front(next.stayed, known, low.at);
-        s = next.state;
-    }
+    let mut leasts: Leasts = [0; 64];
+    let mut places: Places = [0; 64];
+    let end = steps(
+        store,
+        lanes,
+        job,
+        table,
+        bounds,
+        &mut leasts,
+        &mut places,
+        late,
+        beside,
+        first,
+    );
+    let kind = end.kind;
+    let s = end.state;
+    let best = s.best;
+    let list = s.list;
+    listing::settle(
+        table,
+        bounds,
+        &mut leasts,
+        &mut places,
+        late,
+        beside,
+        list,
+        mark_of(job.t, best),
+    );
+    answer(kind, s, end.low)
 }

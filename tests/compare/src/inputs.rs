@@ -244,6 +244,39 @@ pub fn small_with_threshold(random: &mut Random, limit: u64) -> Input {
     Input { job: Job { model, t: 0, budget: 0, rows, domain, start }, store: store_of(&points) }
 }
 
+/// A sound job with at most four coordinates, a few records and a box so large that a search of it opens hundreds of boxes; once
+/// in five with a limit on spoiled samples.
+pub fn long(random: &mut Random) -> Input {
+    let (n, d) =
+        random.pick(&[(1, 2), (2, 1), (1, 3), (3, 1), (1, 4), (1, 4), (2, 2), (2, 2), (2, 2), (4, 1), (4, 1)]);
+    let p = random.below(3) as u8;
+    let epsilon = random.pick(&[1, 2, 5, 20, 60, 300]);
+    let mut model = Model { n, d, s: random.pick(&[0, 0, 1, 3]), p, epsilon };
+    let reach = random.pick(&[30, 60, 200, 600]);
+    let used = model.used();
+    let middle = vector(random, used, Size::Medium);
+    let side = |w: i16, k: usize| if k < used { w } else { 0 };
+    let low = std::array::from_fn(|k| side(middle[k] - reach, k));
+    let high = std::array::from_fn(|k| side(middle[k] + reach, k));
+    let domain = Box8 { low, high };
+    let (hidden, start) = (inside(random, &domain), inside(random, &domain));
+    let count = random.size(3, 12);
+    let mut points = near_lines(random, &model, &hidden, count);
+    // Where no line fits, bounds are far below costs.
+    if random.once_in(2) {
+        for point in &mut points {
+            point.y = random.between(-300, 300) as i16;
+        }
+    }
+    meet_a_residual(random, &mut model, &points, &start);
+    let job = Job { model, t: 0, budget: 0, rows: 0, domain, start };
+    let mut input = Input { job, store: store_of(&points) };
+    if random.once_in(5) {
+        input.limit_spoiled(random);
+    }
+    input
+}
+
 fn side(domain: &Box8, k: usize) -> u64 {
     (domain.high[k] as i64 - domain.low[k] as i64) as u64 + 1
 }

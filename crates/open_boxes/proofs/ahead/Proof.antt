@@ -49,7 +49,8 @@ returns-4 c =
     let two = three .before .before in
     let a = start two .args in
     let same : a .number ≡ a .mark .cost = omega (arith, not-less two, three .if3 .left) in
-    rw (le-ltb (a .number) (a .mark .cost) (not-less two), eq-eqb (a .mark .t) 0 (zero two), eq-eqb (a .number) (a .mark .cost) same) (c .before2 .ensures)
+    rw (le-ltb (a .number) (a .mark .cost) (not-less two), eq-eqb (a .mark .t) 0 (zero two), eq-eqb (a .number) (a .mark .cost) same)
+    (c .before2 .ensures)
 
 pub ahead-spec : {M : Type 1} → statement M
 ahead-spec = tie.close (tie.spec returns returns-2 returns-3 before-requires returns-4)

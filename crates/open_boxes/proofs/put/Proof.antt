@@ -35,7 +35,8 @@ returns c =
     let found = inside .before .before in
     let a = found .before .before .args in
     let room : a .n < roomIn (a .table .now) (a .bounds .now) = omega (arith, inside .if2 .taken, found .smaller .ensures) in
-    rw (inside .before .if1 .taken, lt-ltb (a .n) (roomIn (a .table .now) (a .bounds .now)) room) (refl, (c .before .write-row .ensures, refl))
+    rw (inside .before .if1 .taken, lt-ltb (a .n) (roomIn (a .table .now) (a .bounds .now)) room)
+    (refl, (c .before .write-row .ensures, refl))
 
 returns-2 : tie.Need-returns-2
 returns-2 c =

@@ -42,8 +42,11 @@ loop-less c = omega arith
 
 loop-again : tie.Need-loop-again Inv-loop μ-loop
 loop-again c =
-    let l = c .before .before in
-    (omega arith, simp length-set (l .loop .inv .1), rw (l .loop .inv .2) (down-turn (l .before .args .part .now) 0 1 (l .loop .k) 0 (omega arith) (omega arith)))
+    let l = c .before .before in (
+      omega arith,
+      simp length-set (l .loop .inv .1),
+      rw (l .loop .inv .2) (down-turn (l .before .args .part .now) 0 1 (l .loop .k) 0 (omega arith) (omega arith)),
+    )
 
 same-length : tie.Need-same-length Inv-loop μ-loop
 same-length c = c .before .loop .inv .1

@@ -1,38 +1,51 @@
--- The invariant: of the rows passed those that stay are the first, and the rest is as it was. The measure is the rows left.
+-- The invariant: of the rows passed those that are kept are the first, and the rest is as it was. The measure is the rows left.
 use mathlib.Core.Path.{_≡_, sym, _∙_}
 use mathlib.Core.Logic.{⊎-elim}
 use mathlib.Core.Bool.{true, false}
 use lib.ListN.{length}
 use Prim.Native.Nat.{_+_, _-_, _≤_, _<_}
 use native.Mathlib.Omega.{arith}
+use borrow.Author.Needs.{needs}
 use Rattle.rows.specs.Rows.{rowCount, rowAt}
-use Rattle.open_boxes.specs.OpenBoxes.{staysAt, picked, Held}
+use Rattle.open_boxes.specs.OpenBoxes.{keptAt, picked, Held}
 use Rattle.first_smallest.specs.FirstSmallest.{entryAt}
 use Rattle.open_boxes.proofs.Listing.{none-held, same-row, same-entry, row-held}
 use Rattle.open_boxes.proofs.sort_out.Statement.{statement}
 use Rattle.open_boxes.proofs.sort_out.Tie as tie
 
 abbrev Inv-loop : tie.InvT-loop
-Inv-loop table₀ bounds₀ n at mark stay₀ i₀ table bounds stay i =
-    (i ≤ n) × Held table₀ bounds₀ i (picked (rowAt table₀) (staysAt table₀ bounds₀ at mark false) i) (picked (entryAt bounds₀) (staysAt table₀ bounds₀ at mark false) i) stay table bounds
+Inv-loop table₀ bounds₀ n mark stay₀ i₀ table bounds stay i =
+    (i ≤ n)
+    × Held table₀ bounds₀ i
+    (picked (rowAt table₀) (keptAt table₀ bounds₀ mark) i)
+    (picked (entryAt bounds₀) (keptAt table₀ bounds₀ mark) i)
+    stay table bounds
 
 abbrev μ-loop : tie.MeasureT-loop
-μ-loop table₀ bounds₀ n at mark stay₀ i₀ table bounds stay i = n - i
+μ-loop table₀ bounds₀ n mark stay₀ i₀ table bounds stay i = n - i
 
 loop-holds : tie.Need-loop-holds Inv-loop μ-loop
 unfolding picked
 loop-holds c = let a = c .before .args in (omega arith, none-held (a .table .now) (a .bounds .now))
 
-stays-requires : tie.Need-stays-requires Inv-loop μ-loop
-stays-requires c κs = let l = c .before .before .before in omega (arith, l .loop .inv .1 .long-entries)
+mul-keeps : tie.Need-mul-keeps Inv-loop μ-loop
+mul-keeps c = search needs
+
+slice-read-keeps : tie.Need-slice-read-keeps Inv-loop μ-loop
+slice-read-keeps c = let l = c .before .before .before in omega (arith, l .loop .inv .1 .long-entries)
+
+keeps-requires : tie.Need-keeps-requires Inv-loop μ-loop
+keeps-requires c κs = search needs
 
 move-box-requires : tie.Need-move-box-requires Inv-loop μ-loop
 move-box-requires c κs =
     let l = c .before .before .before .before .before .before .before in
-    (l .loop .inv .1 .few, omega (arith, l .loop .inv .1 .long), omega (arith, l .loop .inv .1 .long-entries))
+    (omega (arith, l .loop .inv .1 .few), omega (arith, l .loop .inv .1 .long), omega (arith, l .loop .inv .1 .long-entries))
 
 add-stay : tie.Need-add-stay Inv-loop μ-loop
-add-stay c = let l = c .before .before .before .before .before .before .before .before .before .before .before in omega (arith, l .loop .inv .1 .few)
+add-stay c =
+    let l = c .before .before .before .before .before .before .before .before .before .before .before in
+    omega (arith, l .loop .inv .1 .few)
 
 add-i : tie.Need-add-i Inv-loop μ-loop
 add-i c = omega arith
@@ -46,12 +59,14 @@ loop-again c =
     let a = l .before .before .args in
     let t = a .table .now in
     let d = a .bounds .now in
-    let q = staysAt t d (a .at) (a .mark) false in
+    let q = keptAt t d (a .mark) in
     let i = l .loop .i in
     let there : i < rowCount t = omega arith in
     let entry : i < length d = omega arith in
     let p = l .loop .inv .1 in
-    let is : c .before .stays .result ≡ q i = rw (same-row t d q i (l .loop .stay) (l .loop .table) (l .loop .bounds) there entry p, same-entry t d q i (l .loop .stay) (l .loop .table) (l .loop .bounds) there entry p) at (c .before .stays .ensures) in (
+    let same = same-row t d q i (l .loop .stay) (l .loop .table) (l .loop .bounds) there entry p in
+    let number = same-entry t d q i (l .loop .stay) (l .loop .table) (l .loop .bounds) there entry p in
+    let is : c .before .keeps .result ≡ q i = rw (same, number) at (c .before .keeps .ensures) in (
       omega arith,
       ⊎-elim
           (λ w.
@@ -83,7 +98,9 @@ sort-out-spec =
     Inv-loop
     μ-loop
     loop-holds
-    stays-requires
+    mul-keeps
+    slice-read-keeps
+    keeps-requires
     move-box-requires
     add-stay
     add-i

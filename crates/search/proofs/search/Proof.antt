@@ -48,8 +48,20 @@ decode-requires c κs = search needs
 slice-aggregate-begin : tie.Need-slice-aggregate-begin
 slice-aggregate-begin c = search needs
 
+slice-aggregate-begin-2 : tie.Need-slice-aggregate-begin-2
+slice-aggregate-begin-2 c = search needs
+
+slice-aggregate-begin-3 : tie.Need-slice-aggregate-begin-3
+slice-aggregate-begin-3 c = search needs
+
 slice-aggregate-run : tie.Need-slice-aggregate-run
 slice-aggregate-run c = search needs
+
+slice-aggregate-run-2 : tie.Need-slice-aggregate-run-2
+slice-aggregate-run-2 c = search needs
+
+slice-aggregate-run-3 : tie.Need-slice-aggregate-run-3
+slice-aggregate-run-3 c = search needs
 
 -- the store is decoded
 module _ (c : tie.After-decode) where
@@ -65,19 +77,14 @@ module _ (c : tie.After-decode) where
       }
 
 begin-requires : tie.Need-begin-requires
-begin-requires c κs =
-    let q = c .before .before .before .before in
-    let e = told q in
-    (evaluable q, omega (arith, rows e), omega (arith, rows e, entries e))
+begin-requires c κs = (evaluable (c .before .before .before .before), search needs, search needs)
 
 run-requires : tie.Need-run-requires
 run-requires c κs =
-    let q = c .before .before .before .before .before .before in
-    let e = told (q .before .before .before .before .before) in
-    let b = q .begin .ensures in (
-      (evaluable (q .before .before .before .before .before), omega (arith, rows e, b .long), omega (arith, entries e, b .long, b .long-entries), (runs e) .inside),
-      record { best = b .best; fits = b .fits; stored = b .stored; state = b .state; long = refl; long-entries = refl; rest = refl; rest-entries = refl },
-    )
+    let q = c .before .before .before .before .before .before .before in
+    let d = q .before .before .before .before .before in
+    let e = told d in
+    ((evaluable d, omega (arith, rows e), entries e, (runs e) .inside), q .begin .ensures)
 
 enum-known-why : tie.Need-enum-known-why
 enum-known-why c = search needs
@@ -93,12 +100,11 @@ same-length-2 c = search needs
 
 returns : tie.Need-returns
 returns c =
-    let r = c .before .before .before in
-    let q = r .before .before .before .before .before .before .before in
-    let e = told (q .before .before .before .before .before) in
+    let r = c .before .before .before .before .before in
+    let e = told (r .before .before .before .before .before .before .before .before .before .before .before .before .before) in
     let a = begun e .args in
-    promised-pass (a .store .now) (a .job) (a .table .now) (a .bounds .now) (pass e) (q .begin .last .1 .1 .1 .1 .0) (r .run .last .1 .1 .1 .0)
-    (q .begin .last .1 .1 .1 .1 .1 .0) (r .run .last .1 .1 .1 .1 .0) (q .begin .result) (r .run .result) (q .begin .ensures) (r .run .ensures)
+    promised-pass (a .store .now) (a .job) (a .table .now) (a .bounds .now) (pass e) (r .run .last .1 .1 .1 .0) (r .run .last .1 .1 .1 .1 .0) (r .run .result)
+    (r .run .ensures)
 
 returns-2 : tie.Need-returns-2
 returns-2 c =
@@ -118,8 +124,12 @@ search-spec =
     power-requires
     decode-requires
     slice-aggregate-begin
+    slice-aggregate-begin-2
+    slice-aggregate-begin-3
     begin-requires
     slice-aggregate-run
+    slice-aggregate-run-2
+    slice-aggregate-run-3
     run-requires
     enum-known-why
     refusal-requires

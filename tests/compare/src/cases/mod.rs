@@ -85,6 +85,7 @@ pub const GROUPS: &[Group] = &[
     group("search-one-record", "search", 1500, one_record::pairs),
     group("search-one-record-cap", "search", 1, one_record::cap_reached),
     group("search-damaged", "search", 2000, search::damaged),
+    group("search-long", "search", 400, search::long),
     group("read_job", "read_job", 500, records::read_job),
     group("write_job", "write_job", 500, records::write_job),
     group("read_answer", "read_answer", 2000, records::read_answer),

@@ -79,6 +79,36 @@ pub fn wide(calls: &dyn Calls, random: &mut Random) -> Outcome {
     with_case(run.compare(), || run.to_string())
 }
 
+/// Hundreds of open boxes, more than the product holds beside the table: one search, or one with each of some budgets, about
+/// where those boxes are moved into the table among them, or with each of some tables, of which most are full in the end.
+pub fn long(calls: &dyn Calls, random: &mut Random) -> Outcome {
+    let mut input = inputs::long(random);
+    input.job.t = random.pick(&[0, 0, 0, 1, 2, 5]);
+    let (any, from) = (random.between(100, 700) as u32, random.between(100, 400) as u32);
+    let (few, many) = (random.size(130, 200), random.size(200, 800));
+    let (budgets, tables) = match random.below(8) {
+        0 => (120..=135, many..=many),
+        1 => (250..=260, many..=many),
+        2 => (from..=from + 70, many..=many),
+        3 => (700..=700, few..=few + 40),
+        4 => (any..=any, few..=few),
+        _ => (any..=any, many..=many),
+    };
+    for (budget, rows) in budgets.flat_map(|budget| tables.clone().map(move |rows| (budget, rows))) {
+        input.job.budget = budget;
+        let length = 16 * rows + random.size(0, 15);
+        let entries = rows + random.pick(&[0, 0, 1, 20]);
+        let mut run = Run::new(random, input.clone(), length, entries);
+        run.call(calls);
+        with_case(run.compare(), || run.to_string())?;
+        // More splits and more rows change nothing then.
+        if run.is_solved() {
+            break;
+        }
+    }
+    Ok(())
+}
+
 /// Stores of nothing but gaps: every vector costs 0, and 0 is certified for any box, start, budget and table.
 pub fn gaps_alone(calls: &dyn Calls, random: &mut Random) -> Outcome {
     let limit = random.pick(&[1, 2, 30, 300]);

@@ -14,10 +14,17 @@ pub struct Told {
     pub numbers: [u64; 5],
 }
 
+/// An open box with its bound.
+#[derive(Clone, Copy)]
+struct Open {
+    domain: Box8,
+    bound: u64,
+}
+
 struct State {
     best: Vector,
     c: u64,
-    list: Vec<Box8>,
+    list: Vec<Open>,
     count: u32,
     peak: usize,
 }
@@ -68,24 +75,32 @@ impl StandIn {
         number < c || ties && number == c && before
     }
 
+    fn open(&self, job: &Job, points: &[Point], domain: Box8) -> Open {
+        Open { domain, bound: self.bound_of(&job.model, points, &domain) }
+    }
+
     /// Keeps the boxes that the rule keeps, by best and C.
-    fn keep(&self, job: &Job, points: &[Point], best: &Vector, c: u64, list: &mut Vec<Box8>) {
+    fn keep(&self, job: &Job, best: &Vector, c: u64, list: &mut Vec<Open>) {
         let keeps = |bound: u64, low: &Vector| match self.slip {
             KeepsEqualBounds => bound <= c,
             DropsByUnreachedC => self.ahead(job, bound, low, best, c.saturating_sub(job.t)),
             _ => self.ahead(job, bound, low, best, c),
         };
-        list.retain(|domain| {
-            keeps(self.bound_of(&job.model, points, domain), &domain.low) && !domain.is_one_vector()
+        // The last two are the halves.
+        let untested = if self.slips(Only128Tested) { 128..list.len().saturating_sub(2) } else { 0..0 };
+        let mut row = 0..;
+        list.retain(|Open { domain, bound }| {
+            let as_it_was = untested.contains(&row.next().unwrap());
+            as_it_was || keeps(*bound, &domain.low) && !domain.is_one_vector()
         });
     }
 
     fn begin(&self, job: &Job, points: &[Point]) -> State {
         let c = self.cost_of(&job.model, points, &job.start);
-        let mut list = vec![job.domain];
-        self.keep(job, points, &job.start, c, &mut list);
+        let mut list = vec![self.open(job, points, job.domain)];
+        self.keep(job, &job.start, c, &mut list);
         if self.slips(GivenBoxWithoutTies) {
-            list.retain(|domain| self.bound_of(&job.model, points, domain) < c);
+            list.retain(|open| open.bound < c);
         }
         State { best: job.start, c, count: 0, peak: list.len(), list }
     }
@@ -105,11 +120,15 @@ impl StandIn {
 
     /// The state after a split, whether or not it has room in the table.
     fn split(&self, job: &Job, points: &[Point], state: &State, l: u64) -> State {
-        let bound = |k: usize| self.bound_of(&job.model, points, &state.list[k]);
-        let mut smallest = (0..state.list.len()).filter(|&k| bound(k) == l);
-        let k = if self.slips(TakesLastSmallest) { smallest.last() } else { smallest.next() }.unwrap();
+        let open = state.list.len();
+        let mut smallest = (0..open).filter(|&k| state.list[k].bound == l);
+        let k = match self.slip {
+            TakesLastSmallest => smallest.last(),
+            TakesOfTheLast128First => smallest.clone().find(|k| k + 128 >= open).or(smallest.next()),
+            _ => smallest.next(),
+        };
         let mut list = state.list.clone();
-        let (left, right) = self.cut(&list.remove(k));
+        let (left, right) = self.cut(&list.remove(k.unwrap()).domain);
         let (mut best, mut c) = (state.best, state.c);
         let children = if self.slips(RightChildUncosted) { vec![left] } else { vec![left, right] };
         for child in children {
@@ -118,9 +137,9 @@ impl StandIn {
                 (best, c) = (child.low, cost);
             }
         }
-        list.extend([left, right]);
+        list.extend([left, right].map(|half| self.open(job, points, half)));
         let kept_by = if self.slips(KeptByOldBest) { state.best } else { best };
-        self.keep(job, points, &kept_by, c, &mut list);
+        self.keep(job, &kept_by, c, &mut list);
         State { best, c, count: state.count + 1, peak: state.peak.max(list.len()), list }
     }
 
@@ -129,8 +148,7 @@ impl StandIn {
         let rows = if self.slips(PartialRowUsed) { table.len().div_ceil(16) } else { table.len() / 16 };
         let mut state = self.begin(job, points);
         let (kind, l) = loop {
-            let open = state.list.iter().map(|domain| self.bound_of(&job.model, points, domain));
-            let l = open.min().unwrap_or(state.c).min(state.c);
+            let l = state.list.iter().map(|open| open.bound).min().unwrap_or(state.c).min(state.c);
             if let Some(kind) = self.stops(job, &state, l) {
                 break (kind, l);
             }
@@ -146,7 +164,7 @@ impl StandIn {
             state = next;
         };
         self.put_rows(&state.list, state.peak, table);
-        let entries = state.list.iter().map(|domain| self.bound_of(&job.model, points, domain)).collect();
+        let entries = state.list.iter().map(|open| open.bound).collect();
         self.put_bounds(entries, state.peak, bounds);
         self.told(kind, &state, l)
     }
@@ -159,8 +177,8 @@ impl StandIn {
         Told { kind, vector: state.best, numbers: [state.c, l, count, open, peak] }
     }
 
-    fn put_rows(&self, list: &[Box8], peak: usize, table: &mut [i16]) {
-        let mut rows: Vec<[Vector; 2]> = list.iter().map(|domain| [domain.low, domain.high]).collect();
+    fn put_rows(&self, list: &[Open], peak: usize, table: &mut [i16]) {
+        let mut rows: Vec<[Vector; 2]> = list.iter().map(|open| [open.domain.low, open.domain.high]).collect();
         if self.slips(RowsReversed) {
             rows.reverse();
         }

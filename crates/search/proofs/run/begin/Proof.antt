@@ -29,13 +29,16 @@ exact c =
 fits : (c : tie.After-cost-in) → c .cost-in .result < 18446744073709551615
 fits c = omega (arith, c .cost-in .ensures .1 .1 (c .before .before .before .pre .0 .decoded))
 
+domain-whole : (s : tie.Start) → Whole (s .args .domain)
+domain-whole s = record { low = search (needs, s .good); high = search (needs, s .good) }
+
 tested-requires : tie.Need-tested-requires
 tested-requires c κs =
     let costs = c .before .before .before in
     (costs .before .before .before .pre .0, rw (c .mark-of .ensures) (fits costs))
 
-put-requires : tie.Need-put-requires
-put-requires c κs = search needs
+add-requires : tie.Need-add-requires
+add-requires c κs = let s = c .before .before .before .before .before .before .before in (omega (arith, s .pre .1, s .pre .2), omega arith)
 
 same-length : tie.Need-same-length
 same-length c = search needs
@@ -43,22 +46,28 @@ same-length c = search needs
 same-length-2 : tie.Need-same-length-2
 same-length-2 c = search needs
 
-domain-whole : (s : tie.Start) → Whole (s .args .domain)
-domain-whole s = record { low = search (needs, s .good); high = search (needs, s .good) }
-
 returns : tie.Need-returns
 returns c =
-    let p = c .before .before .before in
-    let tests = p .before in
+    let adds = c .before .before .before .add in
+    let tests = c .before .before .before .before in
     let marks = tests .before in
-    let costs = marks .before .before .before in
+    let costs = c .before .before .before .before .before .before .before .before in
     let start = costs .before .before .before in
     let a = start .args in
-    let o = tests .tested .result in
-    let half-whole : Whole (o .half) = rw (tests .tested .ensures .half) (domain-whole start) in
-    begun (cost (a .m) (pointsOf (a .store .now))) (bound (a .m) (pointsOf (a .store .now))) (a .t) (a .start) (a .domain) (a .table .now) (a .bounds .now)
-    (costs .cost-in .result) o (exact costs) (fits costs) (rw (marks .mark-of .ensures) at (tests .tested .ensures)) (start .pre .1) (start .pre .2) half-whole
-    (p .put .result) (p .put .last .0) (p .put .last .1 .0) (p .put .ensures)
+    let child = tests .tested .result in
+    let whole : Whole (child .half) = rw (tests .tested .ensures .half) (domain-whole start) in
+    rw (adds .ensures .0, adds .ensures .1 .0, adds .ensures .1 .1)
+    (begun (cost (a .m) (pointsOf (a .store .now))) (bound (a .m) (pointsOf (a .store .now))) (a .t) (a .start) (a .domain) (a .late .now) (a .beside .now)
+    (costs .cost-in .result) child (exact costs) (fits costs) (rw (marks .mark-of .ensures) at (tests .tested .ensures)) (start .pre .1, start .pre .2) whole)
 
 pub begin-spec : {M : Type 1} → statement M
-begin-spec = tie.close (tie.spec cost-in-requires mark-of-requires tested-requires put-requires same-length same-length-2 returns)
+begin-spec =
+    tie.close
+    (tie.spec
+    cost-in-requires
+    mark-of-requires
+    tested-requires
+    add-requires
+    same-length
+    same-length-2
+    returns)

@@ -1,0 +1,5 @@
+pub mod Entries
+pub mod Finding
+pub mod Taking
+pub mod Settling
+pub mod Adding
