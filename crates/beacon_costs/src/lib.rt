@@ -56,7 +56,8 @@ fn write_sums(store: &[u8], m: Model, v: [i16; 8], sums: &mut [u64]) -> u64
 {
     let power = scale::power(m.scale);
     let w = kernel::coordinates(v);
-    let column: Lanes = [0.0; 80];
+    // Not 0, so that the compiler lays the chunk at a multiple of 16 bytes.
+    let column: Lanes = [1.0; 80];
     let mut chunk: Chunk = [column; 5];
     let mut four: [u64; 4] = [0; 4];
     let count = group_count(store.len());

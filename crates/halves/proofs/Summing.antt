@@ -3,19 +3,20 @@ use mathlib.Core.Path.{_≡_, refl, sym, ap, ap₂, _∙_, subst}
 use mathlib.Core.Bool.{Bool, true, false, cond}
 use mathlib.Core.List.{List, []}
 use mathlib.Core.Logic.{⊎-elim}
-use Prim.Native.Nat.{ℕ, zero, suc, _+_, _^_, _≤_, _<_, min}
+use Prim.Native.Nat.{ℕ, zero, suc, _^_, _≤_, _<_, min}
 use native.Mathlib.Omega.{arith}
 use borrow.Author.Tests.{eq-eqb, ne-eqb}
 use lib.Dec.{eqb}
 use lib.IntN.{ℤ, pos}
 use lib.ListN.{getD}
-use lib.Ieee.{Float, binary64, ofInt}
-use Rattle.integers.proofs.Tests.{le-or-lt}
+use lib.Ieee.{Float}
+use Rattle.integers.proofs.Tests.{le-or-lt, by-cond}
 use Rattle.boxes.specs.declared.Box.{Box}
 use Rattle.jobs.specs.declared.Model.{Model}
 use Rattle.loss.specs.Loss.{lossOf}
-use Rattle.residuals.specs.Cost.{leastSize}
+use Rattle.residuals.specs.Cost.{least, leastSize}
 use Rattle.residuals.specs.Inside.{Ready, leastFrom, sumOf}
+use Rattle.residuals.proofs.Least.{from-large}
 use Rattle.residuals.proofs.Sums.{threshold-small}
 use Rattle.whole.specs.Whole.{Whole, Within}
 use Rattle.whole.proofs.Laws.{cast-whole}
@@ -24,7 +25,7 @@ use Rattle.columns.specs.Columns.{nowhere, slot, decodedChunks, ChunkOf}
 use Rattle.losses.proofs.Exact.{loss-exact, chunk-exact}
 use Rattle.slots.proofs.Empty.{empty-slot}
 use Rattle.slots.proofs.Summing.{store-summed}
-use Rattle.kernel.specs.Kernel.{doubles, Doubles}
+use Rattle.kernel.specs.Kernel.{doubles, Doubles, noSize}
 use Rattle.kernel.proofs.Exact.{least-in}
 use Rattle.halves.specs.Halves.{leastBut, lossOver, halfLoss, halfSize, HalfSum}
 
@@ -67,23 +68,31 @@ module _ {bytes : ℕ} {m : Model} (ready : Ready bytes m) {store : List ℕ} {t
   boxSize k = leastSize m b (slot store t k)
 
   others-whole : (k : ℕ) → k < 80 → (n : ℕ) → n ≤ m .n
-      → Whole (leastBut s low high (m .d) c (ofInt binary64 (pos (m .eps + 1))) n k) (pos (leastOthers (m .eps + 1) c (boxSize k) n))
+      → Whole (leastBut s low high (m .d) c noSize n k) (pos (leastOthers 8589934592 c (boxSize k) n))
   unfolding leastBut leastOthers
-  others-whole k h zero l = let e = ready .cut in cast-whole (pos (m .eps + 1)) (omega arith)
+  others-whole k h zero l = cast-whole (pos 8589934592) (omega arith)
   others-whole k h (suc n) l =
       let rest = others-whole k h n (omega arith) in
       cond-whole (eqb n c) rest (least-whole rest (least-in ready chunk low high n k (omega arith) h (b .low) (b .high) lows highs .whole))
 
   -- and its loss
   abbrev lossOn : ℕ → ℕ
-  lossOn k = lossOf (m .p) (m .eps) (leastFrom (m .eps + 1) (halfSize m b half c (slot store t k)) (m .n))
+  lossOn k = lossOf (m .p) (m .eps) (least (halfSize m b half c (slot store t k)) (m .n))
+
+  -- no size reaches 2^33
+  first-small : (k : ℕ) → k < 80 → halfSize m b half c (slot store t k) 0 ≤ 8589934592
+  first-small k h =
+      by-cond (λ (n : ℕ). n ≤ 8589934592) (eqb 0 c)
+      (λ t. omega (arith, least-in ready chunk own-low own-high 0 k (ready .lines) h (half .low) (half .high) own-lows own-highs .small))
+      (λ t. omega (arith, least-in ready chunk low high 0 k (ready .lines) h (b .low) (b .high) lows highs .small))
 
   losses-within : (k : ℕ) → k < 80 → Within (lossOver s low high own-low own-high m c k) (pos (lossOn k)) 281474943156225
   losses-within k h =
-      let own = least-in ready chunk own-low own-high c k inside h (half .low) (half .high) own-lows own-highs .whole in
-      let size = least-whole (others-whole k h (m .n) (omega arith)) own in
-      let is = sym (least-mixed (m .eps + 1) c (boxSize k) (leastSize m half (slot store t k)) (m .n) inside) in
-      loss-exact (subst (Whole _) (ap pos is) size) (ready .cut) (m .p)
+      let own = least-in ready chunk own-low own-high c k inside h (half .low) (half .high) own-lows own-highs in
+      let size = least-whole (others-whole k h (m .n) (omega arith)) (own .whole) in
+      let is = sym (least-mixed 8589934592 c (boxSize k) (leastSize m half (slot store t k)) (m .n) inside) in
+      let none = from-large 8589934592 (halfSize m b half c (slot store t k)) (m .n) (ready .lines) (first-small k h) in
+      loss-exact (subst (Whole _) (ap pos (is ∙ none)) size) (ready .cut) (m .p)
 
   half-exact : halfLoss s low high own-low own-high m c ≡ sumOf lossOn 80
   unfolding halfLoss
@@ -118,7 +127,7 @@ module _ (store : List ℕ) (lanes : List (List (List Float))) (m : Model) (b ha
             e ∙ ap₂ (λ l h. sum l h own-low own-high) (low-is .0) (high-is .0)
             ∙ ap₂ (sum (doubles (b .low)) (doubles (b .high))) (own-low-is .0) (own-high-is .0);
         by-points = λ ready inside decoded.
-            store-summed m (halfSize m b half c) store (ready .lines) (threshold-small (m .p) (m .eps) (ready .cut)) (nothing m b half c)
+            store-summed m (halfSize m b half c) store (threshold-small (m .p) (m .eps) (ready .cut)) (nothing m b half c)
             chunkLossAt (λ t h.
             half-exact ready (decoded .chunk t h) b half c inside low high own-low own-high (low-is .1) (high-is .1) (own-low-is .1)
             (own-high-is .1)) n cap r (decoded .all) e;

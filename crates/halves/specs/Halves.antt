@@ -3,7 +3,7 @@
 use mathlib.Core.Bool.{true, cond}
 use mathlib.Core.List.{List, []}
 use mathlib.Core.Path.{_≡_}
-use Prim.Native.Nat.{ℕ, zero, suc, _+_, _*_, _^_, _<_, min}
+use Prim.Native.Nat.{ℕ, zero, suc, _*_, _^_, _<_, min}
 use lib.Dec.{eqb}
 use lib.IntN.{pos}
 use lib.ListN.{length, getD}
@@ -17,7 +17,7 @@ use Rattle.residuals.specs.Inside.{Ready, sumOf}
 use Rattle.whole.specs.Whole.{smallerOf}
 use Rattle.columns.specs.Columns.{decodedChunks, Decoded}
 use Rattle.losses.specs.Losses.{lossIn, chunkSum}
-use Rattle.kernel.specs.Kernel.{doubles, sizeBy}
+use Rattle.kernel.specs.Kernel.{doubles, sizeBy, noSize}
 
 -- the least of `most` and the least sizes of point k over a box, of the first n lines but line c
 unfoldable pub leastBut : List (List Float) → List Float → List Float → ℕ → ℕ → Float → ℕ → ℕ → Float
@@ -30,7 +30,7 @@ leastBut s low high d c most (suc n) k =
 abbrev pub lossOver : List (List Float) → List Float → List Float → List Float → List Float → Model → ℕ → ℕ → Float
 lossOver s low high own-low own-high m c k =
     lossIn (m .p) (ofInt binary64 (pos (m .eps)))
-    (smallerOf (leastBut s low high (m .d) c (ofInt binary64 (pos (m .eps + 1))) (m .n) k)
+    (smallerOf (leastBut s low high (m .d) c noSize (m .n) k)
     (sizeBy true s own-low own-high (m .d) (min (c * m .d) 8) k))
 
 -- the losses of a chunk over a half, added up

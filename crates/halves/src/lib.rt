@@ -56,8 +56,7 @@ fn chunk_losses(
         ≡ halfLoss (now (s .entry)) (now (low .entry)) (now (high .entry)) (now (next .entry)) (now (high .entry)) m c ⌝ }
     ensures small { λ r. ⌜ (r .left < 36028797018963968) × (r .right < 36028797018963968) ⌝ }
 {
-    let most = kernel::past(m.eps);
-    let mut left: Lanes = [most; 80];
+    let mut left: Lanes = [kernel::no_size(); 80];
     lessen_others(&mut left, s, low, high, m.n, m.d, c);
     let mut right = left;
     lessen_line(&mut left, s, low, middle, c, m.d, true);

@@ -1,5 +1,5 @@
 -- The losses of a chunk of a store are those of the points in its slots, exactly. Assumes nothing.
-use mathlib.Core.Path.{_≡_, refl, sym, ap, _∙_, subst}
+use mathlib.Core.Path.{_≡_, refl, ap, _∙_, subst}
 use mathlib.Core.Bool.{Bool, true, false, cond}
 use mathlib.Core.List.{List}
 use Prim.Native.Nat.{ℕ, zero, suc, _+_, _*_, _^_, _≤_, _<_, min}
@@ -12,9 +12,9 @@ use Rattle.jobs.specs.declared.Model.{Model}
 use Rattle.loss.specs.Loss.{lossOf}
 use Rattle.points.specs.declared.Point.{Point}
 use Rattle.points.specs.Points.{xs}
-use Rattle.residuals.specs.Cost.{at, residual, sizeAt, eMin, eMax, leastSize}
+use Rattle.residuals.specs.Cost.{at, residual, least, sizeAt, eMin, eMax, leastSize}
 use Rattle.residuals.specs.Inside.{Ready, boxOf, leastFrom, sumOf}
-use Rattle.residuals.proofs.Least.{line-room, from-le, from-large, loss-from}
+use Rattle.residuals.proofs.Least.{line-room, from-le, from-large}
 use Rattle.residuals.proofs.Sums.{sum-same}
 use Rattle.whole.specs.Whole.{Whole, Within}
 use Rattle.whole.proofs.Laws.{most, cast-whole, lt-whole}
@@ -82,32 +82,36 @@ module _ (over : Bool) (s : List (List Float)) (low high : List Float) (m : Mode
   least-whole-by first f k h zero l = cast-whole (pos first) f
   least-whole-by first f k h (suc n) l = least-whole (least-whole-by first f k h n (omega arith)) (exact n k (omega arith) h .whole)
 
+  -- the least size of a point, since none reaches the number that it starts from
+  size-whole : 1 ≤ m .n → (k : ℕ) → k < 80 → Whole (chunkSize over s low high m k) (pos (least (size (point k)) (m .n)))
+  unfolding chunkSize
+  size-whole lines k h =
+      let is = from-large 8589934592 (size (point k)) (m .n) lines (omega (arith, exact 0 k lines h .small)) in
+      subst (Whole _) (ap pos is) (least-whole-by 8589934592 (omega arith) k h (m .n) (omega arith))
+
   -- the loss of the point in slot k
   abbrev lossAt : ℕ → ℕ
-  lossAt k = lossOf (m .p) (m .eps) (leastFrom (m .eps + 1) (size (point k)) (m .n))
+  lossAt k = lossOf (m .p) (m .eps) (least (size (point k)) (m .n))
 
-  losses-within : m .eps ≤ 16777215 → (k : ℕ) → k < 80 → Within (lossBy over s low high m k) (pos (lossAt k)) 281474943156225
-  losses-within cut k h = loss-exact (least-whole-by (m .eps + 1) (omega arith) k h (m .n) (omega arith)) cut (m .p)
+  losses-within : 1 ≤ m .n → m .eps ≤ 16777215 → (k : ℕ) → k < 80 → Within (lossBy over s low high m k) (pos (lossAt k)) 281474943156225
+  losses-within lines cut k h = loss-exact (size-whole lines k h) cut (m .p)
 
-  pub groups-in : m .eps ≤ 16777215 → (g : ℕ) → g < 4 → getD (groupLosses over s low high m) g 0 ≡ sumOf (λ k. lossAt (g * 20 + k)) 20
+  pub groups-in : 1 ≤ m .n → m .eps ≤ 16777215 → (g : ℕ) → g < 4 → getD (groupLosses over s low high m) g 0 ≡ sumOf (λ k. lossAt (g * 20 + k)) 20
   unfolding groupLosses
-  groups-in cut = groups-exact (losses-within cut)
+  groups-in lines cut = groups-exact (losses-within lines cut)
 
-  pub loss-in : m .eps ≤ 16777215 → chunkLoss over s low high m ≡ sumOf lossAt 80
+  pub loss-in : 1 ≤ m .n → m .eps ≤ 16777215 → chunkLoss over s low high m ≡ sumOf lossAt 80
   unfolding chunkLoss
-  loss-in cut = chunk-exact (losses-within cut)
+  loss-in lines cut = chunk-exact (losses-within lines cut)
 
   -- whether the least size of a point exceeds a whole number: as its loss for p = 0 tells
   exceeds : 1 ≤ m .n → (a : ℕ) → a ≤ most → (k : ℕ) → k < 80
-      → cond (lt (ofInt binary64 (pos a)) (chunkSize over s low high m k)) 1 0 ≡ lossOf 0 a (leastFrom (a + 1) (size (point k)) (m .n))
-  unfolding chunkSize lossOf
-  exceeds lines a h k l =
-      ap (λ (t : Bool). cond {A = ℕ} t 1 0) (lt-whole (cast-whole (pos a) h) (least-whole-by 8589934592 (omega arith) k l (m .n) (omega arith)))
-      ∙ ap (lossOf 0 a) (from-large 8589934592 (size (point k)) (m .n) lines (omega (arith, exact 0 k lines l .small)))
-      ∙ sym (loss-from 0 a (size (point k)) (m .n) lines)
+      → cond (lt (ofInt binary64 (pos a)) (chunkSize over s low high m k)) 1 0 ≡ lossOf 0 a (least (size (point k)) (m .n))
+  unfolding lossOf
+  exceeds lines a h k l = ap (λ (t : Bool). cond {A = ℕ} t 1 0) (lt-whole (cast-whole (pos a) h) (size-whole lines k l))
 
   pub exceeding-chunk : 1 ≤ m .n → (a : ℕ) → a ≤ most
-      → sumOf (λ k. cond (lt (ofInt binary64 (pos a)) (chunkSize over s low high m k)) 1 0) 80 ≡ sumOf (λ k. lossOf 0 a (leastFrom (a + 1) (size (point k)) (m .n))) 80
+      → sumOf (λ k. cond (lt (ofInt binary64 (pos a)) (chunkSize over s low high m k)) 1 0) 80 ≡ sumOf (λ k. lossOf 0 a (least (size (point k)) (m .n))) 80
   exceeding-chunk lines a h = sum-same _ _ 80 (λ k l. exceeds lines a h k l)
 
   none : (k : ℕ) → k < 80 → cond {A = ℕ} (lt (ofInt binary64 (pos 8589934592)) (chunkSize over s low high m k)) 1 0 ≡ 0

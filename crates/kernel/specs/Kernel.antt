@@ -40,10 +40,20 @@ leastBy over s low high d most (suc n) k = smallerOf (leastBy over s low high d 
 abbrev pub LeastOf : Bool → List (List Float) → List Float → List Float → ℕ → ℕ → List Float → List Float → Type 0
 LeastOf over s low high d n old new = (k : ℕ) → k < 80 → lane new k ≡ leastBy over s low high d (lane old k) n k
 
--- the loss of point k
+-- 2^33, which no size reaches, and eighty of it
+abbrev pub noSize : Float
+noSize = ofInt binary64 (pos 8589934592)
+
+abbrev pub noSizes : List Float
+noSizes = replicate 80 noSize
+
+-- the least size of point k
+unfoldable pub chunkSize : Bool → List (List Float) → List Float → List Float → Model → ℕ → Float
+chunkSize over s low high m k = leastBy over s low high (m .d) noSize (m .n) k
+
+-- its loss
 abbrev pub lossBy : Bool → List (List Float) → List Float → List Float → Model → ℕ → Float
-lossBy over s low high m k =
-    lossIn (m .p) (ofInt binary64 (pos (m .eps))) (leastBy over s low high (m .d) (ofInt binary64 (pos (m .eps + 1))) (m .n) k)
+lossBy over s low high m k = lossIn (m .p) (ofInt binary64 (pos (m .eps))) (chunkSize over s low high m k)
 
 -- the sums of the losses by groups, and of all
 unfoldable pub groupLosses : Bool → List (List Float) → List Float → List Float → Model → List ℕ
@@ -51,7 +61,3 @@ groupLosses over s low high m = groupSums (lossBy over s low high m)
 
 unfoldable pub chunkLoss : Bool → List (List Float) → List Float → List Float → Model → ℕ
 chunkLoss over s low high m = chunkSum (lossBy over s low high m)
-
--- the least size of point k, not cut: from 2^33 on, which no size reaches
-unfoldable pub chunkSize : Bool → List (List Float) → List Float → List Float → Model → ℕ → Float
-chunkSize over s low high m k = leastBy over s low high (m .d) (ofInt binary64 (pos 8589934592)) (m .n) k

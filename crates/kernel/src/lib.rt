@@ -3,12 +3,11 @@ use jobs::Model;
 use lanes::Chunk;
 use lanes::Lanes;
 ghost use mathlib.Core.Path.{_≡_};
-ghost use Prim.Native.Nat.{_+_, _*_, _<_, min};
-ghost use lib.IntN.{pos};
+ghost use Prim.Native.Nat.{_*_, _<_, min};
 ghost use lib.Ieee.{binary64, ofInt};
 ghost use Rattle.whole.specs.Whole.{Within};
 ghost use Rattle.lanes.specs.Lanes.{Lessened};
-ghost use Rattle.kernel.specs.Kernel.{doubles, Doubles, sizeBy, LeastOf, groupLosses, chunkLoss};
+ghost use Rattle.kernel.specs.Kernel.{doubles, Doubles, sizeBy, LeastOf, noSize, groupLosses, chunkLoss};
 
 // The eight coordinates of a vector, and four zeros: a line's are read four at a time.
 pub type Coordinates = [f64; 12];
@@ -106,11 +105,15 @@ pub fn lessen_all(
     }
 }
 
-// What a least size starts from: a size past ε costs no more than ε + 1.
-pub fn past(eps: u32) -> f64
-    ensures { λ r. ⌜ r ≡ ofInt binary64 (pos (eps + 1)) ⌝ }
+// No size reaches 2^33.
+pub const NO_SIZE: u64 = 8589934592;
+
+// What a least size starts from. It is the same for every ε: the compiler lays lanes that are filled with a constant at a multiple of 16
+// bytes, so that no packed access to them lies across two pages.
+pub fn no_size() -> f64
+    ensures { λ r. ⌜ r ≡ noSize ⌝ }
 {
-    (eps as u64 + 1) as f64
+    NO_SIZE as f64
 }
 
 // The losses of a chunk's points, added up by groups: under the vector `low`, or over the box from `low` to `high`.
@@ -123,8 +126,7 @@ pub fn group_losses(
 ) -> [u64; 4]
     ensures { λ r. ⌜ r ≡ groupLosses over (now (s .entry)) (now (low .entry)) (now (high .entry)) m ⌝ }
 {
-    let most = past(m.eps);
-    let mut sizes: Lanes = [most; 80];
+    let mut sizes: Lanes = [no_size(); 80];
     lessen_all(&mut sizes, s, low, high, m.n, m.d, over);
     losses::lose(&mut sizes, m.p, m.eps);
     losses::group_sums(&sizes)
@@ -135,8 +137,7 @@ pub fn chunk_loss(s: &Chunk, low: &Coordinates, high: &Coordinates, m: Model, ov
     ensures value { λ r. ⌜ r ≡ chunkLoss over (now (s .entry)) (now (low .entry)) (now (high .entry)) m ⌝ }
     ensures small { λ r. ⌜ r < 36028797018963968 ⌝ }
 {
-    let most = past(m.eps);
-    let mut least: Lanes = [most; 80];
+    let mut least: Lanes = [no_size(); 80];
     lessen_all(&mut least, s, low, high, m.n, m.d, over);
     losses::total(&mut least, m.p, m.eps)
 }

@@ -8,13 +8,12 @@ use lib.IntN.{ℤ, pos}
 use lib.ListN.{length, getD, take}
 use lib.Seq.{getD-take, length-take-le}
 use lib.Ieee.{Float, binary64, ofInt, lt}
-use Rattle.integers.specs.Lists.{All, none}
 use Rattle.jobs.specs.declared.Model.{Model}
 use Rattle.points.specs.Points.{pointsOf}
 use Rattle.ranks.specs.Largest.{nthLargest}
 use Rattle.ranks.specs.Laws.{exceeding}
 use Rattle.ranks.proofs.Largest.{largest}
-use Rattle.residuals.specs.Cost.{least, leastSize}
+use Rattle.residuals.specs.Cost.{least}
 use Rattle.residuals.specs.Inside.{Ready, sumOf}
 use Rattle.residuals.proofs.Sums.{sum-same, sum-more, Summed, count-small, all-total}
 use Rattle.residuals.proofs.Ranks.{counting, exceeding-total}
@@ -35,7 +34,7 @@ module _ {m : Model} (store : List ℕ) (ready : Ready (length store) m) (low hi
   -- how many of a chunk exceed a, by the definitions
   count-of : (over : Bool) {t : ℕ} {s : List (List Float)} → ChunkOf store t (m .d) (2 ^ m .scale) s → (a : ℕ) → a ≤ 9007199254740992
       → sumOf (λ k. cond (lt (ofInt binary64 (pos a)) (chunkSize over s from to m k)) 1 0) 80
-      ≡ sumOf (slotLoss (counting a m) (sizesBy over m low high) store (ready .lines) (count-small a) (nothing over m low high) t) 80
+      ≡ sumOf (slotLoss (counting a m) (sizesBy over m low high) store (count-small a) (nothing over m low high) t) 80
   count-of true {t} {s} chunk a h =
       exceeding-chunk true s from to m (slot store t) (sizesBy true m low high) (λ j k l g. least-in ready chunk from to j k l g low high lows highs) (ready .lines) a h
   count-of false {t} {s} chunk a h =
@@ -60,7 +59,7 @@ module _ {m : Model} (store : List ℕ) (ready : Ready (length store) m) (low hi
     through a h (suc n) l =
         let e : n + 1 ≡ suc n = omega arith in
         subst (λ (k : ℕ). Summed (counting a m) (sizesBy over m low high) store (min (length store / 12) (k * 76)) (exceedingBy over lanes from to m (suc n) a)) e
-        (chunk-summed (counting a m) (sizesBy over m low high) store (ready .lines) (count-small a) (nothing over m low high) n (exceedingBy over lanes from to m n a) _
+        (chunk-summed (counting a m) (sizesBy over m low high) store (count-small a) (nothing over m low high) n (exceedingBy over lanes from to m n a) _
         (count-of over (decoded .chunk n (omega arith)) a h) (through a h n (omega arith)))
 
     -- as many of the slots as of the points

@@ -5,24 +5,15 @@ use mathlib.Core.List.{List, [], _∷_, _++_}
 use mathlib.Core.Logic.{⊎-elim}
 use Prim.Native.Nat.{ℕ, _+_, _^_, _≤_, _<_}
 use native.Mathlib.Omega.{arith}
-use lib.ListN.{length, getD, set, replicate, length-set, length-append, getD-replicate, List·getD-append}
+use lib.ListN.{length, getD, set, replicate, length-set, length-append, List·getD-append}
 use lib.Seq.{getD-set-same, getD-set-other, getD-append-seam}
-use lib.Ieee.{Float, nan}
+use lib.Ieee.{Float}
 use Rattle.integers.proofs.Tests.{le-or-lt}
 use Rattle.lanes.specs.Lanes.{lane}
 use Rattle.jobs.specs.declared.Model.{Model}
 use Rattle.columns.specs.Columns.{ChunkOf}
-use Rattle.kernel.specs.Kernel.{leastBy, LeastOf, chunkSize}
-use Rattle.model.specs.Inside.{noSizes}
-
--- what is found in lanes that begin so are the sizes of a chunk
-pub from-none : (over : Bool) (s : List (List Float)) (from to : List Float) (m : Model) (old new : List Float)
-    → old ≡ noSizes → LeastOf over s from to (m .d) (m .n) old new → (k : ℕ) → k < 80 → lane new k ≡ chunkSize over s from to m k
-unfolding chunkSize
-from-none over s from to m old new none found k h =
-    found k h
-    ∙ ap (λ (x : Float). leastBy over s from to (m .d) x (m .n) k)
-    (ap (λ (xs : List Float). lane xs k) none ∙ getD-replicate 80 k _ nan h)
+use Rattle.kernel.specs.Kernel.{LeastOf, noSizes, chunkSize}
+use Rattle.kernel.proofs.Starting.{from-none}
 
 -- of n chunks the first t have the sizes that f gives
 pub record Sized (n : ℕ) (f : ℕ → ℕ → Float) (kept : List (List Float)) (t : ℕ) : Type 0 where

@@ -3,9 +3,8 @@ use mathlib.Core.Bool.{Bool, cond}
 use mathlib.Core.List.{List, map}
 use mathlib.Core.Path.{_≡_}
 use Prim.Native.Nat.{ℕ, _≤_, min}
-use lib.IntN.{ℤ, pos}
-use lib.ListN.{replicate}
-use lib.Ieee.{Float, binary64, ofInt}
+use lib.IntN.{ℤ}
+use lib.Ieee.{Float}
 use Rattle.jobs.specs.declared.Model.{Model}
 use Rattle.points.specs.declared.Point.{Point}
 use Rattle.points.specs.Points.{pointsOf}
@@ -29,10 +28,6 @@ pub record SumIn (over : Bool) (store : List ℕ) (lanes : List (List (List Floa
 -- the points' least sizes
 abbrev pub leastSizes : Bool → Model → List ℤ → List ℤ → List Point → List ℕ
 leastSizes over m low high qs = map (λ q. unlessGap q (least (sizesBy over m low high q) (m .n))) qs
-
--- what the sizes of a chunk begin with: no size reaches 2^33
-abbrev pub noSizes : List Float
-noSizes = replicate 80 (ofInt binary64 (pos 8589934592))
 
 -- what a rank over lanes is: by the lanes, and of the store's own by its points
 pub record RankIn (over : Bool) (store : List ℕ) (lanes : List (List (List Float))) (m : Model) (low high : List ℤ) (cap r : ℕ) : Type 0 where

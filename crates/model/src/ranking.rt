@@ -2,6 +2,8 @@
 use crate::NO_CAP;
 use jobs::Model;
 use kernel::Coordinates;
+use kernel::NO_SIZE;
+use kernel::no_size;
 use lanes::Chunk;
 use lanes::Lanes;
 use loss::least;
@@ -18,20 +20,10 @@ ghost use Rattle.ranks.specs.Largest.{nthLargest};
 ghost use Rattle.residuals.specs.Inside.{Ready};
 ghost use Rattle.lanes.specs.Lanes.{lane};
 ghost use Rattle.columns.specs.Columns.{decodedChunks};
-ghost use Rattle.kernel.specs.Kernel.{chunkSize};
+ghost use Rattle.kernel.specs.Kernel.{noSizes, chunkSize};
 ghost use Rattle.selection.specs.Selection.{exceedingIn, selected};
 ghost use Rattle.model.specs.Calls.{exceedingBy};
-ghost use Rattle.model.specs.Inside.{leastSizes, noSizes, RankIn};
-
-// No size reaches 2^33.
-const NO_SIZE: u64 = 8589934592;
-
-// The same as a double.
-fn most() -> f64
-    ensures { λ r. ⌜ r ≡ ofInt binary64 (pos 8589934592) ⌝ }
-{
-    NO_SIZE as f64
-}
+ghost use Rattle.model.specs.Inside.{leastSizes, RankIn};
 
 // The least sizes of a chunk's points, found in lanes that hold a number that no size reaches: they are filled with it, or are already.
 fn chunk_sizes(
@@ -48,7 +40,7 @@ fn chunk_sizes(
         ≡ chunkSize over (now (s .entry)) (now (from .entry)) (now (to .entry)) m k) ⌝ }
 {
     if fill {
-        *sizes = [most(); 80];
+        *sizes = [no_size(); 80];
     }
     kernel::lessen_all(sizes, s, from, to, m.n, m.d, over);
 }
@@ -108,7 +100,7 @@ fn short_rank(
     ensures { λ r. ⌜ r ≡ selected (exceedingBy over (now (lanes .entry)) (now (from .entry)) (now (to .entry)) m count) (m .eps)
         (min cap 4503599627370496) ⌝ }
 {
-    let none: Lanes = [most(); 80];
+    let none: Lanes = [no_size(); 80];
     let mut sizes: [Lanes; 8] = [none; 8];
     kept_rank(&mut sizes, false, lanes, count, from, to, m, over, cap)
 }
@@ -171,7 +163,7 @@ fn few_rank(
     let from = kernel::coordinates(low);
     let to = kernel::coordinates(high);
     let count = columns::chunk_count(store.len(), lanes.len());
-    let none: Lanes = [most(); 80];
+    let none: Lanes = [no_size(); 80];
     let mut sizes: [Lanes; 4] = [none; 4];
     kept_rank(&mut sizes, false, lanes, count, &from, &to, m, over, cap)
 }
@@ -210,7 +202,8 @@ pub fn rank(store: &[u8], m: Model, low: [i16; 8], high: [i16; 8], over: bool) -
     let power = scale::power(m.scale);
     let from = kernel::coordinates(low);
     let to = kernel::coordinates(high);
-    let column: Lanes = [0.0; 80];
+    // Not 0, so that the compiler lays the chunk at a multiple of 16 bytes.
+    let column: Lanes = [1.0; 80];
     let mut chunk: Chunk = [column; 5];
     let most = NO_SIZE as f64;
     let none: Lanes = [most; 80];

@@ -17,7 +17,8 @@ pub fn sum(store: &[u8], m: Model, low: [i16; 8], high: [i16; 8], over: bool) ->
     let power = scale::power(m.scale);
     let from = kernel::coordinates(low);
     let to = kernel::coordinates(high);
-    let column: Lanes = [0.0; 80];
+    // Not 0, so that the compiler lays the chunk at a multiple of 16 bytes.
+    let column: Lanes = [1.0; 80];
     let mut chunk: Chunk = [column; 5];
     let count = columns::chunk_count(store.len(), 54);
     let mut total: u64 = 0;

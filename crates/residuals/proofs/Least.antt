@@ -2,10 +2,9 @@
 use mathlib.Core.Path.{_≡_, refl, sym, ap, _∙_}
 use mathlib.Core.Bool.{Bool, true, false, cond}
 use Prim.Native.Nat.{ℕ, zero, suc, _+_, _*_, _≤_, _<_, min}
-use native.Mathlib.Nat.{mul-le-mul, mul-le-mul-right, add-mul, min-eq-left, min-eq-right}
+use native.Mathlib.Nat.{mul-le-mul-right, add-mul, min-eq-left, min-eq-right}
 use native.Mathlib.Numerals.{add-one}
 use native.Mathlib.Omega.{arith, min-cases}
-use borrow.Author.Tests.{lt-ltb}
 use lib.Dec.{T, ltb, ltb→lt}
 use Rattle.integers.proofs.Tests.{by-cond}
 use Rattle.loss.specs.Loss.{lossOf}
@@ -90,30 +89,6 @@ least-first f (suc (suc n)) h = omega (arith, least-first f (suc n) (omega arith
 -- a first value that no other exceeds does not matter
 pub from-large : (most : ℕ) (f : ℕ → ℕ) (n : ℕ) → 1 ≤ n → f 0 ≤ most → leastFrom most f n ≡ least f n
 from-large most f n h k = omega (arith, from-least most f n h, least-first f n h)
-
--- past ε the loss stays
-loss-past : (p ε a : ℕ) → ε + 1 ≤ a → lossOf p ε (ε + 1) ≡ lossOf p ε a
-unfolding lossOf
-loss-past zero ε a h =
-    let here : ε < ε + 1 = omega arith in
-    let there : ε < a = omega arith in
-    rw (lt-ltb _ _ here, lt-ltb _ _ there)
-loss-past (suc zero) ε a h = omega arith
-loss-past (suc (suc zero)) ε a h =
-    let here : ε ≤ ε + 1 = omega arith in
-    let there : ε ≤ a = omega arith in
-    omega (arith, mul-le-mul here here, mul-le-mul there there)
-loss-past (suc (suc (suc p))) ε a h = refl
-
-loss-cut : (p ε a : ℕ) → lossOf p ε (min (ε + 1) a) ≡ lossOf p ε a
-loss-cut p ε a =
-    min-cases (ε + 1) a (lossOf p ε (min (ε + 1) a) ≡ lossOf p ε a)
-    (λ k e. rw e (loss-past p ε a k))
-    (λ k e. rw e)
-
--- so sizes past ε + 1 need not be told apart
-pub loss-from : (p ε : ℕ) (f : ℕ → ℕ) (n : ℕ) → 1 ≤ n → lossOf p ε (leastFrom (ε + 1) f n) ≡ lossOf p ε (least f n)
-loss-from p ε f n h = ap (lossOf p ε) (from-least (ε + 1) f n h) ∙ loss-cut p ε (least f n)
 
 -- a line's coordinates end within the vector
 pub line-room : (j n d room : ℕ) → j < n → n * d ≤ room → j * d + d ≤ room

@@ -11,22 +11,21 @@ use Rattle.loss.specs.Loss.{lossOf}
 use Rattle.points.specs.declared.Point.{Point}
 use Rattle.points.specs.Points.{pointAt, pointsOf}
 use Rattle.residuals.specs.Cost.{least, unlessGap, totalLoss}
-use Rattle.residuals.specs.Inside.{leastFrom, sumOf}
-use Rattle.residuals.proofs.Least.{loss-zero, loss-from}
+use Rattle.residuals.specs.Inside.{sumOf}
+use Rattle.residuals.proofs.Least.{loss-zero}
 use Rattle.residuals.proofs.Sums.{LossSmall, Summed, none-summed, one-summed, all-total}
 use Rattle.columns.specs.Columns.{nowhere, number, placed, slot, chunks}
 use Rattle.columns.proofs.Places.{slot-found, slot-full, slot-past}
 use Rattle.slots.proofs.Empty.{least-zero, placed-least}
 
 -- ---- the slots of a chunk, one after the other
-module _ (m : Model) (size : Point → ℕ → ℕ) (s : List ℕ) (lines : 1 ≤ m .n) (cut : LossSmall (m .p) (m .eps)) (none : (j : ℕ) → size nowhere j ≡ 0) where
+module _ (m : Model) (size : Point → ℕ → ℕ) (s : List ℕ) (cut : LossSmall (m .p) (m .eps)) (none : (j : ℕ) → size nowhere j ≡ 0) where
   -- the loss of the point in slot k of chunk t
   abbrev pub slotLoss : ℕ → ℕ → ℕ
-  slotLoss t k = lossOf (m .p) (m .eps) (leastFrom (m .eps + 1) (size (slot s t k)) (m .n))
+  slotLoss t k = lossOf (m .p) (m .eps) (least (size (slot s t k)) (m .n))
 
   loss-in : (t k : ℕ) (q : Point) → slot s t k ≡ q → slotLoss t k ≡ lossOf (m .p) (m .eps) (least (size q) (m .n))
-  loss-in t k q e =
-      ap (λ (q : Point). lossOf (m .p) (m .eps) (leastFrom (m .eps + 1) (size q) (m .n))) e ∙ loss-from (m .p) (m .eps) (size q) (m .n) lines
+  loss-in t k q e = ap (λ (q : Point). lossOf (m .p) (m .eps) (least (size q) (m .n))) e
 
   -- how many records stand in the first k slots of chunk t, and in the chunks before it
   abbrev reached : ℕ → ℕ → ℕ
@@ -75,16 +74,16 @@ pub none-yet : (m : Model) (size : Point → ℕ → ℕ) (s : List ℕ) → Sum
 none-yet m size s = let e : 0 ≡ min (length s / 12) (0 * 76) = omega arith in subst (λ (i : ℕ). Summed m size s i 0) e (none-summed m size s)
 
 -- ---- chunk after chunk
-module _ (m : Model) (size : Point → ℕ → ℕ) (s : List ℕ) (lines : 1 ≤ m .n) (cut : LossSmall (m .p) (m .eps))
+module _ (m : Model) (size : Point → ℕ → ℕ) (s : List ℕ) (cut : LossSmall (m .p) (m .eps))
     (none : (j : ℕ) → size nowhere j ≡ 0) (loss : ℕ → ℕ)
-    (exact : (t : ℕ) → t < chunks s → loss t ≡ sumOf (slotLoss m size s lines cut none t) 80) where
+    (exact : (t : ℕ) → t < chunks s → loss t ≡ sumOf (slotLoss m size s cut none t) 80) where
   first-summed : (n : ℕ) → n ≤ chunks s → Summed m size s (min (length s / 12) (n * 76)) (sumOf loss n)
   unfolding sumOf
   first-summed zero h = none-yet m size s
   first-summed (suc n) h =
       let e : n + 1 ≡ suc n = omega arith in
       subst (λ (k : ℕ). Summed m size s (min (length s / 12) (k * 76)) (sumOf loss (suc n))) e
-      (chunk-summed m size s lines cut none n (sumOf loss n) (loss n) (exact n (omega arith)) (first-summed n (omega arith)))
+      (chunk-summed m size s cut none n (sumOf loss n) (loss n) (exact n (omega arith)) (first-summed n (omega arith)))
 
   -- what all chunks of a store lose, up to a cap, is what its points do
   pub store-summed : (n cap r : ℕ) → n ≡ chunks s → r ≡ min (sumOf loss n) cap → r ≡ min (totalLoss m size (pointsOf s)) cap

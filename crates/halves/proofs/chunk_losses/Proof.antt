@@ -1,9 +1,10 @@
 -- The steps, lane by lane.
-use mathlib.Core.Path.{_≡_}
+use mathlib.Core.Path.{_≡_, ap}
 use mathlib.Core.Bool.{true}
 use mathlib.Core.List.{List}
 use Prim.Native.Nat.{ℕ, _*_, min}
 use lib.IntN.{pos}
+use lib.ListN.{replicate}
 use lib.Ieee.{Float, binary64, ofInt}
 use Rattle.lanes.specs.Lanes.{lane, Lessened}
 use Rattle.losses.specs.Losses.{lossIn, chunkSum}
@@ -17,11 +18,11 @@ use Rattle.halves.proofs.chunk_losses.Reads as reads
 use Rattle.halves.proofs.chunk_losses.Lts as lts
 use Rattle.halves.proofs.lessen_others.Reads as lessen-others-reads
 use Rattle.kernel.proofs.lessen_line.Reads as lessen-line-reads
-use Rattle.kernel.proofs.past.Reads as past-reads
+use Rattle.kernel.proofs.no_size.Reads as no-size-reads
 use Rattle.losses.proofs.total.Reads as total-reads
 
-past-requires : tie.Need-past-requires
-past-requires c κs = search needs
+no-size-requires : tie.Need-no-size-requires
+no-size-requires c κs = search needs
 
 lessen-others-requires : tie.Need-lessen-others-requires
 lessen-others-requires c κs = search needs
@@ -51,10 +52,10 @@ module _ (c : tie.After-lessen-others) where
       r ≡ halfLoss (a .s .now) (a .low .now) (a .high .now) own-low own-high m (a .c)
   half own-low own-high own r =
       let a = start .args in
-      let past = c .before .before .past in
+      let begin = c .before .before .no-size in
       let others = c .lessen-others in
-      half-summed (a .s .now) (a .low .now) (a .high .now) own-low own-high (a .m) (a .c) (past .result) (others .last .0) own r
-      (past .ensures) (others .ensures)
+      half-summed (a .s .now) (a .low .now) (a .high .now) own-low own-high (a .m) (a .c) _ (others .last .0) own r
+      (ap (λ (x : Float). replicate 80 x) (begin .ensures)) (others .ensures)
 
 returns : tie.Need-returns
 returns c =
@@ -76,7 +77,7 @@ pub chunk-losses-spec : {M : Type 1} → statement M
 chunk-losses-spec =
     tie.close
     (tie.spec
-    past-requires
+    no-size-requires
     lessen-others-requires
     lessen-line-requires
     lessen-line-requires-2

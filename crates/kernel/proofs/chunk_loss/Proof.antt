@@ -1,22 +1,23 @@
 -- The steps, lane by lane.
 use mathlib.Core.Path.{ap, _∙_}
 use lib.IntN.{pos}
-use lib.Ieee.{binary64, ofInt}
+use lib.ListN.{replicate}
+use lib.Ieee.{Float, binary64, ofInt}
 use Rattle.losses.specs.Losses.{lossIn}
 use Rattle.losses.proofs.Exact.{chunk-same}
 use Rattle.kernel.specs.Kernel.{chunkLoss}
-use Rattle.kernel.proofs.Starting.{lessened-from}
+use Rattle.kernel.proofs.Starting.{from-none}
 use borrow.Author.Needs.{needs}
 use Rattle.kernel.proofs.chunk_loss.Statement.{statement}
 use Rattle.kernel.proofs.chunk_loss.Tie as tie
 use Rattle.kernel.proofs.chunk_loss.Reads as reads
 use Rattle.kernel.proofs.chunk_loss.Lts as lts
 use Rattle.kernel.proofs.lessen_all.Reads as lessen-all-reads
-use Rattle.kernel.proofs.past.Reads as past-reads
+use Rattle.kernel.proofs.no_size.Reads as no-size-reads
 use Rattle.losses.proofs.total.Reads as total-reads
 
-past-requires : tie.Need-past-requires
-past-requires c κs = search needs
+no-size-requires : tie.Need-no-size-requires
+no-size-requires c κs = search needs
 
 lessen-all-requires : tie.Need-lessen-all-requires
 lessen-all-requires c κs = search needs
@@ -32,10 +33,10 @@ returns c =
     let a = start .before .args in
     let m = a .m in
     let sizes =
-    lessened-from (a .over) (a .s .now) (a .low .now) (a .high .now) (m .d) (m .n) (lessen .last .0) (start .past .ensures)
-    (lessen .ensures) in
+    from-none (a .over) (a .s .now) (a .low .now) (a .high .now) m _ (lessen .last .0)
+    (ap (λ (x : Float). replicate 80 x) (start .no-size .ensures)) (lessen .ensures) in
     let all = c .total .ensures .1 in
     (all .0 ∙ chunk-same _ _ (λ k h. ap (lossIn (m .p) (ofInt binary64 (pos (m .eps)))) (sizes k h)), all .1)
 
 pub chunk-loss-spec : {M : Type 1} → statement M
-chunk-loss-spec = tie.close (tie.spec past-requires lessen-all-requires total-requires returns)
+chunk-loss-spec = tie.close (tie.spec no-size-requires lessen-all-requires total-requires returns)

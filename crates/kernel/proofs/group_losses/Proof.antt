@@ -1,23 +1,24 @@
 -- The three steps, lane by lane.
 use mathlib.Core.Path.{ap, _∙_}
 use lib.IntN.{pos}
-use lib.Ieee.{binary64, ofInt}
+use lib.ListN.{replicate}
+use lib.Ieee.{Float, binary64, ofInt}
 use Rattle.losses.specs.Losses.{lossIn}
 use Rattle.losses.proofs.Exact.{groups-same}
 use Rattle.kernel.specs.Kernel.{groupLosses}
-use Rattle.kernel.proofs.Starting.{lessened-from}
+use Rattle.kernel.proofs.Starting.{from-none}
 use borrow.Author.Needs.{needs}
 use Rattle.kernel.proofs.group_losses.Statement.{statement}
 use Rattle.kernel.proofs.group_losses.Tie as tie
 use Rattle.kernel.proofs.group_losses.Reads as reads
 use Rattle.kernel.proofs.group_losses.Lts as lts
 use Rattle.kernel.proofs.lessen_all.Reads as lessen-all-reads
-use Rattle.kernel.proofs.past.Reads as past-reads
+use Rattle.kernel.proofs.no_size.Reads as no-size-reads
 use Rattle.losses.proofs.group_sums.Reads as group-sums-reads
 use Rattle.losses.proofs.lose.Reads as lose-reads
 
-past-requires : tie.Need-past-requires
-past-requires c κs = search needs
+no-size-requires : tie.Need-no-size-requires
+no-size-requires c κs = search needs
 
 lessen-all-requires : tie.Need-lessen-all-requires
 lessen-all-requires c κs = search needs
@@ -37,10 +38,10 @@ returns c =
     let a = start .before .args in
     let m = a .m in
     let sizes =
-    lessened-from (a .over) (a .s .now) (a .low .now) (a .high .now) (m .d) (m .n) (lessen .last .0) (start .past .ensures)
-    (lessen .ensures) in
+    from-none (a .over) (a .s .now) (a .low .now) (a .high .now) m _ (lessen .last .0)
+    (ap (λ (x : Float). replicate 80 x) (start .no-size .ensures)) (lessen .ensures) in
     c .group-sums .ensures ∙ groups-same _ _ (λ k h. lose .ensures k h ∙ ap (lossIn (m .p) (ofInt binary64 (pos (m .eps)))) (sizes k h))
 
 pub group-losses-spec : {M : Type 1} → statement M
 group-losses-spec =
-    tie.close (tie.spec past-requires lessen-all-requires lose-requires group-sums-requires returns)
+    tie.close (tie.spec no-size-requires lessen-all-requires lose-requires group-sums-requires returns)

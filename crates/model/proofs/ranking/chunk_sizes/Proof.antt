@@ -3,18 +3,18 @@ use mathlib.Core.Path.{_≡_, ap, _∙_}
 use mathlib.Core.Logic.{⊎-elim}
 use lib.ListN.{replicate}
 use lib.Ieee.{Float}
-use Rattle.model.specs.Inside.{noSizes}
-use Rattle.model.proofs.Kept.{from-none}
+use Rattle.kernel.specs.Kernel.{noSizes}
+use Rattle.kernel.proofs.Starting.{from-none}
 use borrow.Author.Needs.{needs}
 use Rattle.model.proofs.ranking.chunk_sizes.Statement.{statement}
 use Rattle.model.proofs.ranking.chunk_sizes.Tie as tie
 use Rattle.model.proofs.ranking.chunk_sizes.Reads as reads
 use Rattle.model.proofs.ranking.chunk_sizes.Lts as lts
 use Rattle.kernel.proofs.lessen_all.Reads as lessen-all-reads
-use Rattle.model.proofs.ranking.most.Reads as most-reads
+use Rattle.kernel.proofs.no_size.Reads as no-size-reads
 
-most-requires : tie.Need-most-requires
-most-requires c κs = search needs
+no-size-requires : tie.Need-no-size-requires
+no-size-requires c κs = search needs
 
 lessen-all-requires : tie.Need-lessen-all-requires
 lessen-all-requires c κs = search needs
@@ -33,4 +33,4 @@ returns c =
     from-none (a .over) (a .s .now) (a .from .now) (a .to .now) (a .m) _ (c .lessen-all .last .0) (begun c) (c .lessen-all .ensures)
 
 pub chunk-sizes-spec : {M : Type 1} → statement M
-chunk-sizes-spec = tie.close (tie.spec most-requires lessen-all-requires returns)
+chunk-sizes-spec = tie.close (tie.spec no-size-requires lessen-all-requires returns)

@@ -1,5 +1,5 @@
 -- Each chunk of the array holds what sizes begin with.
-use mathlib.Core.Path.{_≡_, ap, _∙_}
+use mathlib.Core.Path.{ap, _∙_}
 use mathlib.Core.List.{[]}
 use Prim.Native.Nat.{ℕ, min}
 use native.Mathlib.Omega.{arith}
@@ -16,7 +16,7 @@ use Rattle.model.proofs.ranking.few_rank.Lts as lts
 use Rattle.columns.proofs.chunk_count.Reads as chunk-count-reads
 use Rattle.kernel.proofs.coordinates.Reads as coordinates-reads
 use Rattle.model.proofs.ranking.kept_rank.Reads as kept-rank-reads
-use Rattle.model.proofs.ranking.most.Reads as most-reads
+use Rattle.kernel.proofs.no_size.Reads as no-size-reads
 
 coordinates-requires : tie.Need-coordinates-requires
 coordinates-requires c κs = search needs
@@ -27,8 +27,8 @@ coordinates-requires-2 c κs = search needs
 chunk-count-requires : tie.Need-chunk-count-requires
 chunk-count-requires c κs = search needs
 
-most-requires : tie.Need-most-requires
-most-requires c κs = search needs
+no-size-requires : tie.Need-no-size-requires
+no-size-requires c κs = search needs
 
 slice-aggregate-kept-rank : tie.Need-slice-aggregate-kept-rank
 slice-aggregate-kept-rank c = search needs
@@ -42,7 +42,7 @@ kept-rank-requires c κs =
       omega (arith, n .chunk-count .ensures),
       λ e i h.
           getD-replicate 4 i _ [] (omega (arith, n .chunk-count .ensures, few))
-          ∙ ap (λ (x : Float). replicate 80 x) (c .before .before .before .most .ensures),
+          ∙ ap (λ (x : Float). replicate 80 x) (c .before .before .before .no-size .ensures),
     )
 
 returns : tie.Need-returns
@@ -64,7 +64,7 @@ few-rank-spec =
     coordinates-requires
     coordinates-requires-2
     chunk-count-requires
-    most-requires
+    no-size-requires
     slice-aggregate-kept-rank
     kept-rank-requires
     returns)

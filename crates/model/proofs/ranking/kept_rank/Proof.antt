@@ -8,9 +8,8 @@ use native.Mathlib.Omega.{arith}
 use lib.ListN.{length, getD, set}
 use lib.Seq.{length-take-le, getD-set-other}
 use lib.Ieee.{Float}
-use Rattle.kernel.specs.Kernel.{chunkSize}
+use Rattle.kernel.specs.Kernel.{noSizes, chunkSize}
 use Rattle.model.specs.Calls.{exceedingBy}
-use Rattle.model.specs.Inside.{noSizes}
 use Rattle.residuals.specs.Inside.{sumOf}
 use Rattle.model.proofs.Counting.{chunk-counted, cap-reached, kept-selected}
 use Rattle.model.proofs.Kept.{Sized, none-sized, one-sized}

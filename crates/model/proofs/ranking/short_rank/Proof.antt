@@ -10,10 +10,10 @@ use Rattle.model.proofs.ranking.short_rank.Tie as tie
 use Rattle.model.proofs.ranking.short_rank.Reads as reads
 use Rattle.model.proofs.ranking.short_rank.Lts as lts
 use Rattle.model.proofs.ranking.kept_rank.Reads as kept-rank-reads
-use Rattle.model.proofs.ranking.most.Reads as most-reads
+use Rattle.kernel.proofs.no_size.Reads as no-size-reads
 
-most-requires : tie.Need-most-requires
-most-requires c κs = search needs
+no-size-requires : tie.Need-no-size-requires
+no-size-requires c κs = search needs
 
 slice-aggregate-kept-rank : tie.Need-slice-aggregate-kept-rank
 slice-aggregate-kept-rank c = search needs
@@ -24,11 +24,11 @@ kept-rank-requires c κs =
       s .pre .0,
       s .pre .1,
       omega (arith, s .pre .0),
-      λ e i h. getD-replicate 8 i _ [] (omega (arith, s .pre .0)) ∙ ap (λ (x : Float). replicate 80 x) (c .before .most .ensures),
+      λ e i h. getD-replicate 8 i _ [] (omega (arith, s .pre .0)) ∙ ap (λ (x : Float). replicate 80 x) (c .before .no-size .ensures),
     )
 
 returns : tie.Need-returns
 returns c = search needs
 
 pub short-rank-spec : {M : Type 1} → statement M
-short-rank-spec = tie.close (tie.spec most-requires slice-aggregate-kept-rank kept-rank-requires returns)
+short-rank-spec = tie.close (tie.spec no-size-requires slice-aggregate-kept-rank kept-rank-requires returns)

@@ -3,8 +3,8 @@ use native.Mathlib.Omega.{arith}
 use lib.IntN.{pos}
 use Rattle.whole.proofs.Laws.{cast-asks}
 use borrow.Author.Needs.{needs}
-use Rattle.model.proofs.ranking.most.Statement.{statement}
-use Rattle.model.proofs.ranking.most.Tie as tie
+use Rattle.kernel.proofs.no_size.Statement.{statement}
+use Rattle.kernel.proofs.no_size.Tie as tie
 
 int-to-float-result : tie.Need-int-to-float-result
 int-to-float-result c = cast-asks (pos 8589934592) (omega arith)
@@ -12,5 +12,5 @@ int-to-float-result c = cast-asks (pos 8589934592) (omega arith)
 returns : tie.Need-returns
 returns c = search needs
 
-pub most-spec : {M : Type 1} → statement M
-most-spec = tie.close (tie.spec int-to-float-result returns)
+pub no-size-spec : {M : Type 1} → statement M
+no-size-spec = tie.close (tie.spec int-to-float-result returns)
