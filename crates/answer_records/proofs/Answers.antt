@@ -27,11 +27,13 @@ pub read-no-length : (bytes : List ℕ) → (length bytes ≡ 40 → ⊥) → re
 unfolding readAnswer inOrder
 read-no-length bytes h = simp (ne-eqb (length bytes) 40 h)
 
-pub read-refused : (bytes : List ℕ) (r : Refusal) → length bytes ≡ 40 → checkAnswer (answerOf bytes) ≡ Refuse r → readAnswer bytes ≡ record { check = Refuse r; answer = zeroAnswer }
+pub read-refused : (bytes : List ℕ) (r : Refusal) → length bytes ≡ 40 → checkAnswer (answerOf bytes) ≡ Refuse r
+    → readAnswer bytes ≡ record { check = Refuse r; answer = zeroAnswer }
 unfolding readAnswer inOrder
 read-refused bytes r h e = simp (eq-eqb (length bytes) 40 h, e)
 
-pub read-accepted : (bytes : List ℕ) → length bytes ≡ 40 → checkAnswer (answerOf bytes) ≡ Pass → readAnswer bytes ≡ record { check = Pass; answer = answerOf bytes }
+pub read-accepted : (bytes : List ℕ) → length bytes ≡ 40 → checkAnswer (answerOf bytes) ≡ Pass
+    → readAnswer bytes ≡ record { check = Pass; answer = answerOf bytes }
 unfolding readAnswer inOrder
 read-accepted bytes h e = simp (eq-eqb (length bytes) 40 h, e)
 
@@ -65,7 +67,9 @@ module _ (a : AnswerRecord) (ok : IsAnswer a) where
   size = rw vector-first (omega (arith, length-append (vectorBytes (a .vector)) numbers, long))
 
   behind : (o : ℕ) → drop (16 + o) (answerBytes a) ≡ drop o numbers
-  behind o = sym (drop-drop o 16 (answerBytes a)) ∙ ap (λ (l : List ℕ). drop o (drop 16 l)) vector-first ∙ ap (drop o) (drop-at (vectorBytes (a .vector)) numbers 16 long)
+  behind o =
+      sym (drop-drop o 16 (answerBytes a)) ∙ ap (λ (l : List ℕ). drop o (drop 16 l)) vector-first
+      ∙ ap (drop o) (drop-at (vectorBytes (a .vector)) numbers 16 long)
 
   byte-behind : (o : ℕ) → getD (answerBytes a) (16 + o) 0 ≡ getD numbers o 0
   byte-behind o = sym (getD-drop 16 (answerBytes a) o 0) ∙ ap (λ (l : List ℕ). getD l o 0) (behind 0)
@@ -73,7 +77,9 @@ module _ (a : AnswerRecord) (ok : IsAnswer a) where
   reads : answerOf (answerBytes a) ≡ a
   unfolding answerOf numbers bigEndian
   reads = λ i. record {
-    vector = (ap (λ (l : List ℕ). vectorOf (take 16 l)) vector-first ∙ ap vectorOf (take-at (vectorBytes (a .vector)) numbers 16 long) ∙ vector-reads (ok .vector .signed)) i;
+    vector =
+        (ap (λ (l : List ℕ). vectorOf (take 16 l)) vector-first ∙ ap vectorOf (take-at (vectorBytes (a .vector)) numbers 16 long)
+        ∙ vector-reads (ok .vector .signed)) i;
     cost = (ap (λ (l : List ℕ). fromBigEndian (take 8 l)) (behind 0) ∙ written-reads-whole 8 (a .cost) (ok .cost .fits)) i;
     bound = (ap (λ (l : List ℕ). fromBigEndian (take 8 l)) (behind 8) ∙ written-reads-whole 8 (a .bound) (ok .bound .fits)) i;
     count = (ap (λ (l : List ℕ). fromBigEndian (take 4 l)) (behind 16) ∙ written-reads-whole 4 (a .count) (ok .count .fits)) i;
@@ -84,7 +90,8 @@ module _ (a : AnswerRecord) (ok : IsAnswer a) where
   }
 
 module _ (bytes : List ℕ) (ok : T (areBytes bytes)) (h : length bytes ≡ 40) where
-  joined : take 16 bytes ++ take 8 (drop 16 bytes) ++ take 8 (drop 24 bytes) ++ take 4 (drop 32 bytes) ++ take 4 (drop 36 bytes) ≡ take 40 bytes
+  joined : take 16 bytes ++ take 8 (drop 16 bytes) ++ take 8 (drop 24 bytes) ++ take 4 (drop 32 bytes) ++ take 4 (drop 36 bytes)
+      ≡ take 40 bytes
   joined = rw (← take-add 16 8 bytes, ← take-add 24 8 bytes, ← take-add 32 4 bytes, ← take-add 36 4 bytes)
 
   writes : answerBytes (answerOf bytes) ≡ bytes
@@ -103,8 +110,12 @@ pub answer-round-trip : AnswerRoundTrip
 unfolding readAnswer
 answer-round-trip = record {
   size = size;
-  written-reads = λ a ok e. read-accepted (answerBytes a) (size a ok) (ap checkAnswer (reads a ok) ∙ e) ∙ (λ i. record { check = Pass; answer = reads a ok i });
+  written-reads =
+      λ a ok e. read-accepted (answerBytes a) (size a ok) (ap checkAnswer (reads a ok) ∙ e)
+      ∙ (λ i. record { check = Pass; answer = reads a ok i });
   read-writes = λ bytes ok e.
-      let h = eqb→eq (length bytes) 40 (passed (eqb (length bytes) 40) Answer (first-passed (passIf (eqb (length bytes) 40) Answer) (checkAnswer (answerOf bytes) ∷ []) e)) in
+      let h =
+      eqb→eq (length bytes) 40 (passed (eqb (length bytes) 40) Answer
+      (first-passed (passIf (eqb (length bytes) 40) Answer) (checkAnswer (answerOf bytes) ∷ []) e)) in
       ap (λ (k : Check). answerBytes (ifPassed k (answerOf bytes) zeroAnswer)) e ∙ writes bytes ok h;
 }

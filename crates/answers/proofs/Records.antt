@@ -125,7 +125,8 @@ module _ (store : List ℕ) (job : Job) (table : List ℤ) (bounds : List ℕ) w
 
       cost-in-range : written .cost ≤ 1152921367167897600
       unfolding recordOf
-      cost-in-range = omega (arith, demand .exact, cost-limit store (job .model) .most (runs .checked) (found .vector) (vector-small vector-is))
+      cost-in-range =
+          omega (arith, demand .exact, cost-limit store (job .model) .most (runs .checked) (found .vector) (vector-small vector-is))
 
       passes-9 : checkAnswer written ≡ Pass
       unfolding recordOf checkAnswer

@@ -30,7 +30,8 @@ module _ (m : Model) (v : List ℤ) where
   total-append (p ∷ ps) qs = omega (arith, total-append ps qs)
 
   cost-append : m .p ≤ 2 → (ps qs : List Point) → cost m (ps ++ qs) v ≡ cost m ps v + cost m qs v
-  cost-append picked ps qs = omega (arith, total-append ps qs, cost-sum m (ps ++ qs) picked v, cost-sum m ps picked v, cost-sum m qs picked v)
+  cost-append picked ps qs =
+      omega (arith, total-append ps qs, cost-sum m (ps ++ qs) picked v, cost-sum m ps picked v, cost-sum m qs picked v)
 
 module _ (m : Model) (picked : m .p ≤ 2) (qs : List Point) (v : List ℤ) where
   -- one group more

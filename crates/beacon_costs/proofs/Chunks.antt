@@ -72,7 +72,8 @@ module _ {m : Model} (store : List ℕ) (ready : Ready (length store) m) (picked
       let i = min N (t * 76) in
       let e : i ≡ min N (t * 76 + 0 / 20 * 19 + min (0 % 20) 19) = omega arith in
       let before = subst (λ (n : ℕ). Sum n (first i)) e (summed i (omega arith)) in
-      slots-summed m (sizeAt m v) store (threshold-small (m .p) (m .eps) (ready .cut)) (empty-slot m .at-vector v) t k (first i) before .total
+      slots-summed m (sizeAt m v) store (threshold-small (m .p) (m .eps) (ready .cut)) (empty-slot m .at-vector v) t k (first i) before
+      .total
 
   cost-first : (a : ℕ) → cost m (take a (pointsOf store)) v ≡ first (min (length store / 12) a)
   unfolding pointsOf
@@ -105,7 +106,8 @@ chunk-sums {m} store ready picked {t} {s = s} {w} p chunk e =
     record {
       costs = λ v d g h.
           ap (λ (l : List ℕ). getD l g 0) e
-          ∙ groups-in false s w w m (slot store t) (sizeAt m v) (λ j k l i. size-in ready here w w j k l i v d) (ready .lines) (ready .cut) g h
+          ∙ groups-in false s w w m (slot store t) (sizeAt m v) (λ j k l i. size-in ready here w w j k l i v d) (ready .lines) (ready .cut)
+          g h
           ∙ group-slots store ready picked v t g;
       small = λ g h. subst (λ (l : List ℕ). getD l g 0 < 9007199254740992) (sym e) (groups-small _ g);
     }

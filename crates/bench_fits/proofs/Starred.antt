@@ -8,9 +8,11 @@ use Rattle.boxes.specs.Shape.{checkShape}
 use Rattle.boxes.specs.Boxes.{atMost, before, sideSize, sides, product, checkBox}
 use Rattle.boxes.specs.Split.{firstLargest, leftHalf, rightHalf, splitChecks, splitAnswer}
 use Rattle.loss.specs.Loss.{lossOf}
-use Rattle.residuals.specs.Cost.{dot, residual, sizeAt, dotMax, dotMin, eMin, eMax, nearestTo0, leastSize, least, unlessGap, totalLoss, cost, bound, leastAt, leastOver}
+use Rattle.residuals.specs.Cost.{dot, residual, sizeAt, dotMax, dotMin, eMin, eMax, nearestTo0, leastSize, least, unlessGap, totalLoss}
+use Rattle.residuals.specs.Cost.{cost, bound, leastAt, leastOver}
 use Rattle.labels.specs.Labels.{firstLeast, nearestLabel, fitting, sampleLabel, label}
-use Rattle.certificate.specs.Search.{ahead, lowerBound, firstSmallest, better, begin, split, isSolved, answer, ifRoom, step, follow, run, search}
+use Rattle.certificate.specs.Search.{ahead, lowerBound, firstSmallest, better, begin, split, isSolved, answer, ifRoom, step, follow, run}
+use Rattle.certificate.specs.Search.{search}
 use Rattle.coefficients.specs.Coefficient.{exponentOf, fractionOf, fieldsOf, patternOf}
 use Rattle.scale.specs.Scale.{checkScale}
 use Rattle.loss.specs.Loss.{checkLoss, checkLossFor}
@@ -30,14 +32,33 @@ use Rattle.bench_fits.specs.Spoiled.{SpoiledHold}
 use Rattle.ranks.specs.Largest.{insertDown, sortDown, nthLargest}
 
 pub starred-hold : StarredHold
-unfolding maxZ minZ floorHalf allZero inOrder checkShape atMost before sideSize sides product checkBox firstLargest leftHalf rightHalf splitChecks splitAnswer lossOf dot residual sizeAt dotMax dotMin eMin eMax nearestTo0 leastSize least firstLeast nearestLabel fitting sampleLabel label unlessGap totalLoss cost bound ahead lowerBound firstSmallest better begin split isSolved answer ifRoom step follow run search exponentOf fractionOf fieldsOf patternOf size checkScale checkLoss checkLossFor checkStart unsignedAt signedAt pointAt skipped firstPoints pointsOf checkStore strayFrom checkStray checkModel bigEndian fromBigEndian vectorBytes vectorOf jobBytes jobOf digitsOf decimal signed behindCommas joined fields line checkJob searched checkFit fitAnswer fitLine
+unfolding maxZ minZ floorHalf allZero inOrder checkShape atMost before sideSize sides product checkBox firstLargest leftHalf rightHalf
+    splitChecks splitAnswer lossOf dot residual sizeAt dotMax dotMin eMin eMax nearestTo0 leastSize least firstLeast nearestLabel fitting
+    sampleLabel label unlessGap totalLoss cost bound ahead lowerBound firstSmallest better begin split isSolved answer ifRoom step follow
+    run search exponentOf fractionOf fieldsOf patternOf size checkScale checkLoss checkLossFor checkStart unsignedAt signedAt pointAt
+    skipped firstPoints pointsOf checkStore strayFrom checkStray checkModel bigEndian fromBigEndian vectorBytes vectorOf jobBytes jobOf
+    digitsOf decimal signed behindCommas joined fields line checkJob searched checkFit fitAnswer fitLine
 starred-hold =
-    also refl (also refl (also refl (also refl (also refl (also refl (also refl (also refl (also refl (also refl (also refl (also refl (also refl (also refl (also refl (also refl (also refl (also refl (also refl none))))))))))))))))))
+    also refl (also refl (also refl
+    (also refl (also refl (also refl
+    (also refl (also refl (also refl
+    (also refl (also refl (also refl (also refl (also refl (also refl (also refl (also refl (also refl (also refl none))))))))))))))))))
 
 pub gaps-hold : GapsHold
-unfolding maxZ minZ floorHalf allZero inOrder checkShape atMost before sideSize sides product checkBox firstLargest leftHalf rightHalf splitChecks splitAnswer lossOf dot residual sizeAt dotMax dotMin eMin eMax nearestTo0 leastSize least firstLeast nearestLabel fitting sampleLabel label unlessGap totalLoss cost bound ahead lowerBound firstSmallest better begin split isSolved answer ifRoom step follow run search exponentOf fractionOf fieldsOf patternOf size checkScale checkLoss checkLossFor checkStart unsignedAt signedAt pointAt skipped firstPoints pointsOf checkStore strayFrom checkStray checkModel bigEndian fromBigEndian vectorBytes vectorOf jobBytes jobOf digitsOf decimal signed behindCommas joined fields line checkJob searched checkFit fitAnswer fitLine
+unfolding maxZ minZ floorHalf allZero inOrder checkShape atMost before sideSize sides product checkBox firstLargest leftHalf rightHalf
+    splitChecks splitAnswer lossOf dot residual sizeAt dotMax dotMin eMin eMax nearestTo0 leastSize least firstLeast nearestLabel fitting
+    sampleLabel label unlessGap totalLoss cost bound ahead lowerBound firstSmallest better begin split isSolved answer ifRoom step follow
+    run search exponentOf fractionOf fieldsOf patternOf size checkScale checkLoss checkLossFor checkStart unsignedAt signedAt pointAt
+    skipped firstPoints pointsOf checkStore strayFrom checkStray checkModel bigEndian fromBigEndian vectorBytes vectorOf jobBytes jobOf
+    digitsOf decimal signed behindCommas joined fields line checkJob searched checkFit fitAnswer fitLine
 gaps-hold = also refl (also refl (also refl (also refl none)))
 
 pub spoiled-hold : SpoiledHold
-unfolding insertDown sortDown nthLargest leastAt leastOver maxZ minZ floorHalf allZero inOrder checkShape atMost before sideSize sides product checkBox firstLargest leftHalf rightHalf splitChecks splitAnswer lossOf dot residual sizeAt dotMax dotMin eMin eMax nearestTo0 leastSize least firstLeast nearestLabel fitting sampleLabel label unlessGap totalLoss cost bound ahead lowerBound firstSmallest better begin split isSolved answer ifRoom step follow run search exponentOf fractionOf fieldsOf patternOf size checkScale checkLoss checkLossFor checkStart unsignedAt signedAt pointAt skipped firstPoints pointsOf checkStore strayFrom checkStray checkModel bigEndian fromBigEndian vectorBytes vectorOf jobBytes jobOf digitsOf decimal signed behindCommas joined fields line checkJob searched checkFit fitAnswer fitLine
+unfolding insertDown sortDown nthLargest leastAt leastOver maxZ minZ floorHalf allZero inOrder checkShape atMost before sideSize sides
+    product checkBox firstLargest leftHalf rightHalf splitChecks splitAnswer lossOf dot residual sizeAt dotMax dotMin eMin eMax nearestTo0
+    leastSize least firstLeast nearestLabel fitting sampleLabel label unlessGap totalLoss cost bound ahead lowerBound firstSmallest better
+    begin split isSolved answer ifRoom step follow run search exponentOf fractionOf fieldsOf patternOf size checkScale checkLoss
+    checkLossFor checkStart unsignedAt signedAt pointAt skipped firstPoints pointsOf checkStore strayFrom checkStray checkModel bigEndian
+    fromBigEndian vectorBytes vectorOf jobBytes jobOf digitsOf decimal signed behindCommas joined fields line checkJob searched checkFit
+    fitAnswer fitLine
 spoiled-hold = also refl (also refl (also refl (also refl (also refl (also refl none)))))

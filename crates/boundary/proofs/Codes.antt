@@ -13,7 +13,8 @@ use Rattle.codes.specs.declared.Check.the-variants.{Pass, Refuse}
 use Rattle.codes.specs.declared.Outcome.{Outcome}
 use Rattle.codes.specs.declared.Outcome.the-variants.{Value, Refused}
 use Rattle.codes.specs.declared.Refusal.{Refusal}
-use Rattle.codes.specs.declared.Refusal.the-variants.{Length, Shape, Scale, Loss, Box, Start, Stray, Table, Answer, Short, Beacon, OffGrid, Bounds, Order, Clash}
+use Rattle.codes.specs.declared.Refusal.the-variants.{Length, Shape, Scale, Loss, Box, Start, Stray, Table, Answer, Short, Beacon, OffGrid}
+use Rattle.codes.specs.declared.Refusal.the-variants.{Bounds, Order, Clash}
 use Rattle.codes.specs.Codes.{numberOf, within}
 use Rattle.codes.proofs.Checks.{passed}
 use Rattle.points.specs.declared.Point.{Point}
@@ -55,7 +56,8 @@ given-at-0 (Refused r) given held e = absurd (refusal-not-0 r e)
 
 -- a stray record is one of those looked at
 module _ (d k : ℕ) where
-  first-or-later : (i n : ℕ) (clear : Bool) (later : Check) → (later ≡ Refuse (Stray k) → k < suc i + n) → cond clear later (Refuse (Stray i)) ≡ Refuse (Stray k) → k < i + suc n
+  first-or-later : (i n : ℕ) (clear : Bool) (later : Check) → (later ≡ Refuse (Stray k) → k < suc i + n)
+      → cond clear later (Refuse (Stray i)) ≡ Refuse (Stray k) → k < i + suc n
   first-or-later i n true later inside e = let h = inside e in omega arith
   first-or-later i n false later inside e = let same : i ≡ k = cc in omega arith
 

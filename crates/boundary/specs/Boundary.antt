@@ -8,7 +8,8 @@ use Rattle.codes.specs.declared.Check.{Check}
 use Rattle.codes.specs.declared.Outcome.{Outcome}
 use Rattle.codes.specs.declared.Outcome.the-variants.{Value, Refused}
 use Rattle.codes.specs.declared.Refusal.{Refusal}
-use Rattle.codes.specs.declared.Refusal.the-variants.{Length, Shape, Scale, Loss, Box, Start, Stray, Table, Answer, Short, Beacon, OffGrid, Bounds, Order, Clash}
+use Rattle.codes.specs.declared.Refusal.the-variants.{Length, Shape, Scale, Loss, Box, Start, Stray, Table, Answer, Short, Beacon, OffGrid}
+use Rattle.codes.specs.declared.Refusal.the-variants.{Bounds, Order, Clash}
 use Rattle.codes.specs.Codes.{numberOf, unlessRefused}
 use Rattle.jobs.specs.declared.Job.{Job}
 use Rattle.jobs.specs.declared.Model.{Model}

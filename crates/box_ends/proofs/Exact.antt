@@ -13,7 +13,6 @@ use Rattle.integers.proofs.Tests.{by-cond}
 use Rattle.integers.proofs.Parts.{up, from-parts, sum-parts, sub-parts, neg-up, neg-dn, pos-up, pos-dn, abs-neg}
 use Rattle.boxes.specs.declared.Box.{Box}
 use Rattle.residuals.specs.Cost.{at, dotMax, dotMin, nearestTo0}
-use Rattle.residuals.specs.Inside.{positive}
 use Rattle.residuals.proofs.Spans.{above, positive-max, min-le-max}
 use Rattle.whole.specs.Whole.{Whole, Within}
 use Rattle.whole.proofs.Laws.{neg-whole, zero-whole}
@@ -46,7 +45,8 @@ turned a b =
     ap natAbs e ∙ abs-neg c
 
 module _ (B : Box) (b : ℕ) (x : List ℤ) {low high u : ℕ → Float} {y : Float} {z : ℤ} (target : Within y z 2147483648) (d : ℕ) (few : d ≤ 4)
-    (lows : (k : ℕ) → k < d → Within (low k) (at (B .low) (b + k)) 32768) (highs : (k : ℕ) → k < d → Within (high k) (at (B .high) (b + k)) 32768)
+    (lows : (k : ℕ) → k < d → Within (low k) (at (B .low) (b + k)) 32768)
+    (highs : (k : ℕ) → k < d → Within (high k) (at (B .high) (b + k)) 32768)
     (point : (k : ℕ) → k < d → Within (u k) (at x k) 32768) where
   low-product : (k : ℕ) → k < d → Within (mul binary64 (low k) (u k)) (at (B .low) (b + k) *ℤ at x k) 1073741824
   low-product k h = mul-within (lows k h) (point k h) (omega arith)
@@ -56,7 +56,9 @@ module _ (B : Box) (b : ℕ) (x : List ℤ) {low high u : ℕ → Float} {y : Fl
 
   low-end : Within (leastEnd low high u y d) (z -ℤ dotMax B b x d) 6442450944
   unfolding dotMax
-  low-end = wider (omega arith) (lessened-within (dotMax B b x) _ refl (λ k. refl) target d few (λ k h. max-within (low-product k h) (high-product k h)))
+  low-end =
+      wider (omega arith) (lessened-within (dotMax B b x) _ refl (λ k. refl) target d few
+      (λ k h. max-within (low-product k h) (high-product k h)))
 
   -- −emax by the first n coordinates
   raised-within : (n : ℕ) → n ≤ d → Within (oppositeEnd low high u y n) (dotMin B b x n -ℤ z) (2147483648 + n * 1073741824)

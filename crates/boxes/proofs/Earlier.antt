@@ -83,7 +83,8 @@ before-total (x ∷ u) (y ∷ v) e s t =
     let r : up y + dn x < up x + dn y → ⊥ = λ k. t (comes-before (here y x k)) in
     let same : up x + dn y ≡ up y + dn x = omega arith in
     ap₂ _∷_ (from-parts x y same)
-    (before-total u v (omega arith) (λ k. s (comes-before (there x y same (earlier u v k)))) (λ k. t (comes-before (there y x (omega arith) (earlier v u k)))))
+    (before-total u v (omega arith) (λ k. s (comes-before (there x y same (earlier u v k))))
+    (λ k. t (comes-before (there y x (omega arith) (earlier v u k)))))
 
 module _ (b : Box) (v : List ℤ) (i : InBox v b) where
   pub low-before : (w : List ℤ) → T (before v w) → T (before (b .low) w)

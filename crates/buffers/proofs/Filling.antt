@@ -11,7 +11,8 @@ abbrev pub laid : {A : Type 0} → List A → List A → ℕ → List A
 laid out from k = take k from ++ drop k out
 
 pub laid-more :
-    {A : Type 0} (out from : List A) (k : ℕ) (z : A) → k < length out → k < length from → set (laid out from k) k (getD from k z) ≡ laid out from (suc k)
+    {A : Type 0} (out from : List A) (k : ℕ) (z : A) → k < length out → k < length from
+    → set (laid out from k) k (getD from k z) ≡ laid out from (suc k)
 laid-more out from k z inside more =
     let e : 0 + k ≡ k = omega arith in
     let s : 0 + suc k ≡ suc k = omega arith in

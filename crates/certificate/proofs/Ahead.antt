@@ -154,6 +154,7 @@ module _ (cost : List ℤ → ℕ) (t : ℕ) (best : List ℤ) where
   none-more one u same stays =
       by-cond (λ w. Settled cost t best w → w ≡ best) (ahead t (cost one) one (cost u) u) (λ h s. absurd (stays s h)) (λ h. same)
 
-  pub none-better : (v u : List ℤ) → Settled cost t best (better cost t (better cost t best v) u) → better cost t (better cost t best v) u ≡ best
+  pub none-better : (v u : List ℤ) → Settled cost t best (better cost t (better cost t best v) u)
+      → better cost t (better cost t best v) u ≡ best
   none-better v u =
       none-more (better cost t best v) u (none-more best v (λ s. refl) (λ s. s)) (better-stays cost t best v u)

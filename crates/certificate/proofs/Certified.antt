@@ -13,12 +13,14 @@ use Rattle.integers.proofs.Lists.{all-map}
 use Rattle.boxes.specs.declared.Box.{Box}
 use Rattle.boxes.specs.Boxes.{InBox, volume}
 use Rattle.boxes.specs.Laws.{Bounds}
-use Rattle.certificate.specs.Search.{State, Kind, solved, Answer, Next, stop, go, lowerBound, begin, split, isSolved, answer, step, run, search}
+use Rattle.certificate.specs.Search.{State, Kind, solved, Answer, Next, stop, go, lowerBound, begin, split, isSolved, answer, step}
+use Rattle.certificate.specs.Search.{run, search}
 use Rattle.certificate.specs.Certificate.{Reached, beginning, counting, Finished, Certificate, stateOf}
 use Rattle.certificate.proofs.Ahead.{tied, ahead-is, ahead-le, settled-le}
 use Rattle.certificate.proofs.Smallest.{lower-below, lower-le}
 use Rattle.certificate.proofs.Cover.{nothing-open, count-few, open-more, open-few}
-use Rattle.certificate.proofs.Steps.{gap, solved-later, solved-zero, solved-near, unsolved-open, Case, solves, spends, fills, goes, step-case, run-stops, run-goes}
+use Rattle.certificate.proofs.Steps.{gap, solved-later, solved-zero, solved-near, unsolved-open, Case, solves, spends, fills, goes}
+use Rattle.certificate.proofs.Steps.{step-case, run-stops, run-goes}
 use Rattle.certificate.proofs.Reached.{Held, split-covers, held}
 
 empty-zero : (bs : List Box) → (length bs ≡ 0) ↔ (bs ≡ [])
@@ -83,8 +85,10 @@ module _ (cost : List ℤ → ℕ) (bound : Box → ℕ) (budget rows t : ℕ) (
 
     is-solved : {kind : Kind} → Case cost bound budget rows t s (stop kind) → (kind ≡ solved) ↔ (isSolved cost bound t s ≡ true)
     is-solved (solves yet) = (λ e. yet, λ k. refl)
-    is-solved (spends unsolved all) = (λ e. let z : _≡_ {A = ℕ} 0 1 = cc in absurd (omega arith), λ k. absurd (true≢false (sym k ∙ unsolved)))
-    is-solved (fills unsolved many) = (λ e. let z : _≡_ {A = ℕ} 0 1 = cc in absurd (omega arith), λ k. absurd (true≢false (sym k ∙ unsolved)))
+    is-solved (spends unsolved all) =
+        (λ e. let z : _≡_ {A = ℕ} 0 1 = cc in absurd (omega arith), λ k. absurd (true≢false (sym k ∙ unsolved)))
+    is-solved (fills unsolved many) =
+        (λ e. let z : _≡_ {A = ℕ} 0 1 = cc in absurd (omega arith), λ k. absurd (true≢false (sym k ∙ unsolved)))
 
     -- what is spent had a split to come, and what is full would have had more open boxes than half of V
     suffices-case :
@@ -128,7 +132,8 @@ module _ (cost : List ℤ → ℕ) (bound : Box → ℕ) (budget rows t : ℕ) (
                 λ e. omega (arith, solved-near cost bound t s (iff .0 e)),
                 λ k. iff .1 (same ∙ le-leb (gap cost bound s) t (omega arith)),
               );
-          reads-empty = λ z. (empties z, λ e. iff .1 (solved-zero cost bound t s z ∙ eq-eqb (length (r .list)) 0 (empty-zero (r .list) .1 e)));
+          reads-empty =
+              λ z. (empties z, λ e. iff .1 (solved-zero cost bound t s z ∙ eq-eqb (length (r .list)) 0 (empty-zero (r .list) .1 e)));
           near = λ e. omega (arith, solved-near cost bound t s (iff .0 e));
           first = λ z e.
               let seen = nothing-open (h .covers) (empties z e) in

@@ -51,7 +51,8 @@ module _ (cost : List ℤ → ℕ) (bound : Box → ℕ) (budget rows t : ℕ) w
   takes : (s : State) → 1 ≤ length (s .list) → Takes (boxAt (s .list) (firstSmallest bound (s .list))) (s .list) (rest s)
   takes s some = takes-at zeroBox (s .list) (firstSmallest bound (s .list)) ((smallest bound (s .list) some) .inside)
 
-  splits : (s : State) {after : State} → Case cost bound budget rows t s (go after) → (1 ≤ length (s .list) → Costed (s .best) (rest s)) → Costed (after .best) (after .list)
+  splits : (s : State) {after : State} → Case cost bound budget rows t s (go after) → (1 ≤ length (s .list) → Costed (s .best) (rest s))
+      → Costed (after .best) (after .list)
   splits s (goes unsolved left few) h = split-costed s (h (unsolved-open cost bound t s unsolved))
 
   module _ (start : List ℤ) (box : Box) where

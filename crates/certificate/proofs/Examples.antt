@@ -9,7 +9,8 @@ use Rattle.integers.specs.Integers.{floorHalf}
 use Rattle.boxes.specs.declared.Box.{Box}
 use Rattle.boxes.specs.Boxes.{before, sideSize, sides, from, each, gridBetween, grid}
 use Rattle.boxes.specs.Split.{firstLargest, leftHalf, rightHalf}
-use Rattle.certificate.specs.Search.{Kind, solved, spent, Answer, ahead, lowerBound, firstSmallest, better, begin, split, isSolved, answer, ifRoom, step, follow, run, search}
+use Rattle.certificate.specs.Search.{Kind, solved, spent, Answer, ahead, lowerBound, firstSmallest, better, begin, split, isSolved}
+use Rattle.certificate.specs.Search.{answer, ifRoom, step, follow, run, search}
 
 abbrev leastOf : List ℕ → ℕ
 leastOf [] = 0
@@ -40,7 +41,8 @@ away k x v = natAbs (getD v k (pos 0) +ℤ x)
 
 pub record Ties : Type 0 where
   -- "a spent or full answer may have C = L"
-  pub spent-even : found even 0 0 (one (pos 1)) (one (pos 0)) (one (pos 1)) ≡ told spent (one (pos 1)) 7 7 0 (record { low = one (pos 0); high = one (pos 1) } ∷ []) 1
+  pub spent-even : found even 0 0 (one (pos 1)) (one (pos 0)) (one (pos 1))
+      ≡ told spent (one (pos 1)) 7 7 0 (record { low = one (pos 0); high = one (pos 1) } ∷ []) 1
   -- with a budget the first vector is found, and no box is open then
   pub solved-even : found even 0 9 (one (pos 1)) (one (pos 0)) (one (pos 1)) ≡ told solved (one (pos 0)) 7 7 1 [] 1
   -- "For larger t the answer remains as it was": the start vector, before any split
@@ -50,8 +52,10 @@ pub record Ties : Type 0 where
   -- A box of one vector whose bound is above C is not kept, though its low vector comes before best.
   pub dearer : found (away 0 (pos 1)) 0 9 (one (negsuc 1)) (one (negsuc 1)) (one (negsuc 0)) ≡ told solved (one (negsuc 0)) 0 0 1 [] 1
   -- Where C stays and best comes earlier, an open box whose low vector no longer comes before best is dropped.
-  pub earlier : found (away 1 (pos 2)) 0 9 (two (pos 2) (negsuc 1)) (two (pos 1) (negsuc 2)) (two (pos 2) (negsuc 1)) ≡ told solved (two (pos 1) (negsuc 1)) 0 0 2 [] 2
+  pub earlier : found (away 1 (pos 2)) 0 9 (two (pos 2) (negsuc 1)) (two (pos 1) (negsuc 2)) (two (pos 2) (negsuc 1))
+      ≡ told solved (two (pos 1) (negsuc 1)) 0 0 2 [] 2
 
 pub ties : Ties
-unfolding floorHalf before sideSize sides from each gridBetween firstLargest leftHalf rightHalf ahead lowerBound firstSmallest better begin split isSolved answer ifRoom step follow run search
+unfolding floorHalf before sideSize sides from each gridBetween firstLargest leftHalf rightHalf ahead lowerBound firstSmallest better begin
+    split isSolved answer ifRoom step follow run search
 ties = record { spent-even = refl; solved-even = refl; later-even = refl; signed = refl; dearer = refl; earlier = refl }

@@ -83,7 +83,9 @@ module _ (cost : List ℤ → ℕ) (bound : Box → ℕ) (laws : Bounds cost bou
           record {
             best-in = better-in cost t one r box first-in (right-low box taken o);
             opened = split-covers c .boxes;
-            kept = passed-kept (keeps bound t (cost both) both) (without (s .list) (firstSmallest bound (s .list)) ++ (leftHalf taken ∷ rightHalf taken ∷ []));
+            kept =
+                passed-kept (keeps bound t (cost both) both)
+                (without (s .list) (firstSmallest bound (s .list)) ++ (leftHalf taken ∷ rightHalf taken ∷ []));
             longest = omega arith;
             room = omega (arith, h .room);
             within = omega (arith, h .within);

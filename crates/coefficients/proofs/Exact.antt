@@ -1,9 +1,10 @@
--- w / 2 ^ S in single precision: rounding is exact at it, its bits are `patternOf S w`, a quotient by 2 ^ S gives it, and a product with 2 ^ S takes it back.
--- Assumes nothing.
+-- w / 2 ^ S in single precision: rounding is exact at it, its bits are `patternOf S w`, a quotient by 2 ^ S gives it, and a product with
+-- 2 ^ S takes it back. Assumes nothing.
 use mathlib.Core.Path.{_≡_, refl, sym, ap, _∙_, subst}
 use mathlib.Core.Bool.{Bool, true, false, not, cond}
 use Prim.Native.Nat.{ℕ, zero, suc, _+_, _-_, _*_, _/_, _^_, _≤_, _<_}
-use native.Mathlib.Nat.{mul-one, mul-comm, mul-assoc, mul-left-comm, mul-pos, mul-div-cancel, mul-le-mul-right, lt-of-lt-of-le, lt-of-le-of-lt, le-trans, le-of-eq, lt-of-not-le, not-le-of-lt, zero-lt-suc, zero-mul, lt-irrefl}
+use native.Mathlib.Nat.{mul-one, mul-comm, mul-assoc, mul-left-comm, mul-pos, mul-div-cancel, mul-le-mul-right, lt-of-lt-of-le}
+use native.Mathlib.Nat.{lt-of-le-of-lt, le-trans, le-of-eq, lt-of-not-le, not-le-of-lt, zero-lt-suc, zero-mul, lt-irrefl}
 use native.Mathlib.Omega.{arith}
 use lib.IntN.{ℤ, pos, negsuc, natAbs}
 use lib.Signed.{nonNeg, natAbs-le}
@@ -89,7 +90,8 @@ module _ (S : ℕ) (h : S ≤ 15) where
       ap (λ (x : ℕ). n * x) (ap (λ (x : ℕ). 2 ^ x) (shifts z L) ∙ pow-add 2 (24 - z) k) ∙ sym (mul-assoc n (2 ^ (24 - z)) (2 ^ k)) in
       let rest : n * 2 ^ (149 - S) / 2 ^ k ≡ q = ap (λ (x : ℕ). x / 2 ^ k) drop-first ∙ mul-div-cancel q (pow-pos k) in
       let top : 2 ^ 23 ≤ q =
-      le-trans (le-of-eq (ap (λ (x : ℕ). 2 ^ x) (places z Z L) ∙ pow-add 2 (z - 1) (24 - z))) (mul-le-mul-right (2 ^ (24 - z)) (leading n p)) in
+      le-trans (le-of-eq (ap (λ (x : ℕ). 2 ^ x) (places z Z L) ∙ pow-add 2 (z - 1) (24 - z)))
+      (mul-le-mul-right (2 ^ (24 - z)) (leading n p)) in
       ap (λ (x : ℕ). sign * 2 ^ 31 + (x - 24) * 2 ^ 23 + n * 2 ^ (149 - S) / 2 ^ (x - 24)) (size-shift n (149 - S) p)
       ∙ ap (λ (x : ℕ). sign * 2 ^ 31 + k * 2 ^ 23 + x) rest
       ∙ total (sign * 2 ^ 31) z q Z top
@@ -103,7 +105,8 @@ module _ (S : ℕ) (h : S ≤ 15) where
       total : (c z q : ℕ) → 0 < z → 8388608 ≤ q → c + (z + (149 - S) - 24) * 8388608 + q ≡ c + (127 + (z - 1) - S) * 8388608 + (q - 8388608)
       total c z q p l = omega arith
 
-  kept-bits : (t : Bool) (m : ℕ) (e : ℤ) (sign n : ℕ) → weight t ≡ sign * 2 ^ 31 → m * up e * 2 ^ S ≡ n * down e → toBits binary32 (fin t m e) ≡ kept (sign * 2 ^ 31) (n * 2 ^ (149 - S))
+  kept-bits : (t : Bool) (m : ℕ) (e : ℤ) (sign n : ℕ) → weight t ≡ sign * 2 ^ 31 → m * up e * 2 ^ S ≡ n * down e
+      → toBits binary32 (fin t m e) ≡ kept (sign * 2 ^ 31) (n * 2 ^ (149 - S))
   unfolding toBits
   kept-bits t m e sign n s v = ap (kept (weight t)) (units-of m e n v) ∙ ap (λ (x : ℕ). kept x (n * 2 ^ (149 - S))) s
 
@@ -116,7 +119,8 @@ module _ (S : ℕ) (h : S ≤ 15) where
   bits-of nan w small v = absurd v
   bits-of (inf t) w small v = absurd v
   bits-of (fin t m e) (pos zero) small v = kept-bits t m e 0 0 (ap weight (v .0)) (v .1) ∙ kept-zero
-  bits-of (fin t m e) (pos (suc n)) small v = kept-bits t m e 0 (suc n) (ap weight (v .0)) (v .1) ∙ fields-kept 0 (suc n) (zero-lt-suc n) small
+  bits-of (fin t m e) (pos (suc n)) small v =
+      kept-bits t m e 0 (suc n) (ap weight (v .0)) (v .1) ∙ fields-kept 0 (suc n) (zero-lt-suc n) small
   bits-of (fin t m e) (negsuc n) small v = kept-bits t m e 1 (suc n) (ap weight (v .0)) (v .1) ∙ fields-kept 1 (suc n) (zero-lt-suc n) small
 
   -- ---- the coefficient
@@ -124,7 +128,8 @@ module _ (S : ℕ) (h : S ≤ 15) where
   unfolding coefficientOf
   coefficient-rounded w f =
       let x = round binary32 (negative w) (natAbs w) (2 ^ S) in
-      ap (ofBits binary32) (sym (bits-of x w (short w f) (rounded-exact (negative w) (natAbs w) (short w f)))) ∙ ofBits-toBits binary32 x (round-fits binary32 (negative w) (natAbs w) (2 ^ S))
+      ap (ofBits binary32) (sym (bits-of x w (short w f) (rounded-exact (negative w) (natAbs w) (short w f))))
+      ∙ ofBits-toBits binary32 x (round-fits binary32 (negative w) (natAbs w) (2 ^ S))
 
   pub coefficient-exact : (w : ℤ) → SFits w16 w → HasValue (coefficientOf S w) (negative w) (natAbs w) (2 ^ S)
   coefficient-exact w f = rw (coefficient-rounded w f) (rounded-exact (negative w) (natAbs w) (short w f))
@@ -147,7 +152,8 @@ quotient f (inf t) y s a p P v w = absurd v
 quotient f (fin t m e) nan s a p P v w = absurd w
 quotient f (fin t m e) (inf u) s a p P v w = absurd w
 quotient f (fin t m e) (fin u zero d) s a p P v w =
-    absurd (lt-irrefl 0 (subst (λ (x : ℕ). 0 < x) (sym (w .1) ∙ ap (λ (x : ℕ). x * 1) (zero-mul (up d)) ∙ zero-mul 1) (mul-pos P (down-pos d))))
+    absurd (lt-irrefl 0 (subst (λ (x : ℕ). 0 < x) (sym (w .1) ∙ ap (λ (x : ℕ). x * 1) (zero-mul (up d)) ∙ zero-mul 1)
+    (mul-pos P (down-pos d))))
 quotient f (fin t m e) (fin u (suc n) d) s a p P v w =
     let k : m * up e ≡ a * down e = sym (mul-one (m * up e)) ∙ v .1 in
     let l : suc n * up d ≡ p * down d = sym (mul-one (suc n * up d)) ∙ w .1 in
@@ -167,7 +173,8 @@ product f (fin t m e) (fin u n d) s a p v w =
     let l : n * up d ≡ p * down d = sym (mul-one (n * up d)) ∙ w .1 in
     ap (λ (b : Bool). round f b (m * up e * (n * up d)) (down e * down d)) (same-sign t u s (v .0) (w .0))
     ∙ round-same f s (m * up e * (n * up d)) (down e * down d) a 1 (mul-pos (down-pos e) (down-pos d)) (zero-lt-suc 0)
-    (mul-one (m * up e * (n * up d)) ∙ ap (λ (x : ℕ). m * up e * x) l ∙ sym (mul-assoc (m * up e) p (down d)) ∙ ap (λ (x : ℕ). x * down d) (v .1) ∙ mul-assoc a (down e) (down d))
+    (mul-one (m * up e * (n * up d)) ∙ ap (λ (x : ℕ). m * up e * x) l ∙ sym (mul-assoc (m * up e) p (down d))
+    ∙ ap (λ (x : ℕ). x * down d) (v .1) ∙ mul-assoc a (down e) (down d))
 
 -- ---- of the cast w, by the cast 2 ^ S
 int-rounded : (w : ℤ) → ofInt binary32 w ≡ round binary32 (negative w) (natAbs w) 1
@@ -184,9 +191,11 @@ module _ (S : ℕ) (h : S ≤ 15) where
 
   pub divided : (w : ℤ) → SFits w16 w → div binary32 (ofInt binary32 w) (ofInt binary32 (pos (2 ^ S))) ≡ coefficientOf S w
   divided w f =
-      quotient binary32 (ofInt binary32 w) (ofInt binary32 (pos (2 ^ S))) (negative w) (natAbs w) (2 ^ S) (pow-pos S) (int-exact w (short w f)) power-exact
+      quotient binary32 (ofInt binary32 w) (ofInt binary32 (pos (2 ^ S))) (negative w) (natAbs w) (2 ^ S) (pow-pos S)
+      (int-exact w (short w f)) power-exact
       ∙ sym (coefficient-rounded S h w f)
 
   pub multiplied : (w : ℤ) → SFits w16 w → mul binary32 (coefficientOf S w) (ofInt binary32 (pos (2 ^ S))) ≡ ofInt binary32 w
   multiplied w f =
-      product binary32 (coefficientOf S w) (ofInt binary32 (pos (2 ^ S))) (negative w) (natAbs w) (2 ^ S) (coefficient-exact S h w f) power-exact ∙ sym (int-rounded w)
+      product binary32 (coefficientOf S w) (ofInt binary32 (pos (2 ^ S))) (negative w) (natAbs w) (2 ^ S) (coefficient-exact S h w f)
+      power-exact ∙ sym (int-rounded w)

@@ -1,5 +1,5 @@
--- Reading one pattern: no two numbers have one pattern, so `coordinateOf` finds the number that has p, and `onGrid` says whether there is one.
--- Assumes nothing.
+-- Reading one pattern: no two numbers have one pattern, so `coordinateOf` finds the number that has p, and `onGrid` says whether there is
+-- one. Assumes nothing.
 use mathlib.Core.Path.{_≡_, refl, sym, ap, _∙_, subst}
 use mathlib.Core.Logic.{inl, inr}
 use mathlib.Core.Bool.{Bool, true, false, not, true≢false, false≢true}
@@ -61,7 +61,8 @@ among-has (suc k) S p w h e =
     let minus = eqb (patternOf S (negsuc k)) p in
     by-cond has plus {x = pos k} (eqb→eq _ _)
     (λ t. by-cond has minus {x = negsuc k} {y = among k S p} (eqb→eq _ _)
-    (λ u. among-has k S p w (next w h (λ q. T-not plus t (eq→eqb (ap (patternOf S) q ∙ e))) (λ q. T-not minus u (eq→eqb (ap (patternOf S) q ∙ e)))) e))
+    (λ u. among-has k S p w (next w h (λ q. T-not plus t (eq→eqb (ap (patternOf S) q ∙ e)))
+    (λ q. T-not minus u (eq→eqb (ap (patternOf S) q ∙ e)))) e))
   where
     next : (w : ℤ) → mag w < suc k → (pos k ≡ w → ⊥) → (negsuc k ≡ w → ⊥) → mag w < k
     next (pos n) h p q = elim (eq-or-lt-of-le (le-of-suc-le-suc h)) [ inl e ↦ absurd (p (ap pos (sym e))) | inr l ↦ l ]
@@ -91,7 +92,8 @@ missed S p none = (
 
 -- ---- the number that a pattern stands for, and what has none
 -- the value of w's pattern, times 2 ^ S, is w
-pub scaled-back : (S : ℕ) → S ≤ 15 → (p : ℕ) (w : ℤ) → SFits w16 w → patternOf S w ≡ p → mul binary32 (ofBits binary32 p) (ofInt binary32 (pos (2 ^ S))) ≡ ofInt binary32 w
+pub scaled-back : (S : ℕ) → S ≤ 15 → (p : ℕ) (w : ℤ) → SFits w16 w → patternOf S w ≡ p
+    → mul binary32 (ofBits binary32 p) (ofInt binary32 (pos (2 ^ S))) ≡ ofInt binary32 w
 unfolding coefficientOf
 scaled-back S h p w f e = ap (λ (q : ℕ). mul binary32 (ofBits binary32 q) (ofInt binary32 (pos (2 ^ S)))) (sym e) ∙ multiplied S h w f
 
@@ -107,4 +109,5 @@ coefficient-no-nan S h w f = value-no-nan (coefficientOf S w) (negative w) (natA
 pub nan-missed : (S : ℕ) → S ≤ 15 → (p : ℕ) → T (nanBits binary32 p) → (w : ℤ) → SFits w16 w → patternOf S w ≡ p → ⊥
 unfolding coefficientOf
 nan-missed S h p t w f e =
-    T-not (isNan (ofBits binary32 p)) (subst (λ (q : ℕ). T (not (isNan (ofBits binary32 q)))) e (coefficient-no-nan S h w f)) (subst T (nanBits-is binary32 p) t)
+    T-not (isNan (ofBits binary32 p)) (subst (λ (q : ℕ). T (not (isNan (ofBits binary32 q)))) e (coefficient-no-nan S h w f))
+    (subst T (nanBits-is binary32 p) t)

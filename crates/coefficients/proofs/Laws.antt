@@ -22,7 +22,8 @@ use Rattle.scale.specs.Scale.{checkScale}
 use Rattle.boxes.specs.Shape.{checkVector}
 use Rattle.coefficients.specs.Coefficient.{patternOf, coefficientOf}
 use Rattle.coefficients.specs.Grid.{coordinateOf, onGrid}
-use Rattle.coefficients.specs.Lines.{checkUsed, writingChecks, lineOf, writtenIf, writtenOf, allOnGrid, allPlusZero, checkGrid, readingChecks, coordinatesIf, coordinatesOf, patternsOf}
+use Rattle.coefficients.specs.Lines.{checkUsed, writingChecks, lineOf, writtenIf, writtenOf, allOnGrid, allPlusZero, checkGrid}
+use Rattle.coefficients.specs.Lines.{readingChecks, coordinatesIf, coordinatesOf, patternsOf}
 use Rattle.coefficients.specs.Laws.{ExactCoefficient, ExactReading, Four16, FourSingle, RoundTrip}
 use Rattle.coefficients.specs.declared.Line.{Line}
 use Rattle.coefficients.proofs.Exact.{coefficient-exact, coefficient-bits}
@@ -45,7 +46,8 @@ exact-reading S =
 
 -- ---- a list of them
 module _ (S : ℕ) (h : S ≤ 15) where
-  all-accepted : (w : List ℤ) → ((k : ℕ) → SFits w16 (getD w k (pos 0))) → (allOnGrid S (map (patternOf S) w) ≡ true) × (map (coordinateOf S) (map (patternOf S) w) ≡ w)
+  all-accepted : (w : List ℤ) → ((k : ℕ) → SFits w16 (getD w k (pos 0)))
+      → (allOnGrid S (map (patternOf S) w) ≡ true) × (map (coordinateOf S) (map (patternOf S) w) ≡ w)
   unfolding allOnGrid
   all-accepted [] f = (refl, refl)
   all-accepted (z ∷ w) f =
@@ -63,7 +65,8 @@ module _ (S : ℕ) (h : S ≤ 15) where
   line-patterns : (w : List ℤ) → Four16 w → patternsOf (lineOf S w) ≡ map (patternOf S) w
   unfolding patternsOf lineOf
   line-patterns w f =
-      let b : (k : ℕ) → toBits binary32 (coefficientOf S (getD w k (pos 0))) ≡ patternOf S (getD w k (pos 0)) = λ k. coefficient-bits S h (getD w k (pos 0)) (f .fit k) in
+      let b : (k : ℕ) → toBits binary32 (coefficientOf S (getD w k (pos 0))) ≡ patternOf S (getD w k (pos 0)) =
+      λ k. coefficient-bits S h (getD w k (pos 0)) (f .fit k) in
       (λ i. b 0 i ∷ b 1 i ∷ b 2 i ∷ b 3 i ∷ []) ∙ four-mapped (patternOf S) (pos 0) w (f .long)
 
 coordinates-fit : (S : ℕ) (ps : List ℕ) (k : ℕ) → SFits w16 (getD (map (coordinateOf S) ps) k (pos 0))
@@ -95,18 +98,22 @@ same-line l m f g e =
 
 line-single : (S : ℕ) (w : List ℤ) → FourSingle (lineOf S w)
 unfolding lineOf coefficientOf
-line-single S w = record { c1 = ofBits-fits binary32 _; c2 = ofBits-fits binary32 _; c3 = ofBits-fits binary32 _; c4 = ofBits-fits binary32 _ }
+line-single S w =
+    record { c1 = ofBits-fits binary32 _; c2 = ofBits-fits binary32 _; c3 = ofBits-fits binary32 _; c4 = ofBits-fits binary32 _ }
 
 -- ---- there and back
 module _ (d S : ℕ) where
-  written-read : (w : List ℤ) → Four16 w → writtenOf d S w .check ≡ Pass → coordinatesOf d S (patternsOf (writtenOf d S w .line)) ≡ record { check = Pass; w = w }
+  written-read : (w : List ℤ) → Four16 w → writtenOf d S w .check ≡ Pass
+      → coordinatesOf d S (patternsOf (writtenOf d S w .line)) ≡ record { check = Pass; w = w }
   unfolding writtenOf writingChecks coordinatesOf readingChecks checkGrid
   written-read w f e =
       let k : writingChecks d S w ≡ Pass = sym (written-check (writingChecks d S w) (lineOf S w)) ∙ e in
       let p = three-pass (checkUsed d) (checkScale S) (checkVector 1 d w) k in
       let h = scale-within S (p .1) in
       let a = all-accepted S h w (f .fit) in
-      let z = rest-zero-read S h d (map (patternOf S) w) (a .0) ∙ ap (λ (l : List ℤ). allZero (drop d l)) (a .1) ∙ is-true (allZero (drop d w)) (passed (allZero (drop d w)) Start (sym (unused-check d w) ∙ p .2)) in
+      let z =
+      rest-zero-read S h d (map (patternOf S) w) (a .0) ∙ ap (λ (l : List ℤ). allZero (drop d l)) (a .1)
+      ∙ is-true (allZero (drop d w)) (passed (allZero (drop d w)) Start (sym (unused-check d w) ∙ p .2)) in
       let g : checkGrid d S (map (patternOf S) w) ≡ Pass = λ i. passIf (a .0 i && z i) OffGrid in
       let r : readingChecks d S (map (patternOf S) w) ≡ Pass = pass-three (p .0) (p .1) g in
       ap (λ (c : Check). coordinatesOf d S (patternsOf (writtenIf c (lineOf S w) .line))) k
@@ -128,7 +135,9 @@ module _ (d S : ℕ) where
 
     grid-passes : (allOnGrid S ps ≡ true) × (allPlusZero (drop d ps) ≡ true)
     unfolding checkGrid
-    grid-passes = let test = allOnGrid S ps && allPlusZero (drop d ps) in both (allOnGrid S ps) (allPlusZero (drop d ps)) (is-true test (passed test OffGrid (checks-pass .2)))
+    grid-passes =
+        let test = allOnGrid S ps && allPlusZero (drop d ps) in
+        both (allOnGrid S ps) (allPlusZero (drop d ps)) (is-true test (passed test OffGrid (checks-pass .2)))
 
     back : writtenOf d S (coordinatesOf d S ps .w) ≡ record { check = Pass; line = lineOf S (map (coordinateOf S) ps) }
     unfolding writtenOf writingChecks coordinatesOf
@@ -140,7 +149,8 @@ module _ (d S : ℕ) where
 
     back-patterns : patternsOf (lineOf S (map (coordinateOf S) ps)) ≡ ps
     back-patterns =
-        line-patterns S within-15 (map (coordinateOf S) ps) (record { long = length-map ps (coordinateOf S) ∙ long; fit = coordinates-fit S ps })
+        line-patterns S within-15 (map (coordinateOf S) ps)
+        (record { long = length-map ps (coordinateOf S) ∙ long; fit = coordinates-fit S ps })
         ∙ all-written S within-15 ps (grid-passes .0)
 
   pub round-trip : RoundTrip d S
@@ -148,8 +158,10 @@ module _ (d S : ℕ) where
   round-trip =
       record {
         written-read = written-read;
-        patterns-written = λ ps long e. (ap (λ a. a .check) (back ps long e), ap (λ a. patternsOf (a .line)) (back ps long e) ∙ back-patterns ps long e);
+        patterns-written =
+            λ ps long e. (ap (λ a. a .check) (back ps long e), ap (λ a. patternsOf (a .line)) (back ps long e) ∙ back-patterns ps long e);
         line-written = λ l f e.
             back (patternsOf l) refl e
-            ∙ ap (λ (m : Line). writtenIf Pass m) (same-line (lineOf S (map (coordinateOf S) (patternsOf l))) l (line-single S _) f (back-patterns (patternsOf l) refl e));
+            ∙ ap (λ (m : Line). writtenIf Pass m)
+            (same-line (lineOf S (map (coordinateOf S) (patternsOf l))) l (line-single S _) f (back-patterns (patternsOf l) refl e));
       }

@@ -50,7 +50,8 @@ module _ (S : ℕ) (h : S ≤ 15) where
     where
       by : (t : Bool) → eqb (natAbs (coordinateOf S p)) 0 ≡ t → eqb p 0 ≡ t
       by true e = eq-eqb p 0 (sym (on-grid S p g) ∙ zero-pattern S (coordinateOf S p) (eqb-true _ _ e))
-      by false e = ne-eqb p 0 (λ z. eqb-false _ _ e (ap natAbs (sym (found S h p (pos 0) zero-fits (zero-pattern S (pos 0) refl ∙ sym z) .1))))
+      by false e =
+          ne-eqb p 0 (λ z. eqb-false _ _ e (ap natAbs (sym (found S h p (pos 0) zero-fits (zero-pattern S (pos 0) refl ∙ sym z) .1))))
 
   all-zero-read : (ps : List ℕ) → allOnGrid S ps ≡ true → allPlusZero ps ≡ allZero (map (coordinateOf S) ps)
   unfolding allOnGrid allPlusZero allZero
@@ -63,7 +64,8 @@ module _ (S : ℕ) (h : S ≤ 15) where
   rest-zero-read (suc d) [] g = all-zero-read [] g
   rest-zero-read (suc d) (p ∷ ps) g = rest-zero-read d ps (both (onGrid S p) (allOnGrid S ps) g .1)
 
-  grid-test : (d : ℕ) (ps : List ℕ) → allOnGrid S ps && allPlusZero (drop d ps) ≡ allOnGrid S ps && allZero (drop d (map (coordinateOf S) ps))
+  grid-test : (d : ℕ) (ps : List ℕ)
+      → allOnGrid S ps && allPlusZero (drop d ps) ≡ allOnGrid S ps && allZero (drop d (map (coordinateOf S) ps))
   grid-test d ps = by (allOnGrid S ps) (rest-zero-read d ps)
     where
       by : (t : Bool) {a b : Bool} → (t ≡ true → a ≡ b) → t && a ≡ t && b
@@ -73,12 +75,16 @@ module _ (S : ℕ) (h : S ≤ 15) where
   -- check 12 as the code makes it
   pub grid-check : (d : ℕ) (ps : List ℕ) → length ps ≡ 4
       → checkGrid d S ps
-      ≡ passIf (onGrid S (getD ps 0 0) && onGrid S (getD ps 1 0) && onGrid S (getD ps 2 0) && onGrid S (getD ps 3 0) && allZero (drop d (map (coordinateOf S) ps))) OffGrid
+      ≡ passIf (onGrid S (getD ps 0 0) && onGrid S (getD ps 1 0) && onGrid S (getD ps 2 0) && onGrid S (getD ps 3 0)
+      && allZero (drop d (map (coordinateOf S) ps))) OffGrid
   unfolding checkGrid allOnGrid
   grid-check d ps e =
       ap (λ (t : Bool). passIf t OffGrid)
       (grid-test d ps
-      ∙ ap (λ (t : Bool). t && allZero (drop d (map (coordinateOf S) ps))) (ap (allOnGrid S) (four 0 ps e) ∙ regroup (onGrid S (getD ps 0 0)) (onGrid S (getD ps 1 0)) (onGrid S (getD ps 2 0)) (onGrid S (getD ps 3 0))))
+      ∙ ap (λ (t : Bool). t && allZero (drop d (map (coordinateOf S) ps)))
+      (ap (allOnGrid S) (four 0 ps e)
+      ∙ regroup (onGrid S (getD ps 0 0)) (onGrid S (getD ps 1 0)) (onGrid S (getD ps 2 0)) (onGrid S (getD ps 3 0))))
 
-pub four-mapped : {A B : Type 0} (f : A → B) (z : A) (l : List A) → length l ≡ 4 → f (getD l 0 z) ∷ f (getD l 1 z) ∷ f (getD l 2 z) ∷ f (getD l 3 z) ∷ [] ≡ map f l
+pub four-mapped : {A B : Type 0} (f : A → B) (z : A) (l : List A) → length l ≡ 4
+    → f (getD l 0 z) ∷ f (getD l 1 z) ∷ f (getD l 2 z) ∷ f (getD l 3 z) ∷ [] ≡ map f l
 four-mapped f z l e = ap (map f) (sym (four z l e))

@@ -1,6 +1,5 @@
--- The range of an `i16` among single-precision numbers: what passes the two tests of it can be cut to a whole number, which fits an `i16`; and the cast of an
--- `i16` passes them and is cut to itself.
--- Assumes nothing.
+-- The range of an `i16` among single-precision numbers: what passes the two tests of it can be cut to a whole number, which fits an `i16`;
+-- and the cast of an `i16` passes them and is cut to itself. Assumes nothing.
 use mathlib.Core.Path.{_≡_, sym, subst}
 use mathlib.Core.Logic.{inl, inr}
 use mathlib.Core.Bool.{Bool, true, false, _&&_, _||_, true≢false}
@@ -39,7 +38,8 @@ less : (a b : ℕ) (equal : Bool) → a < b → T (ltb a b || equal)
 less a b equal h = rw (lt-ltb a b h) tt
 
 less-or-equal : (a b : ℕ) (equal : Bool) → (a ≡ b → T equal) → a ≤ b → T (ltb a b || (equal && true))
-less-or-equal a b equal e h = elim (eq-or-lt-of-le h) [ inl q ↦ rw (le-ltb a b (le-of-eq (sym q))) (and-i equal true (e q) tt) | inr l ↦ less a b (equal && true) l ]
+less-or-equal a b equal e h =
+    elim (eq-or-lt-of-le h) [ inl q ↦ rw (le-ltb a b (le-of-eq (sym q))) (and-i equal true (e q) tt) | inr l ↦ less a b (equal && true) l ]
 
 -- ---- what passes both tests
 pub record Cuttable (v : Float) : Type 0 where
@@ -64,7 +64,9 @@ ranged (inf true) p q = absurd p
 ranged (inf false) p q = absurd q
 ranged (fin true m e) p q =
     let D : 0 < down e = down-pos e in
-    let h : m * up e * 1 ≤ 32768 * down e = at-most (m * up e * 1) (32768 * down e) (eqb (32768 * down e) (m * up e * 1)) _ (λ t. sym (eqb→eq (32768 * down e) (m * up e * 1) t)) p in
+    let h : m * up e * 1 ≤ 32768 * down e =
+    at-most (m * up e * 1) (32768 * down e) (eqb (32768 * down e) (m * up e * 1)) _ (λ t. sym (eqb→eq (32768 * down e) (m * up e * 1) t))
+    p in
     record {
       from = less (m * up e * 1) (9223372036854775808 * down e) _ (omega arith);
       to = lt→ltb 0 (m * up e * 1 + 9223372036854775808 * down e) (omega arith);
@@ -72,7 +74,8 @@ ranged (fin true m e) p q =
     }
 ranged (fin false m e) p q =
     let D : 0 < down e = down-pos e in
-    let h : m * up e * 1 ≤ 32767 * down e = at-most (m * up e * 1) (32767 * down e) (eqb (m * up e * 1) (32767 * down e)) _ (eqb→eq (m * up e * 1) (32767 * down e)) q in
+    let h : m * up e * 1 ≤ 32767 * down e =
+    at-most (m * up e * 1) (32767 * down e) (eqb (m * up e * 1) (32767 * down e)) _ (eqb→eq (m * up e * 1) (32767 * down e)) q in
     let c : m * up e / down e ≤ 32767 = cut-le (m * up e) (down e) 32767 D h in
     record {
       from = less 0 (9223372036854775808 * down e + m * up e * 1) _ (omega arith);
@@ -88,7 +91,9 @@ above-lowest : (x : Float) (s : Bool) (n : ℕ) → n ≤ 32768 → HasValue x s
 unfolding le
 above-lowest nan s n h v = absurd v
 above-lowest (inf t) s n h v = absurd v
-above-lowest (fin true m e) s n h v = less-or-equal (m * up e * 1) (32768 * down e) (eqb (32768 * down e) (m * up e * 1)) (λ q. eq→eqb (sym q)) (size-le (m * up e * 1) n 32768 (down e) h (v .1))
+above-lowest (fin true m e) s n h v =
+    less-or-equal (m * up e * 1) (32768 * down e) (eqb (32768 * down e) (m * up e * 1)) (λ q. eq→eqb (sym q))
+    (size-le (m * up e * 1) n 32768 (down e) h (v .1))
 above-lowest (fin false m e) s n h v = less 0 (32768 * down e + m * up e * 1) _ (let d : 0 < down e = down-pos e in omega arith)
 
 below-highest : (x : Float) (s : Bool) (n : ℕ) → (s ≡ false → n ≤ 32767) → HasValue x s n 1 → T (le x highest)
@@ -96,15 +101,20 @@ unfolding le
 below-highest nan s n h v = absurd v
 below-highest (inf t) s n h v = absurd v
 below-highest (fin true m e) s n h v = less 0 (m * up e * 1 + 32767 * down e) _ (let d : 0 < down e = down-pos e in omega arith)
-below-highest (fin false m e) s n h v = less-or-equal (m * up e * 1) (32767 * down e) (eqb (m * up e * 1) (32767 * down e)) (λ q. eq→eqb q) (size-le (m * up e * 1) n 32767 (down e) (h (sym (v .0))) (v .1))
+below-highest (fin false m e) s n h v =
+    less-or-equal (m * up e * 1) (32767 * down e) (eqb (m * up e * 1) (32767 * down e)) (λ q. eq→eqb q)
+    (size-le (m * up e * 1) n 32767 (down e) (h (sym (v .0))) (v .1))
 
 pub int-low : (w : ℤ) → SFits w16 w → T (le lowest (ofInt binary32 w))
-int-low (pos n) f = above-lowest (ofInt binary32 (pos n)) false n (let k : n < 32768 = f .sfits in omega arith) (int-exact (pos n) (short (pos n) f))
+int-low (pos n) f =
+    above-lowest (ofInt binary32 (pos n)) false n (let k : n < 32768 = f .sfits in omega arith) (int-exact (pos n) (short (pos n) f))
 int-low (negsuc n) f = above-lowest (ofInt binary32 (negsuc n)) true (suc n) (f .sfits) (int-exact (negsuc n) (short (negsuc n) f))
 
 pub int-high : (w : ℤ) → SFits w16 w → T (le (ofInt binary32 w) highest)
-int-high (pos n) f = below-highest (ofInt binary32 (pos n)) false n (λ _. let k : n < 32768 = f .sfits in omega arith) (int-exact (pos n) (short (pos n) f))
-int-high (negsuc n) f = below-highest (ofInt binary32 (negsuc n)) true (suc n) (λ q. absurd (true≢false q)) (int-exact (negsuc n) (short (negsuc n) f))
+int-high (pos n) f =
+    below-highest (ofInt binary32 (pos n)) false n (λ _. let k : n < 32768 = f .sfits in omega arith) (int-exact (pos n) (short (pos n) f))
+int-high (negsuc n) f =
+    below-highest (ofInt binary32 (negsuc n)) true (suc n) (λ q. absurd (true≢false q)) (int-exact (negsuc n) (short (negsuc n) f))
 
 pub int-cut : (w : ℤ) → SFits w16 w → toSigned 63 (ofInt binary32 w) ≡ w
 unfolding inFloat

@@ -46,11 +46,13 @@ no-field (suc (suc (suc (suc (suc c))))) h = absurd (omega arith)
 
 -- the records of a group and zeros behind them are its slots
 module _ (store : List ℕ) (t g c n : ℕ) (groups : g < 4) (five : c < 5) (full : n ≡ min (length store / 12 - (t * 76 + g * 19)) 19) where
-  found : (k : ℕ) → g * 20 ≤ k → k < g * 20 + n → (a b : Float) → FieldOfRecords store (g * 20) (t * 76 + g * 19) (c * 2) k a b → FieldOfSlots store t c k a b
+  found : (k : ℕ) → g * 20 ≤ k → k < g * 20 + n → (a b : Float) → FieldOfRecords store (g * 20) (t * 76 + g * 19) (c * 2) k a b
+      → FieldOfSlots store t c k a b
   found k l h a b w =
       let e : t * 76 + g * 19 + (k - g * 20) ≡ number t k = omega arith in
       let f : signedAt store ((t * 76 + g * 19 + (k - g * 20)) * 12 + c * 2) ≡ field c (recordIn store t k) =
-      ap (λ (i : ℕ). signedAt store (i * 12 + c * 2)) e ∙ field-at store (number t k) c five ∙ ap (field c) (sym (record-found store t k (omega arith) (omega arith))) in
+      ap (λ (i : ℕ). signedAt store (i * 12 + c * 2)) e ∙ field-at store (number t k) c five
+      ∙ ap (field c) (sym (record-found store t k (omega arith) (omega arith))) in
       subst (λ (z : ℤ). Within b z 32768) f w
 
   empty : (k : ℕ) → g * 20 + n ≤ k → k < g * 20 + 20 → recordIn store t k ≡ nowhere
@@ -65,6 +67,7 @@ module _ (store : List ℕ) (t g c n : ℕ) (groups : g < 4) (five : c < 5) (ful
       let z : field c (recordIn store t k) ≡ pos 0 = ap (field c) (empty k l h) ∙ no-field c five in
       rw e (rw z (record { whole = zero-whole; small = omega arith }))
 
-  pub group-filled : {old mid xs : List Float} → Filled (g * 20) (FieldOfRecords store (g * 20) (t * 76 + g * 19) (c * 2)) old (g * 20 + n) mid
+  pub group-filled : {old mid xs : List Float}
+      → Filled (g * 20) (FieldOfRecords store (g * 20) (t * 76 + g * 19) (c * 2)) old (g * 20 + n) mid
       → Filled (g * 20 + n) (λ k a b. b ≡ zeroth) mid (g * 20 + 20) xs → Filled (g * 20) (FieldOfSlots store t c) old (g * 20 + 20) xs
   group-filled p q = also-filled (told-filled found p) (told-filled cleared q)

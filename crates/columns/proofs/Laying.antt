@@ -29,7 +29,8 @@ module _ (P : ℕ → ℕ → Float → Type 0) (old : List (List Float)) where
   pub none-laid : length old ≡ 5 → Laid 0 old
   none-laid h = record { long = h; done = λ c k l. absurd (omega arith); rest = λ c l. refl }
 
-  pub one-laid : {n : ℕ} {s : List (List Float)} (xs : List Float) → n < 5 → ((k : ℕ) → k < 80 → P n k (lane xs k)) → Laid n s → Laid (n + 1) (set s n xs)
+  pub one-laid : {n : ℕ} {s : List (List Float)} (xs : List Float) → n < 5 → ((k : ℕ) → k < 80 → P n k (lane xs k)) → Laid n s
+      → Laid (n + 1) (set s n xs)
   one-laid {n} {s} xs h new g =
       let five = g .long in
       record {
@@ -48,7 +49,8 @@ module _ (P : ℕ → ℕ → Float → Type 0) (old : List (List Float)) where
 
   -- with y behind them they are the chunk
   module _ {d n : ℕ} {s : List (List Float)} (ys : List Float) (few : n ≡ min d 4) (g : Laid n s) where
-    pub all-laid : (point : ℕ → Point) (Target : ℕ → Float → Type 0) → ((c k : ℕ) (x : Float) → c < n → k < 80 → P c k x → Within x (field c (point k)) 32768)
+    pub all-laid : (point : ℕ → Point) (Target : ℕ → Float → Type 0)
+        → ((c k : ℕ) (x : Float) → c < n → k < 80 → P c k x → Within x (field c (point k)) 32768)
         → ((k : ℕ) → k < 80 → Target k (lane ys k)) → ColumnsOf point d Target (set s 4 ys)
     all-laid point Target told new =
         let five = g .long in

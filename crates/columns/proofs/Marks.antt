@@ -3,7 +3,7 @@ use mathlib.Core.Path.{_≡_, refl, sym, ap, _∙_, subst}
 use mathlib.Core.Bool.{Bool, true, false, not, cond}
 use mathlib.Core.List.{List, []}
 use mathlib.Core.Logic.{⊎-elim}
-use Prim.Native.Nat.{ℕ, suc, _≤_, _<_}
+use Prim.Native.Nat.{ℕ, _≤_, _<_}
 use native.Mathlib.Nat.{eq-or-lt-of-le}
 use native.Mathlib.Omega.{arith}
 use borrow.Author.Tests.{eqb-true, eqb-false, not-true, lt-ltb, le-ltb}
@@ -47,11 +47,13 @@ unfolding placed
 placed-sample q e = ap (λ (gap : Bool). cond gap nowhere q) e
 
 -- a number of a point, kept where its y lies above the mark, is that of what is placed in its slot
-pub kept-within : (q : Point) (z : Point → ℤ) {m x y : Float} {B : ℕ} → z nowhere ≡ pos 0 → natAbs (q .y) ≤ 32768 → Whole m mark → Whole y (q .y)
+pub kept-within : (q : Point) (z : Point → ℤ) {m x y : Float} {B : ℕ} → z nowhere ≡ pos 0 → natAbs (q .y) ≤ 32768 → Whole m mark
+    → Whole y (q .y)
     → Within x (z q) B → Within (cond (lt m y) x zeroth) (z (placed q)) B
 unfolding placed
 kept-within q z {m} {x} {y} {B} none small wm wy w =
-    subst (λ (t : Bool). Within (cond t x zeroth) (z (cond (isGap q) nowhere q)) B) (sym (lt-whole wm wy ∙ above-mark (q .y) small)) (by (isGap q))
+    subst (λ (t : Bool). Within (cond t x zeroth) (z (cond (isGap q) nowhere q)) B) (sym (lt-whole wm wy ∙ above-mark (q .y) small))
+    (by (isGap q))
   where
     by : (gap : Bool) → Within (cond (not gap) x zeroth) (z (cond gap nowhere q)) B
     by true = subst (λ (n : ℤ). Within zeroth n B) (sym none) (record { whole = zero-whole; small = omega arith })
@@ -64,12 +66,14 @@ Emptied store t d c k x = c < d → Within x (field c (slot store t k)) 32768
 
 -- a number of slot k, kept by the y of its record
 module _ (store : List ℕ) (t k : ℕ) {m y : Float} (wm : Whole m mark) (wy : Within y (field 4 (recordIn store t k)) 32768) where
-  pub kept-in : (z : Point → ℤ) {x new : Float} {B : ℕ} → z nowhere ≡ pos 0 → new ≡ cond (lt m y) x zeroth → Within x (z (recordIn store t k)) B
+  pub kept-in : (z : Point → ℤ) {x new : Float} {B : ℕ} → z nowhere ≡ pos 0 → new ≡ cond (lt m y) x zeroth
+      → Within x (z (recordIn store t k)) B
       → Within new (z (slot store t k)) B
   unfolding slot
   kept-in z none e w = rw e (kept-within (recordIn store t k) z none (wy .small) wm (wy .whole) w)
 
-module _ {store : List ℕ} {t d : ℕ} {s : List (List Float)} (records : RecordsOf store t d s) (power : ℕ) (small : power < 65536) (ys : List Float)
+module _ {store : List ℕ} {t d : ℕ} {s : List (List Float)} (records : RecordsOf store t d s) (power : ℕ) (small : power < 65536)
+    (ys : List Float)
     (five : length s ≡ 5) (times : (k : ℕ) → k < 80 → lane ys k ≡ mul binary64 (cell s 4 k) (ofInt binary64 (pos power))) where
   -- with y scaled
   pub scaled : ScaledOf store t d power (set s 4 ys)
@@ -78,7 +82,8 @@ module _ {store : List ℕ} {t d : ℕ} {s : List (List Float)} (records : Recor
         column = λ c k u l h. rw (getD-set-other s 4 c ys [] (λ q. omega arith)) (records .column c k u l h);
         target = λ k h.
             rw (getD-set-same s 4 ys [] (omega arith))
-            (rw (times k h) (mul-within (records .target k h) (cast-within (pos power) {B = 65536} (omega arith) (omega arith)) (omega arith)));
+            (rw (times k h) (mul-within (records .target k h) (cast-within (pos power) {B = 65536} (omega arith) (omega arith))
+            (omega arith)));
       }
 
   -- where all y lie above the mark, the records are the slots' points

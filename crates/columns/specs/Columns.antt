@@ -50,7 +50,8 @@ pub record ChunkOf (store : List ℕ) (t d power : ℕ) (s : List (List Float)) 
 abbrev pub decodedChunks : List ℕ → List (List (List Float)) → ℕ
 decodedChunks store lanes = min (min (chunks store) (length lanes)) 54
 
--- what decoding does to lanes: as many chunks as there are, or as have room; the x behind the d-th, and chunks behind those, are as they were
+-- what decoding does to lanes: as many chunks as there are, or as have room; the x behind the d-th, and chunks behind those, are as they
+-- were
 pub record DecodedInto (store : List ℕ) (d power : ℕ) (old new : List (List (List Float))) : Type 0 where
   pub here : (t : ℕ) → t < decodedChunks store old → ChunkOf store t d power (getD new t [])
   pub columns : (t c : ℕ) → d ≤ c → c < 4 → getD (getD new t []) c [] ≡ getD (getD old t []) c []

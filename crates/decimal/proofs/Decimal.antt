@@ -31,7 +31,8 @@ enough zero k n h g = absurd (omega arith)
 enough (suc j) zero n h g = absurd (omega arith)
 enough (suc j) (suc k) n h g =
     ⊎-elim
-    (λ wide. more-digits j n wide ∙ ap (λ l. l ++ byte (48 + n % 10)) (enough j k (n / 10) (omega arith) (omega arith)) ∙ sym (more-digits k n wide))
+    (λ wide. more-digits j n wide ∙ ap (λ l. l ++ byte (48 + n % 10)) (enough j k (n / 10) (omega arith) (omega arith))
+    ∙ sym (more-digits k n wide))
     (λ small. last-digit j n small ∙ sym (last-digit k n small))
     (le-or-lt 10 n)
 

@@ -2,7 +2,8 @@
 use mathlib.Core.List.{List, [], _∷_, _++_}
 use mathlib.Core.Path.{_≡_, refl, sym, ap, _∙_}
 use Prim.Native.Nat.{ℕ, zero, suc, _+_, _*_, _/_, _%_, _^_, _≤_, _<_}
-use native.Mathlib.Nat.{mod-one, mod-eq-of-lt, mul-assoc, pow-suc, pow-succ', one-le-pow, add-suc, suc-add, zero-add, mul-add-div-right, mul-add-mod-self-right}
+use native.Mathlib.Nat.{mod-one, mod-eq-of-lt, mul-assoc, pow-suc, pow-succ', one-le-pow, add-suc, suc-add, zero-add, mul-add-div-right}
+use native.Mathlib.Nat.{mul-add-mod-self-right}
 use native.Mathlib.Omega.{arith}
 use borrow.Author.Tests.{le-leb}
 use lib.Arith.{digits-lt, digits-div, mod-mul}

@@ -36,7 +36,8 @@ lent-size t a k h =
     rw e (part-size t a k h)
 
 -- the next element, copied from another list
-pub element-more : (d s : List ℤ) (k : ℕ) (z : ℤ) → k < length d → k < length s → set (take k s ++ drop k d) k (getD s k z) ≡ take (suc k) s ++ drop (suc k) d
+pub element-more : (d s : List ℤ) (k : ℕ) (z : ℤ) → k < length d → k < length s
+    → set (take k s ++ drop k d) k (getD s k z) ≡ take (suc k) s ++ drop (suc k) d
 element-more d s k z hd hs = simp zero-add at (paste-suc {A = ℤ} d 0 s k z (rw zero-add hd) hs)
 
 -- the k elements behind the first n
@@ -72,5 +73,6 @@ four (a ∷ b ∷ []) h = absurd (omega arith)
 four (a ∷ b ∷ c ∷ []) h = absurd (omega arith)
 four (a ∷ b ∷ c ∷ d ∷ l) h = refl
 
-pub four-at : (l : List ℕ) (o : ℕ) → o + 4 ≤ length l → getD l (o + 0) 0 ∷ getD l (o + 1) 0 ∷ getD l (o + 2) 0 ∷ getD l (o + 3) 0 ∷ [] ≡ take 4 (drop o l)
+pub four-at : (l : List ℕ) (o : ℕ) → o + 4 ≤ length l
+    → getD l (o + 0) 0 ∷ getD l (o + 1) 0 ∷ getD l (o + 2) 0 ∷ getD l (o + 3) 0 ∷ [] ≡ take 4 (drop o l)
 four-at l o h = simp getD-drop at (four (drop o l) (omega (arith, length-drop o l)))

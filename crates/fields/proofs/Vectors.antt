@@ -31,7 +31,8 @@ pub coordinate-more : (ws : List ℤ) (w : ℤ) → vectorBytes (ws ++ w ∷ [])
 unfolding vectorBytes
 coordinate-more [] w = append-nil (bigEndian 2 (ofZ w16 w))
 coordinate-more (v ∷ ws) w =
-    ap (λ (bs : List ℕ). bigEndian 2 (ofZ w16 v) ++ bs) (coordinate-more ws w) ∙ sym (append-assoc (bigEndian 2 (ofZ w16 v)) (vectorBytes ws) (bigEndian 2 (ofZ w16 w)))
+    ap (λ (bs : List ℕ). bigEndian 2 (ofZ w16 v) ++ bs) (coordinate-more ws w)
+    ∙ sym (append-assoc (bigEndian 2 (ofZ w16 v)) (vectorBytes ws) (bigEndian 2 (ofZ w16 w)))
 
 length-vectorOf : (bs : List ℕ) (n : ℕ) → length bs ≡ 2 * n → length (vectorOf bs) ≡ n
 unfolding vectorOf
@@ -92,14 +93,16 @@ read-writes (high ∷ low ∷ bs) n h g =
     let two = high ∷ low ∷ [] in
     let two-bytes : T (areBytes two) = bytes-take 2 (high ∷ low ∷ bs) g in
     let bits : ofZ w16 (toZ w16 (fromBigEndian two)) ≡ fromBigEndian two = ofZ-toZ {w = w16} (record { fits = below two two-bytes }) in
-    λ i. (ap (bigEndian 2) bits ∙ number-read-writes two two-bytes) i ++ read-writes bs (n - 1) (omega arith) (bytes-drop 2 (high ∷ low ∷ bs) g) i
+    λ i. (ap (bigEndian 2) bits ∙ number-read-writes two two-bytes) i
+    ++ read-writes bs (n - 1) (omega arith) (bytes-drop 2 (high ∷ low ∷ bs) g) i
 
 -- a field that was read at o writes back to its bytes
 module _ (bytes : List ℕ) (ok : T (areBytes bytes)) (o : ℕ) where
   pub number-back : (k : ℕ) → o + k ≤ length bytes → bigEndian k (fromBigEndian (take k (drop o bytes))) ≡ take k (drop o bytes)
   number-back k h =
       let part = take k (drop o bytes) in
-      ap (λ (n : ℕ). bigEndian n (fromBigEndian part)) (sym (part-size bytes o k h)) ∙ number-read-writes part (bytes-take k (drop o bytes) (bytes-drop o bytes ok))
+      ap (λ (n : ℕ). bigEndian n (fromBigEndian part)) (sym (part-size bytes o k h))
+      ∙ number-read-writes part (bytes-take k (drop o bytes) (bytes-drop o bytes ok))
 
   pub vector-back : o + 16 ≤ length bytes → vectorBytes (vectorOf (take 16 (drop o bytes))) ≡ take 16 (drop o bytes)
   vector-back h = read-writes (take 16 (drop o bytes)) 8 (part-size bytes o 16 h) (bytes-take 16 (drop o bytes) (bytes-drop o bytes ok))

@@ -72,8 +72,19 @@ module _ (job : Job) (ok : IsJob job) (rest : List ℕ) where
       }
 
 module _ (bytes : List ℕ) (ok : T (areBytes bytes)) (long : 72 ≤ length bytes) where
-  joined : take 4 bytes ++ take 4 (drop 4 bytes) ++ take 8 (drop 8 bytes) ++ take 4 (drop 16 bytes) ++ take 4 (drop 20 bytes) ++ take 16 (drop 24 bytes) ++ take 16 (drop 40 bytes) ++ take 16 (drop 56 bytes) ≡ take 72 bytes
-  joined = rw (← take-add 4 4 bytes, ← take-add 8 8 bytes, ← take-add 16 4 bytes, ← take-add 20 4 bytes, ← take-add 24 16 bytes, ← take-add 40 16 bytes, ← take-add 56 16 bytes)
+  joined : take 4 bytes ++ take 4 (drop 4 bytes) ++ take 8 (drop 8 bytes) ++ take 4 (drop 16 bytes) ++ take 4 (drop 20 bytes)
+      ++ take 16 (drop 24 bytes) ++ take 16 (drop 40 bytes) ++ take 16 (drop 56 bytes) ≡ take 72 bytes
+  joined =
+      rw (
+        ← take-add 4 4 bytes,
+        ← take-add 8 8 bytes,
+        ← take-add 16 4 bytes,
+        ← take-add 20 4 bytes,
+        ← take-add 24 16 bytes,
+        ← take-add 40 16
+            bytes,
+        ← take-add 56 16 bytes,
+      )
 
   writes : jobBytes (jobOf bytes) ≡ take 72 bytes
   unfolding jobBytes jobOf

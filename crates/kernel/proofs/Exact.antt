@@ -27,8 +27,10 @@ use Rattle.losses.proofs.Exact.{loss-exact, groups-exact, chunk-exact}
 use Rattle.kernel.specs.Kernel.{Doubles, line, sizeBy, leastBy, lossBy, chunkSize, groupLosses, chunkLoss}
 
 -- the coordinates of a line, and the x of a point, by their places
-line-within : (v : List ℤ) (u : List Float) (b d : ℕ) → Doubles v u → d ≤ 4 → b + d ≤ 8 → (k : ℕ) → k < d → Within (line u b k) (at v (b + k)) 32768
-line-within v u b d w few room zero h = let e : b ≡ b + 0 = omega arith in subst (λ (i : ℕ). Within (lane u b) (at v i) 32768) e (w b (omega arith))
+line-within : (v : List ℤ) (u : List Float) (b d : ℕ) → Doubles v u → d ≤ 4 → b + d ≤ 8 → (k : ℕ) → k < d
+    → Within (line u b k) (at v (b + k)) 32768
+line-within v u b d w few room zero h =
+    let e : b ≡ b + 0 = omega arith in subst (λ (i : ℕ). Within (lane u b) (at v i) 32768) e (w b (omega arith))
 line-within v u b d w few room (suc zero) h = w (b + 1) (omega arith)
 line-within v u b d w few room (suc (suc zero)) h = w (b + 2) (omega arith)
 line-within v u b d w few room (suc (suc (suc zero))) h = w (b + 3) (omega arith)
@@ -43,7 +45,8 @@ module _ {store : List ℕ} {t d power : ℕ} {s : List (List Float)} (chunk : C
   point-within few (suc (suc (suc (suc c)))) i = absurd (omega arith)
 
 -- ---- the size of one point and line
-module _ {bytes : ℕ} {m : Model} (ready : Ready bytes m) {store : List ℕ} {t : ℕ} {s : List (List Float)} (chunk : ChunkOf store t (m .d) (2 ^ m .scale) s)
+module _ {bytes : ℕ} {m : Model} (ready : Ready bytes m) {store : List ℕ} {t : ℕ} {s : List (List Float)}
+    (chunk : ChunkOf store t (m .d) (2 ^ m .scale) s)
     (low high : List Float) (j k : ℕ) (lines : j < m .n) (h : k < 80) where
   room : j * m .d + m .d ≤ 8
   room = line-room j (m .n) (m .d) 8 lines (ready .room)
@@ -54,18 +57,22 @@ module _ {bytes : ℕ} {m : Model} (ready : Ready bytes m) {store : List ℕ} {t
   uses : taken (m .d) ≡ m .d
   uses = let a = ready .some in let b = ready .used in omega arith
 
-  pub size-in : (v : List ℤ) → Doubles v low → Within (sizeBy false s low high (m .d) (min (j * m .d) 8) k) (pos (sizeAt m v (slot store t k) j)) 6442450944
+  pub size-in : (v : List ℤ) → Doubles v low
+      → Within (sizeBy false s low high (m .d) (min (j * m .d) 8) k) (pos (sizeAt m v (slot store t k) j)) 6442450944
   unfolding sizeAt residual
   size-in v w =
       rw (begins, uses)
-      (size-exact v (j * m .d) (xs (slot store t k)) (chunk .target k h) (m .d) (ready .used) (line-within v low (j * m .d) (m .d) w (ready .used) room) (point-within chunk k h (ready .used)))
+      (size-exact v (j * m .d) (xs (slot store t k)) (chunk .target k h) (m .d) (ready .used)
+      (line-within v low (j * m .d) (m .d) w (ready .used) room) (point-within chunk k h (ready .used)))
 
-  pub least-in : (l u : List ℤ) → Doubles l low → Doubles u high → Within (sizeBy true s low high (m .d) (min (j * m .d) 8) k) (pos (leastSize m (boxOf l u) (slot store t k) j)) 6442450944
+  pub least-in : (l u : List ℤ) → Doubles l low → Doubles u high
+      → Within (sizeBy true s low high (m .d) (min (j * m .d) 8) k) (pos (leastSize m (boxOf l u) (slot store t k) j)) 6442450944
   unfolding leastSize eMin eMax
   least-in l u w x =
       rw (begins, uses)
       (least-exact (boxOf l u) (j * m .d) (xs (slot store t k)) (chunk .target k h) (m .d) (ready .used)
-      (line-within l low (j * m .d) (m .d) w (ready .used) room) (line-within u high (j * m .d) (m .d) x (ready .used) room) (point-within chunk k h (ready .used)))
+      (line-within l low (j * m .d) (m .d) w (ready .used) room) (line-within u high (j * m .d) (m .d) x (ready .used) room)
+      (point-within chunk k h (ready .used)))
 
 zeros : (n : ℕ) → sumOf (λ k. 0) n ≡ 0
 unfolding sumOf
@@ -74,7 +81,8 @@ zeros (suc n) = omega (arith, zeros n)
 
 -- ---- of all points, for any sizes that the lines' steps find
 module _ (over : Bool) (s : List (List Float)) (low high : List Float) (m : Model) (point : ℕ → Point) (size : Point → ℕ → ℕ)
-    (exact : (j k : ℕ) → j < m .n → k < 80 → Within (sizeBy over s low high (m .d) (min (j * m .d) 8) k) (pos (size (point k) j)) 6442450944) where
+    (exact : (j k : ℕ) → j < m .n → k < 80
+    → Within (sizeBy over s low high (m .d) (min (j * m .d) 8) k) (pos (size (point k) j)) 6442450944) where
   -- the least of them and a first number
   least-whole-by : (first : ℕ) → first ≤ most → (k : ℕ) → k < 80 → (n : ℕ) → n ≤ m .n
       → Whole (leastBy over s low high (m .d) (ofInt binary64 (pos first)) n k) (pos (leastFrom first (size (point k)) n))
@@ -96,7 +104,8 @@ module _ (over : Bool) (s : List (List Float)) (low high : List Float) (m : Mode
   losses-within : 1 ≤ m .n → m .eps ≤ 16777215 → (k : ℕ) → k < 80 → Within (lossBy over s low high m k) (pos (lossAt k)) 281474943156225
   losses-within lines cut k h = loss-exact (size-whole lines k h) cut (m .p)
 
-  pub groups-in : 1 ≤ m .n → m .eps ≤ 16777215 → (g : ℕ) → g < 4 → getD (groupLosses over s low high m) g 0 ≡ sumOf (λ k. lossAt (g * 20 + k)) 20
+  pub groups-in : 1 ≤ m .n → m .eps ≤ 16777215 → (g : ℕ) → g < 4
+      → getD (groupLosses over s low high m) g 0 ≡ sumOf (λ k. lossAt (g * 20 + k)) 20
   unfolding groupLosses
   groups-in lines cut = groups-exact (losses-within lines cut)
 
@@ -111,14 +120,16 @@ module _ (over : Bool) (s : List (List Float)) (low high : List Float) (m : Mode
   exceeds lines a h k l = ap (λ (t : Bool). cond {A = ℕ} t 1 0) (lt-whole (cast-whole (pos a) h) (size-whole lines k l))
 
   pub exceeding-chunk : 1 ≤ m .n → (a : ℕ) → a ≤ most
-      → sumOf (λ k. cond (lt (ofInt binary64 (pos a)) (chunkSize over s low high m k)) 1 0) 80 ≡ sumOf (λ k. lossOf 0 a (least (size (point k)) (m .n))) 80
+      → sumOf (λ k. cond (lt (ofInt binary64 (pos a)) (chunkSize over s low high m k)) 1 0) 80
+      ≡ sumOf (λ k. lossOf 0 a (least (size (point k)) (m .n))) 80
   exceeding-chunk lines a h = sum-same _ _ 80 (λ k l. exceeds lines a h k l)
 
   none : (k : ℕ) → k < 80 → cond {A = ℕ} (lt (ofInt binary64 (pos 8589934592)) (chunkSize over s low high m k)) 1 0 ≡ 0
   unfolding chunkSize
   none k l =
       let least = leastFrom 8589934592 (size (point k)) (m .n) in
-      ap (λ (t : Bool). cond {A = ℕ} t 1 0) (lt-whole (cast-whole (pos 8589934592) (omega arith)) (least-whole-by 8589934592 (omega arith) k l (m .n) (omega arith)))
+      ap (λ (t : Bool). cond {A = ℕ} t 1 0)
+      (lt-whole (cast-whole (pos 8589934592) (omega arith)) (least-whole-by 8589934592 (omega arith) k l (m .n) (omega arith)))
       ∙ ap (λ (t : Bool). cond {A = ℕ} t 1 0) (le-ltb 8589934592 least (from-le 8589934592 (size (point k)) (m .n)))
 
   -- none exceeds 2^33

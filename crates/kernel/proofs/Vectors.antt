@@ -26,15 +26,18 @@ first f (x ∷ v) zs (suc k) h = first f v zs k (omega arith)
 behind : (xs : List Float) (k : ℕ) → length xs ≤ k → k < length xs + 4 → lane (xs ++ replicate 4 zeroth) k ≡ zeroth
 behind xs k l h =
     let e : k ≡ length xs + (k - length xs) = omega arith in
-    ap (lane (xs ++ replicate 4 zeroth)) e ∙ getD-append-add xs (replicate 4 zeroth) (k - length xs) nan ∙ getD-replicate 4 (k - length xs) zeroth nan (omega arith)
+    ap (lane (xs ++ replicate 4 zeroth)) e ∙ getD-append-add xs (replicate 4 zeroth) (k - length xs) nan
+    ∙ getD-replicate 4 (k - length xs) zeroth nan (omega arith)
 
 pub all-doubles : (v : List ℤ) (u : List Float) → length v ≡ 8 → Filled 0 (Double v) (replicate 12 zeroth) 8 u → u ≡ doubles v
 unfolding doubles
 all-doubles v u eight g =
     let long : length u ≡ 12 = g .long in
     let n = length-map v (ofInt binary64) in
-    ext-getD nan u (map (ofInt binary64) v ++ replicate 4 zeroth) (omega (arith, length-append (map (ofInt binary64) v) (replicate 4 zeroth)))
+    ext-getD nan u (map (ofInt binary64) v ++ replicate 4 zeroth)
+    (omega (arith, length-append (map (ofInt binary64) v) (replicate 4 zeroth)))
     (λ k h. ⊎-elim
-    (λ (l : 8 ≤ k). g .rest k l ∙ getD-replicate 12 k zeroth nan (omega arith) ∙ sym (behind (map (ofInt binary64) v) k (omega arith) (omega arith)))
+    (λ (l : 8 ≤ k). g .rest k l ∙ getD-replicate 12 k zeroth nan (omega arith)
+    ∙ sym (behind (map (ofInt binary64) v) k (omega arith) (omega arith)))
     (λ (l : k < 8). g .done k (omega arith) l .0 ∙ sym (first (ofInt binary64) v (replicate 4 zeroth) k (omega arith)))
     (le-or-lt 8 k))

@@ -1,6 +1,6 @@
 -- The first of the lines with the least size, and the label that names it. Assumes nothing.
 use mathlib.Core.Path.{_≡_, refl, sym, ap, subst, _∙_}
-use mathlib.Core.Bool.{Bool, true, false, cond}
+use mathlib.Core.Bool.{Bool, false, cond}
 use mathlib.Core.List.{List}
 use mathlib.Core.Logic.{_⊎_, inl, inr, ⊎-elim, _≢_}
 use Prim.Native.Nat.{ℕ, zero, suc, _+_, _≤_, _<_}
@@ -112,7 +112,8 @@ module _ (f : ℕ → ℕ) (ε : ℕ) where
   two-fit (suc n) i j o l a b =
       let k : j ≤ n = omega arith in
       ⊎-elim
-      (λ (e : j ≡ n). let i-before : i < n = omega arith in omega (arith, counted n (subst (λ (j : ℕ). f j ≤ ε) e b), one-fits n i i-before a))
+      (λ (e : j ≡ n). let i-before : i < n = omega arith in
+      omega (arith, counted n (subst (λ (j : ℕ). f j ≤ ε) e b), one-fits n i i-before a))
       (λ (e : j < n). omega (arith, two-fit n i j o e a b))
       (eq-or-lt-of-le k)
 
@@ -148,7 +149,8 @@ module _ (m : Model) (v : List ℤ) (q : Point) (h : 1 ≤ m .n) (sample : isGap
   named line o =
       let g = first-least f (m .n) h in
       let fits : f k ≤ m .eps = omega (arith, g .none-smaller line (o .one-of), o .fits) in
-      let same : k ≡ line = ⊎-elim (λ (e : k ≡ line). e) (λ (e : k ≡ line → ⊥). absurd (omega (arith, o .alone k (g .one-of) e))) (same-or-not k line) in
+      let same : k ≡ line =
+      ⊎-elim (λ (e : k ≡ line). e) (λ (e : k ≡ line → ⊥). absurd (omega (arith, o .alone k (g .one-of) e))) (same-or-not k line) in
       let least-fits : least f (m .n) ≤ m .eps = omega (arith, g .is-least) in
       nearest-if (at-most-one f (m .eps) (m .n) line (o .alone)) (le-leb _ _ least-fits) ∙ ap suc same
 

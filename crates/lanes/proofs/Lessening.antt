@@ -17,8 +17,10 @@ less-sum y a b =
     from-parts (y -ℤ a -ℤ b) (y -ℤ (a +ℤ b)) (omega (arith, sub-parts y a, sub-parts (y -ℤ a) b, sub-parts y (a +ℤ b), sum-parts a b))
 
 -- the sum of the first d numbers, each at most 2^30 in size, and what is left of a number of at most 2^31
-module _ (sum f : ℕ → ℤ) (none : sum 0 ≡ pos 0) (more : (k : ℕ) → sum (suc k) ≡ sum k +ℤ f k) {t : ℕ → Float} {y : Float} {z : ℤ} (whole : Within y z 2147483648) where
-  pub lessened-within : (d : ℕ) → d ≤ 4 → ((k : ℕ) → k < d → Within (t k) (f k) 1073741824) → Within (lessened t y d) (z -ℤ sum d) (2147483648 + d * 1073741824)
+module _ (sum f : ℕ → ℤ) (none : sum 0 ≡ pos 0) (more : (k : ℕ) → sum (suc k) ≡ sum k +ℤ f k) {t : ℕ → Float} {y : Float} {z : ℤ}
+    (whole : Within y z 2147483648) where
+  pub lessened-within : (d : ℕ) → d ≤ 4 → ((k : ℕ) → k < d → Within (t k) (f k) 1073741824)
+      → Within (lessened t y d) (z -ℤ sum d) (2147483648 + d * 1073741824)
   unfolding lessened
   lessened-within zero h p = wider (omega arith) (renamed (less-none z ∙ ap (λ (s : ℤ). z -ℤ s) (sym none)) whole)
   lessened-within (suc d) h p =

@@ -97,59 +97,68 @@ module _
         (sym (map-append bound (picked (rowAt t) (keptAt t d mark) (g .rows)) (picked (rowAt v) (keptAt v f mark) (g .late)))
         ∙ ap (map bound) boxes-are)
 
-    module _ (room : length list ≤ roomIn t d) (a : Listing) (u : List ℤ) (e m q : List ℕ) (by : SettledBy t d l p v f g mark a u e m q) where
-      few : length kept ≤ roomIn t d
-      few = omega (arith, length-kept keep list)
+    module _ (room : length list ≤ roomIn t d) (a : Listing) (u : List ℤ) (e m q : List ℕ) (by : SettledBy t d l p v f g mark a u e m q)
+      where
+        few : length kept ≤ roomIn t d
+        few = omega (arith, length-kept keep list)
 
-      held : Held t d (max (g .rows) (a .rows)) kept (map bound kept) (a .rows) u e
-      held =
-          let rows-all : min (g .rows) (roomIn t d) ≡ g .rows = omega (arith, h .room) in
-          let late-all : min (g .late) (roomIn v f) ≡ g .late = omega (arith, h .late-room) in
-          let few-entries : length (map bound kept) ≤ roomIn t d = omega (arith, few, length-map kept bound) in
-          rw (rows-all, late-all, boxes-are, numbers-are, take-all (roomIn t d) kept few, take-all (roomIn t d) (map bound kept) few-entries)
-          at (by .held)
+        held : Held t d (max (g .rows) (a .rows)) kept (map bound kept) (a .rows) u e
+        held =
+            let rows-all : min (g .rows) (roomIn t d) ≡ g .rows = omega (arith, h .room) in
+            let late-all : min (g .late) (roomIn v f) ≡ g .late = omega (arith, h .late-room) in
+            let few-entries : length (map bound kept) ≤ roomIn t d = omega (arith, few, length-map kept bound) in
+            rw (
+              rows-all,
+              late-all,
+              boxes-are,
+              numbers-are,
+              take-all (roomIn t d) kept few,
+              take-all (roomIn t d) (map bound kept)
+                  few-entries,
+            )
+            at (by .held)
 
-      pub settled-together : Together bound t d (g .rows) kept a u e
-      settled-together =
-          record {
-            none-late = ap (λ (x : Listing). x .late) (by .sizes);
-            number = held .told;
-            rows = held .rows;
-            entries = held .entries;
-            long = held .long;
-            long-entries = held .long-entries;
-            rest = λ k x y. rest-later t u (16 * max (g .rows) (a .rows)) (16 * k) (omega arith) (held .rest);
-            rest-entries = λ k x y. rest-later d e (max (g .rows) (a .rows)) k (omega arith) (held .rest-entries);
-          }
+        pub settled-together : Together bound t d (g .rows) kept a u e
+        settled-together =
+            record {
+              none-late = ap (λ (x : Listing). x .late) (by .sizes);
+              number = held .told;
+              rows = held .rows;
+              entries = held .entries;
+              long = held .long;
+              long-entries = held .long-entries;
+              rest = λ k x y. rest-later t u (16 * max (g .rows) (a .rows)) (16 * k) (omega arith) (held .rest);
+              rest-entries = λ k x y. rest-later d e (max (g .rows) (a .rows)) k (omega arith) (held .rest-entries);
+            }
 
-      -- every row is open
-      all-open : (k : ℕ) → k < a .rows → openAt e k ≡ true
-      all-open k less =
-          let own = entry-is bound u e (a .rows) (held .entries ∙ ap (map bound) (sym (held .rows))) k less in
-          let there : k < length kept = omega (arith, held .told) in
-          let passes = rw (← held .rows, rows-at u (a .rows) k zeroBox less) at (all-at zeroBox (passed-kept keep list) k there) in
-          lt-ltb (entryAt e k) gone
-          (omega (arith, own, ahead-le (mark .t) (mark .cost) (mark .best) (bound (rowAt u k)) ((rowAt u k) .low) passes))
+        -- every row is open
+        all-open : (k : ℕ) → k < a .rows → openAt e k ≡ true
+        all-open k less =
+            let own = entry-is bound u e (a .rows) (held .entries ∙ ap (map bound) (sym (held .rows))) k less in
+            let there : k < length kept = omega (arith, held .told) in
+            let passes = rw (← held .rows, rows-at u (a .rows) k zeroBox less) at (all-at zeroBox (passed-kept keep list) k there) in
+            lt-ltb (entryAt e k) gone
+            (omega (arith, own, ahead-le (mark .t) (mark .cost) (mark .best) (bound (rowAt u k)) ((rowAt u k) .low) passes))
 
-      pub settled : Listed bound u e m q v f a kept
-      unfolding rowsOf
-      settled =
-          let none = ap (λ (x : Listing). x .late) (by .sizes) in
-          let all : min (a .rows) (length e) ≡ a .rows = omega (arith, held .told, few, held .long-entries) in
-          record {
-            is =
-                rw none
-                (append-nil (openRows u e (a .rows))
-                ∙ picked-all (rowAt u) (openAt e) (a .rows) all-open
-                ∙ all-rows u (a .rows)
-                ∙ held .rows);
-            number = ap (λ (x : Listing). x .number) (by .sizes) ∙ held .told;
-            bounds = λ k less opens. entry-is bound u e (a .rows) (held .entries ∙ ap (map bound) (sym (held .rows))) k less;
-            late-bounds = rw none;
-            room = omega (arith, held .told, few, held .long, held .long-entries);
-            late-room = omega arith;
-            blocked = rw all at (by .leasts .blocked);
-            near =
-                rw (none, ap (λ (x : Listing). x .near) (by .sizes))
-                (record { empty = λ x. refl; place = λ x. absurd (omega arith); lowest = λ x. absurd (omega arith) });
-          }
+        pub settled : Listed bound u e m q v f a kept
+        unfolding rowsOf
+        settled =
+            let none = ap (λ (x : Listing). x .late) (by .sizes) in
+            let all : min (a .rows) (length e) ≡ a .rows = omega (arith, held .told, few, held .long-entries) in
+            record {
+              is =
+                  rw none
+                  (append-nil (openRows u e (a .rows))
+                  ∙ picked-all (rowAt u) (openAt e) (a .rows) all-open
+                  ∙ all-rows u (a .rows)
+                  ∙ held .rows);
+              number = ap (λ (x : Listing). x .number) (by .sizes) ∙ held .told;
+              bounds = λ k less opens. entry-is bound u e (a .rows) (held .entries ∙ ap (map bound) (sym (held .rows))) k less;
+              late-bounds = rw none;
+              room = omega (arith, held .told, few, held .long, held .long-entries);
+              late-room = omega arith;
+              blocked = rw all at (by .leasts .blocked);
+              near =
+                  rw (none, ap (λ (x : Listing). x .near) (by .sizes))
+                  (record { empty = λ x. refl; place = λ x. absurd (omega arith); lowest = λ x. absurd (omega arith) });
+            }

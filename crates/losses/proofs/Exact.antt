@@ -57,7 +57,8 @@ sum-parts f a zero = rw add-zero (omega arith)
 sum-parts f a (suc b) = rw add-suc (omega (arith, sum-parts f a b))
 
 module _ {z : ℕ → Float} {g : ℕ → ℕ} (lanes : (k : ℕ) → k < 80 → Within (z k) (pos (g k)) 281474943156225) where
-  alternate-exact : (o n : ℕ) → n ≤ 10 → o + n * 2 ≤ 81 → Within (alternate z o n) (pos (sumOf (λ i. g (o + i * 2)) n)) (n * 281474943156225)
+  alternate-exact : (o n : ℕ) → n ≤ 10 → o + n * 2 ≤ 81
+      → Within (alternate z o n) (pos (sumOf (λ i. g (o + i * 2)) n)) (n * 281474943156225)
   unfolding alternate sumOf
   alternate-exact o zero h r = record { whole = zero-whole; small = omega arith }
   alternate-exact o (suc n) h r =
@@ -69,7 +70,9 @@ module _ {z : ℕ → Float} {g : ℕ → ℕ} (lanes : (k : ℕ) → k < 80 →
   group-exact : (o : ℕ) → o ≤ 60 → groupSum z o ≡ sumOf (λ k. g (o + k)) 20
   unfolding groupSum
   group-exact o r =
-      let odd = sum-same (λ i. g (o + 1 + i * 2)) (λ i. g (o + (1 + i * 2))) 10 (λ k h. let e : o + 1 + k * 2 ≡ o + (1 + k * 2) = omega arith in ap g e) in
+      let odd =
+      sum-same (λ i. g (o + 1 + i * 2)) (λ i. g (o + (1 + i * 2))) 10
+      (λ k h. let e : o + 1 + k * 2 ≡ o + (1 + k * 2) = omega arith in ap g e) in
       omega (arith, half-exact o (omega arith), half-exact (o + 1) (omega arith), odd, sum-pairs (λ k. g (o + k)) 10)
 
   -- of each group, and of all four
@@ -85,7 +88,17 @@ module _ {z : ℕ → Float} {g : ℕ → ℕ} (lanes : (k : ℕ) → k < 80 →
   unfolding chunkSum
   chunk-exact =
       let first = sum-same (λ k. g (0 + k)) g 20 (λ k h. let e : 0 + k ≡ k = omega arith in ap g e) in
-      omega (arith, group-exact 0 (omega arith), group-exact 20 (omega arith), group-exact 40 (omega arith), group-exact 60 (omega arith), first, sum-parts g 20 20, sum-parts g 40 20, sum-parts g 60 20)
+      omega (
+        arith,
+        group-exact 0 (omega arith),
+        group-exact 20 (omega arith),
+        group-exact 40 (omega arith),
+        group-exact 60 (omega arith),
+        first,
+        sum-parts g 20 20,
+        sum-parts g 40 20,
+        sum-parts g 60 20,
+      )
 
 -- a sum asks only of its own eighty numbers
 module _ (y z : ℕ → Float) (same : (k : ℕ) → k < 80 → y k ≡ z k) where
@@ -96,7 +109,8 @@ module _ (y z : ℕ → Float) (same : (k : ℕ) → k < 80 → y k ≡ z k) whe
 
   group-same : (o : ℕ) → o ≤ 60 → groupSum y o ≡ groupSum z o
   unfolding groupSum
-  group-same o h = ap₂ (λ (a : Float) (b : Float). counted a + counted b) (alternate-same o 10 (omega arith)) (alternate-same (o + 1) 10 (omega arith))
+  group-same o h =
+      ap₂ (λ (a : Float) (b : Float). counted a + counted b) (alternate-same o 10 (omega arith)) (alternate-same (o + 1) 10 (omega arith))
 
   pub groups-same : groupSums y ≡ groupSums z
   unfolding groupSums
@@ -106,7 +120,8 @@ module _ (y z : ℕ → Float) (same : (k : ℕ) → k < 80 → y k ≡ z k) whe
 
   pub chunk-same : chunkSum y ≡ chunkSum z
   unfolding chunkSum
-  chunk-same = omega (arith, group-same 0 (omega arith), group-same 20 (omega arith), group-same 40 (omega arith), group-same 60 (omega arith))
+  chunk-same =
+      omega (arith, group-same 0 (omega arith), group-same 20 (omega arith), group-same 40 (omega arith), group-same 60 (omega arith))
 
 -- ---- whatever the numbers are, a group's sum fits 53 bits, and the four make the chunk's
 group-small : (z : ℕ → Float) (o : ℕ) → groupSum z o < 9007199254740992

@@ -22,5 +22,6 @@ fit-certified m qs budget rows t start box inside =
     let of-cost : _≡_ {A = List ℤ → ℕ} (costBy make m qs) (cost m qs) = λ i v. sym (made m qs .of-cost v) i in
     let of-bound : _≡_ {A = Box → ℕ} (boundBy make m qs) (bound m qs) = λ i B. sym (made m qs .of-bound B) i in
     subst (λ (f : List ℤ → ℕ). Certificate f (bound m qs) budget rows t start box (search f (bound m qs) budget rows t start box)) of-cost
-    (subst (λ (f : Box → ℕ). Certificate (costBy make m qs) f budget rows t start box (search (costBy make m qs) f budget rows t start box)) of-bound
+    (subst (λ (f : Box → ℕ). Certificate (costBy make m qs) f budget rows t start box (search (costBy make m qs) f budget rows t start box))
+    of-bound
     (made-certified make (made m qs .rises) m qs budget rows t start box inside))

@@ -1,5 +1,5 @@
--- Document 02, [5]: "The certified search is to be shown once for every cost that is made from the points' least |e| alone and never falls when
--- one of them grows, with the box bound made likewise from the least sizes; the four values of p then use it."
+-- Document 02, [5]: "The certified search is to be shown once for every cost that is made from the points' least |e| alone and never falls
+-- when one of them grows, with the box bound made likewise from the least sizes; the four values of p then use it."
 use mathlib.Core.List.{List}
 use Prim.Native.Nat.{ℕ}
 use lib.IntN.{ℤ}

@@ -1,4 +1,5 @@
--- How many of the least sizes of a store's chunks exceed a number is how many of its points' do; so what is selected is their rank. Assumes nothing.
+-- How many of the least sizes of a store's chunks exceed a number is how many of its points' do; so what is selected is their rank. Assumes
+-- nothing.
 use mathlib.Core.Path.{_≡_, refl, ap, ap₂, _∙_, subst}
 use mathlib.Core.Bool.{Bool, true, false, cond}
 use mathlib.Core.List.{List, []}
@@ -36,14 +37,17 @@ module _ {m : Model} (store : List ℕ) (ready : Ready (length store) m) (low hi
       → sumOf (λ k. cond (lt (ofInt binary64 (pos a)) (chunkSize over s from to m k)) 1 0) 80
       ≡ sumOf (slotLoss (counting a m) (sizesBy over m low high) store (count-small a) (nothing over m low high) t) 80
   count-of true {t} {s} chunk a h =
-      exceeding-chunk true s from to m (slot store t) (sizesBy true m low high) (λ j k l g. least-in ready chunk from to j k l g low high lows highs) (ready .lines) a h
+      exceeding-chunk true s from to m (slot store t) (sizesBy true m low high)
+      (λ j k l g. least-in ready chunk from to j k l g low high lows highs) (ready .lines) a h
   count-of false {t} {s} chunk a h =
-      exceeding-chunk false s from to m (slot store t) (sizesBy false m low high) (λ j k l g. size-in ready chunk from to j k l g low lows) (ready .lines) a h
+      exceeding-chunk false s from to m (slot store t) (sizesBy false m low high) (λ j k l g. size-in ready chunk from to j k l g low lows)
+      (ready .lines) a h
 
   none-of : (over : Bool) {t : ℕ} {s : List (List Float)} → ChunkOf store t (m .d) (2 ^ m .scale) s
       → sumOf (λ k. cond (lt (ofInt binary64 (pos 8589934592)) (chunkSize over s from to m k)) 1 0) 80 ≡ 0
   none-of true {t} {s} chunk =
-      none-exceed true s from to m (slot store t) (sizesBy true m low high) (λ j k l g. least-in ready chunk from to j k l g low high lows highs)
+      none-exceed true s from to m (slot store t) (sizesBy true m low high)
+      (λ j k l g. least-in ready chunk from to j k l g low high lows highs)
   none-of false {t} {s} chunk =
       none-exceed false s from to m (slot store t) (sizesBy false m low high) (λ j k l g. size-in ready chunk from to j k l g low lows)
 
@@ -58,8 +62,10 @@ module _ {m : Model} (store : List ℕ) (ready : Ready (length store) m) (low hi
     through a h zero l = none-yet (counting a m) (sizesBy over m low high) store
     through a h (suc n) l =
         let e : n + 1 ≡ suc n = omega arith in
-        subst (λ (k : ℕ). Summed (counting a m) (sizesBy over m low high) store (min (length store / 12) (k * 76)) (exceedingBy over lanes from to m (suc n) a)) e
-        (chunk-summed (counting a m) (sizesBy over m low high) store (count-small a) (nothing over m low high) n (exceedingBy over lanes from to m n a) _
+        subst (λ (k : ℕ). Summed (counting a m) (sizesBy over m low high) store (min (length store / 12) (k * 76))
+        (exceedingBy over lanes from to m (suc n) a)) e
+        (chunk-summed (counting a m) (sizesBy over m low high) store (count-small a) (nothing over m low high) n
+        (exceedingBy over lanes from to m n a) _
         (count-of over (decoded .chunk n (omega arith)) a h) (through a h n (omega arith)))
 
     -- as many of the slots as of the points
@@ -76,12 +82,15 @@ module _ {m : Model} (store : List ℕ) (ready : Ready (length store) m) (low hi
 
     -- so each rank is at most 2^33
     pub rank-small : (q : ℕ) → nthLargest q sizes ≤ 8589934592
-    rank-small q = largest q sizes .least 8589934592 (omega (arith, counts 8589934592 (omega arith), none-through (chunks store) (omega arith)))
+    rank-small q =
+        largest q sizes .least 8589934592 (omega (arith, counts 8589934592 (omega arith), none-through (chunks store) (omega arith)))
 
-    pub rank-of : (q cap : ℕ) → selected (exceedingBy over lanes from to m (decodedChunks store lanes)) q (min cap 4503599627370496) ≡ min (nthLargest q sizes) cap
+    pub rank-of : (q cap : ℕ) → selected (exceedingBy over lanes from to m (decodedChunks store lanes)) q (min cap 4503599627370496)
+        ≡ min (nthLargest q sizes) cap
     rank-of q cap =
         ap (λ (n : ℕ). selected (exceedingBy over lanes from to m n) q (min cap 4503599627370496)) (decoded .all)
-        ∙ selects-largest (exceedingBy over lanes from to m (chunks store)) q cap sizes (λ a h. counts a (omega arith)) (omega (arith, rank-small q))
+        ∙ selects-largest (exceedingBy over lanes from to m (chunks store)) q cap sizes (λ a h. counts a (omega arith))
+        (omega (arith, rank-small q))
 
 module _ (over : Bool) (m : Model) (lanes : List (List (List Float))) (from to : List Float) where
   abbrev ones : ℕ → ℕ → ℕ → ℕ
@@ -115,7 +124,8 @@ module _ (over : Bool) (m : Model) (lanes : List (List (List Float))) (from to :
       })
 
 -- the first n chunks of sizes, which are those of the lanes
-module _ (over : Bool) (m : Model) (lanes : List (List (List Float))) (from to : List Float) (kept : List (List Float)) (n : ℕ) (few : n ≤ length kept)
+module _ (over : Bool) (m : Model) (lanes : List (List (List Float))) (from to : List Float) (kept : List (List Float)) (n : ℕ)
+    (few : n ≤ length kept)
     (same : (i : ℕ) → i < n → (k : ℕ) → k < 80 → lane (getD kept i []) k ≡ chunkSize over (getD lanes i []) from to m k) where
   lane-kept : (i : ℕ) → i < n → (k : ℕ) → k < 80 → lane (getD (take n kept) i []) k ≡ chunkSize over (getD lanes i []) from to m k
   lane-kept i h k l = ap (λ (xs : List Float). lane xs k) (getD-take n kept i [] h) ∙ same i h k l
@@ -124,7 +134,8 @@ module _ (over : Bool) (m : Model) (lanes : List (List (List Float))) (from to :
   unfolding exceedingAll exceedingIn exceedingBy
   kept-count a =
       ap (sumOf (λ i. exceedingIn (ofInt binary64 (pos a)) (getD (take n kept) i []))) (length-take-le n kept few)
-      ∙ sum-same _ _ n (λ i h. sum-same _ _ 80 (λ k l. ap (λ (x : Float). cond {A = ℕ} (lt (ofInt binary64 (pos a)) x) 1 0) (lane-kept i h k l)))
+      ∙ sum-same _ _ n (λ i h. sum-same _ _ 80
+      (λ k l. ap (λ (x : Float). cond {A = ℕ} (lt (ofInt binary64 (pos a)) x) 1 0) (lane-kept i h k l)))
 
   pub kept-selected : (q cap : ℕ) → selected (λ a. exceedingAll a (take n kept)) q cap ≡ selected (exceedingBy over lanes from to m n) q cap
   kept-selected q cap = ap (λ (f : ℕ → ℕ). selected f q cap) (λ i a. kept-count a i)
@@ -133,11 +144,14 @@ module _ {m : Model} (store : List ℕ) (ready : Ready (length store) m) (low hi
     (from to : List Float) (from-is : from ≡ doubles low) (to-is : to ≡ doubles high) (lows : Doubles low from) (highs : Doubles high to)
     (over : Bool) where
   -- what is selected, by the lanes and by the points
-  pub rank-in : (cap r : ℕ) → r ≡ selected (exceedingBy over lanes from to m (decodedChunks store lanes)) (m .eps) (min cap 4503599627370496)
+  pub rank-in : (cap r : ℕ) → r ≡ selected (exceedingBy over lanes from to m (decodedChunks store lanes)) (m .eps)
+      (min cap 4503599627370496)
       → RankIn over store lanes m low high cap r
   rank-in cap r e =
       record {
-        by-lanes = e ∙ ap₂ (λ (u : List Float) (w : List Float). selected (exceedingBy over lanes u w m (decodedChunks store lanes)) (m .eps) (min cap 4503599627370496)) from-is to-is;
+        by-lanes =
+            e ∙ ap₂ (λ (u : List Float) (w : List Float). selected (exceedingBy over lanes u w m (decodedChunks store lanes)) (m .eps)
+            (min cap 4503599627370496)) from-is to-is;
         by-points = λ decoded. e ∙ rank-of store ready low high from to lows highs over lanes decoded (m .eps) cap;
         small = λ decoded. rank-small store ready low high from to lows highs over lanes decoded (m .eps);
       }

@@ -79,7 +79,9 @@ module _ (store : List ℕ) (m : Model) (over : Bool) (from to : List Float) whe
         → LeastOf over s from to (m .d) (m .n) (getD (set kept t noSizes) t []) r
         → KeptSizes store m over from to (set (set kept t noSizes) t r) (t + 1)
     one-kept r inside is found =
-        let so-far = same-sized _ kept t (before .sized) (λ i. sizes-of (getD all i [])) (λ i h k. ap (λ (x : List (List Float)). sizes-of x k) (sym (old i h))) in
+        let so-far =
+        same-sized _ kept t (before .sized) (λ i. sizes-of (getD all i []))
+        (λ i h k. ap (λ (x : List (List Float)). sizes-of x k) (sym (old i h))) in
         record {
           lanes = all;
           many = omega (arith, length-append (before .lanes) (s ∷ []), before .many);

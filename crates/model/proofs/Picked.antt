@@ -6,7 +6,6 @@ use mathlib.Core.Logic.{⊎-elim}
 use Prim.Native.Nat.{ℕ, _≤_, _<_, min}
 use native.Mathlib.Omega.{arith}
 use borrow.Author.Tests.{eq-eqb, ne-eqb}
-use lib.Dec.{eqb}
 use lib.IntN.{ℤ}
 use lib.ListN.{length}
 use lib.Ieee.{Float}
@@ -31,7 +30,8 @@ pub sum-kind : {p : ℕ} → p ≤ 3 → (p ≡ 3 → ⊥) → p ≤ 2
 sum-kind {p} h other = ⊎-elim (λ (le : p ≤ 2). le) (λ (lt : 2 < p). absurd (other (omega arith))) (le-or-lt p 2)
 
 module _ (m : Model) (low high : List ℤ) where
-  pub value-rank : (over : Bool) (qs : List Point) → m .p ≡ 3 → valueOf over m qs low high ≡ nthLargest (m .eps) (leastSizes over m low high qs)
+  pub value-rank : (over : Bool) (qs : List Point) → m .p ≡ 3
+      → valueOf over m qs low high ≡ nthLargest (m .eps) (leastSizes over m low high qs)
   value-rank true qs e = bound-rank m qs (eq-eqb _ _ e) (boxOf low high)
   value-rank false qs e = cost-rank m qs (eq-eqb _ _ e) low
 

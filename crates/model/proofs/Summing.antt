@@ -32,17 +32,22 @@ module _ {bytes : ℕ} {m : Model} (ready : Ready bytes m) (store : List ℕ) (l
     (from to : List Float) (lows : Doubles low from) (highs : Doubles high to) where
   -- the losses of a chunk, by the definitions
   losses-of : (over : Bool) {t : ℕ} {s : List (List Float)} → ChunkOf store t (m .d) (2 ^ m .scale) s
-      → chunkLoss over s from to m ≡ sumOf (slotLoss m (sizesBy over m low high) store (threshold-small (m .p) (m .eps) (ready .cut)) (nothing over m low high) t) 80
+      → chunkLoss over s from to m ≡ sumOf
+      (slotLoss m (sizesBy over m low high) store (threshold-small (m .p) (m .eps) (ready .cut)) (nothing over m low high) t) 80
   losses-of true {t} {s} chunk =
-      loss-in true s from to m (slot store t) (sizesBy true m low high) (λ j k l h. least-in ready chunk from to j k l h low high lows highs) (ready .lines) (ready .cut)
+      loss-in true s from to m (slot store t) (sizesBy true m low high)
+      (λ j k l h. least-in ready chunk from to j k l h low high lows highs) (ready .lines) (ready .cut)
   losses-of false {t} {s} chunk =
-      loss-in false s from to m (slot store t) (sizesBy false m low high) (λ j k l h. size-in ready chunk from to j k l h low lows) (ready .lines) (ready .cut)
+      loss-in false s from to m (slot store t) (sizesBy false m low high) (λ j k l h. size-in ready chunk from to j k l h low lows)
+      (ready .lines) (ready .cut)
 
-  pub one-through : (over : Bool) {t sum r power : ℕ} {s : List (List Float)} → power ≡ 2 ^ m .scale → ChunkOf store t (m .d) power s → r ≡ chunkLoss over s from to m
+  pub one-through : (over : Bool) {t sum r power : ℕ} {s : List (List Float)} → power ≡ 2 ^ m .scale → ChunkOf store t (m .d) power s
+      → r ≡ chunkLoss over s from to m
       → Through over m store low high t sum → Through over m store low high (t + 1) (sum + r)
   one-through over {t} {sum} {r} {s = s} p chunk e g =
       let here = subst (λ (n : ℕ). ChunkOf store t (m .d) n s) p chunk in
-      chunk-summed m (sizesBy over m low high) store (threshold-small (m .p) (m .eps) (ready .cut)) (nothing over m low high) t sum r (e ∙ losses-of over here) g
+      chunk-summed m (sizesBy over m low high) store (threshold-small (m .p) (m .eps) (ready .cut)) (nothing over m low high) t sum r
+      (e ∙ losses-of over here) g
 
 -- ---- lanes
 -- the losses of chunk t, by the doubles of the coordinates
@@ -53,7 +58,8 @@ module _ {m : Model} (store : List ℕ) (ready : Ready (length store) m) (low hi
     (from to : List Float) (from-is : from ≡ doubles low) (to-is : to ≡ doubles high) (lows : Doubles low from) (highs : Doubles high to)
     (over : Bool) where
   -- a sum of the chunks' losses, by the lanes and by the points
-  pub sum-in : (cap r : ℕ) → r ≡ min (sumOf (lossAt over lanes m from to) (decodedChunks store lanes)) cap → SumIn over store lanes m low high cap r
+  pub sum-in : (cap r : ℕ) → r ≡ min (sumOf (lossAt over lanes m from to) (decodedChunks store lanes)) cap
+      → SumIn over store lanes m low high cap r
   sum-in cap r e =
       let n = decodedChunks store lanes in
       record {

@@ -34,13 +34,16 @@ within-parts low x high t =
 module _ (bytes : ℕ) (m : Model) where
   store-few : checkStore bytes ≡ Pass → bytes ≤ 49152
   unfolding checkStore
-  store-few e = within-parts 1 bytes 49152 (and-parts (within 1 bytes 49152) (eqb (bytes % 12) 0) (passed (within 1 bytes 49152 && eqb (bytes % 12) 0) Length e) .0) .1
+  store-few e =
+      within-parts 1 bytes 49152 (and-parts (within 1 bytes 49152) (eqb (bytes % 12) 0)
+      (passed (within 1 bytes 49152 && eqb (bytes % 12) 0) Length e) .0) .1
 
   loss-cut : checkLoss (m .p) (m .eps) ≡ Pass → (m .eps ≤ 16777215) × (m .p ≤ 2)
   unfolding checkLoss
   loss-cut e =
       let some = eqb (m .p) 0 || leb 1 (m .eps) in
-      let cut = and-parts (leb (m .eps) 16777215) (leb (m .p) 2 && some) (passed (leb (m .eps) 16777215 && (leb (m .p) 2 && some)) Loss e) in
+      let cut =
+      and-parts (leb (m .eps) 16777215) (leb (m .p) 2 && some) (passed (leb (m .eps) 16777215 && (leb (m .p) 2 && some)) Loss e) in
       (leb→le (m .eps) 16777215 (cut .0), leb→le (m .p) 2 (and-parts (leb (m .p) 2) some (cut .1) .0))
 
   loss-for-cut : (records : ℕ) → records ≤ 4096 → checkLossFor records (m .p) (m .eps) ≡ Pass → (m .eps ≤ 16777215) × (m .p ≤ 3)
@@ -63,7 +66,9 @@ ready store m e =
     let e₄ = others-passed (checkScale (m .scale)) (checkLossFor (length store / 12) (m .p) (m .eps) ∷ []) e₃ in
     let shape = shape-passed (m .n) (m .d) (first-passed (checkShape (m .n) (m .d)) scale-loss e₂) in
     let few = store-few (length store) m (first-passed (checkStore (length store)) (checkShape (m .n) (m .d) ∷ scale-loss) e) in
-    let loss = loss-for-cut (length store) m (length store / 12) (omega (arith, few)) (first-passed (checkLossFor (length store / 12) (m .p) (m .eps)) [] e₄) in
+    let loss =
+    loss-for-cut (length store) m (length store / 12) (omega (arith, few))
+    (first-passed (checkLossFor (length store / 12) (m .p) (m .eps)) [] e₄) in
     let scale = scale-within (m .scale) (first-passed (checkScale (m .scale)) (checkLossFor (length store / 12) (m .p) (m .eps) ∷ []) e₃) in
     record {
       few = few;

@@ -16,14 +16,15 @@ use Rattle.loss.specs.Loss.{checkLoss, checkLossFor}
 -- Checks 1 to 4, which every call here makes first.
 unfoldable pub checkModel : List ℕ → Model → Check
 checkModel store m =
-    inOrder (checkStore (length store) ∷ checkShape (m .n) (m .d) ∷ checkScale (m .scale) ∷ checkLossFor (length store / 12) (m .p) (m .eps) ∷ [])
+    inOrder (checkStore (length store) ∷ checkShape (m .n) (m .d) ∷ checkScale (m .scale)
+    ∷ checkLossFor (length store / 12) (m .p) (m .eps) ∷ [])
 
 -- "a cost 1 to 4, 6 and 7"
 unfoldable pub checkCost : List ℕ → Model → List ℤ → Check
 checkCost store m v = inOrder (checkModel store m ∷ checkVector (m .n) (m .d) v ∷ checkStray (m .d) (pointsOf store) ∷ [])
 
--- The same of a call that takes ε for a threshold, as losses and labels do. Document 02: "Labels, peeling and the loss of a single e refuse p = 3
--- by 4."
+-- The same of a call that takes ε for a threshold, as losses and labels do. Document 02: "Labels, peeling and the loss of a single e refuse
+-- p = 3 by 4."
 unfoldable pub checkThreshold : List ℕ → Model → List ℤ → Check
 checkThreshold store m v =
     inOrder (checkModel store m ∷ checkLoss (m .p) (m .eps) ∷ checkVector (m .n) (m .d) v ∷ checkStray (m .d) (pointsOf store) ∷ [])

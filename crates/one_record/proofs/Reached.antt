@@ -99,5 +99,9 @@ reached p ε is is′ most =
     }
 
 pub all-reached : AllReached
-unfolding maxZ minZ floorHalf allZero inOrder checkShape atMost before sideSize sides product checkBox checkStart firstLargest leftHalf rightHalf checkScale lossOf checkLoss checkLossFor fromBigEndian unsignedAt signedAt pointAt skipped firstPoints pointsOf checkStore strayFrom checkStray dot residual sizeAt dotMax dotMin eMin eMax nearestTo0 leastSize least unlessGap totalLoss cost bound checkModel ahead lowerBound firstSmallest better begin split isSolved answer ifRoom step follow run search searched checkJob checkSearch searchAnswer cap
+unfolding maxZ minZ floorHalf allZero inOrder checkShape atMost before sideSize sides product checkBox checkStart firstLargest leftHalf
+    rightHalf checkScale lossOf checkLoss checkLossFor fromBigEndian unsignedAt signedAt pointAt skipped firstPoints pointsOf checkStore
+    strayFrom checkStray dot residual sizeAt dotMax dotMin eMin eMax nearestTo0 leastSize least unlessGap totalLoss cost bound checkModel
+    ahead lowerBound firstSmallest better begin split isSolved answer ifRoom step follow run search searched checkJob checkSearch
+    searchAnswer cap
 all-reached = record { outliers = reached 0 0 refl refl refl; sizes = reached 1 3 refl refl refl; squares = reached 2 3 refl refl refl }

@@ -1,13 +1,12 @@
--- A list in which one box has a smaller bound than all before it and none behind it has a smaller one: it is the first box with the smallest
--- bound. Assumes nothing.
+-- A list in which one box has a smaller bound than all before it and none behind it has a smaller one: it is the first box with the
+-- smallest bound. Assumes nothing.
 use mathlib.Core.Path.{_≡_, refl, ap}
 use mathlib.Core.List.{List, [], _∷_, _++_}
 use Prim.Native.Nat.{ℕ, _≤_, _<_}
 use native.Mathlib.Omega.{arith}
-use lib.Dec.{leb}
 use lib.ListN.{length}
 use borrow.Author.Tests.{le-leb, lt-leb}
-use Rattle.integers.specs.Lists.{All, none, also}
+use Rattle.integers.specs.Lists.{All, also}
 use Rattle.boxes.specs.declared.Box.{Box}
 use Rattle.certificate.specs.Search.{lowerBound, firstSmallest, boxAt, without}
 
@@ -29,7 +28,11 @@ module _ (bound : Box → ℕ) where
     chosen-first [] before =
         rw (le-leb (bound b) (lowerBound bound (bound b) ys) (lower-most (bound b) (bound b) ys (omega arith) behind))
     chosen-first (x ∷ xs) (also h hs) =
-        rw (lt-leb (bound x) (lowerBound bound (bound x) (xs ++ (b ∷ ys))) (omega (arith, chosen-lowest (bound x) xs hs)), chosen-first xs hs)
+        rw (
+          lt-leb (bound x) (lowerBound bound (bound x) (xs ++ (b ∷ ys))) (omega (arith, chosen-lowest (bound x) xs hs)),
+          chosen-first xs
+              hs,
+        )
 
 -- the box between two parts, and the list without it
 pub chosen-box : (b : Box) (ys xs : List Box) → boxAt (xs ++ (b ∷ ys)) (length xs) ≡ b

@@ -127,24 +127,6 @@ module _ (t : List ℤ) (d : List ℕ) where
       (r ≡ n + cond (fits u e n child) 1 0)
       × ((v ≡ cond (fits u e n child) (withRow u n (child .half)) u) × (f ≡ cond (fits u e n child) (set e n (child .bound)) e))
 
-  -- where there is room, whether a box is written is whether it is kept
-  fits-kept : (u : List ℤ) (e : List ℕ) (n : ℕ) (half : Box) (x : ℕ) (kept : Bool) →
-      n + cond kept 1 0 ≤ roomIn u e → fits u e n (record { half = half; bound = x; kept = kept }) ≡ kept
-  fits-kept u e n half x true room = lt-ltb n (roomIn u e) (omega arith)
-  fits-kept u e n half x false room = refl
-
-  pub one-put :
-      (k : ℕ) (list : List Box) (xs : List ℕ) (n : ℕ) (u : List ℤ) (e : List ℕ) → Held t d k list xs n u e →
-      (child : Child) → Whole (child .half) → n + cond (child .kept) 1 0 ≤ roomIn t d →
-      (r : ℕ) (v : List ℤ) (f : List ℕ) → Put u e n child r v f →
-      (k₂ : ℕ) → k ≤ k₂ → r ≤ k₂ →
-      Held t d k₂ (list ++ ifKept child (child .half)) (xs ++ ifKept child (child .bound)) r v f
-  one-put k list xs n u e p child w room r v f is k₂ after few =
-      let fits-is = fits-kept u e n (child .half) (child .bound) (child .kept) (rw (p .long, p .long-entries) room) in
-      let told : r ≡ n + cond (child .kept) 1 0 = rw fits-is at (is .0) in
-      rw (told, rw fits-is at (is .1 .0), rw fits-is at (is .1 .1))
-      (one-held k list xs n u e p (child .half) w (child .bound) (child .kept) (omega arith) (omega arith) k₂ after (omega arith))
-
   -- One more box behind as many of a list as there is room for: written if it is kept and there is room left.
   pub one-taken :
       (list : List Box) (xs : List ℕ) (n : ℕ) (u : List ℤ) (e : List ℕ) →

@@ -102,7 +102,12 @@ pub picked-kept :
 unfolding picked
 picked-kept p f q o zero decides = refl
 picked-kept p f q o (suc n) decides =
-    rw (picked-kept p f q o n (λ k l. decides k (omega arith)), decides n (omega arith), append-kept p (picked f o n) (cond (o n) (f n ∷ []) []))
+    rw (
+      picked-kept p f q o n (λ k l. decides k (omega arith)),
+      decides n (omega arith),
+      append-kept p (picked f o n)
+          (cond (o n) (f n ∷ []) []),
+    )
     (ap (λ l. keepIf p (picked f o n) ++ l) (last (o n)))
   where
     last : (b : Bool) → cond (cond b (p (f n)) false) (f n ∷ []) [] ≡ keepIf p (cond b (f n ∷ []) [])

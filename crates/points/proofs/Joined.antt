@@ -34,14 +34,17 @@ none-behind d i (q ∷ qs) h = rw (zero-past (xs q) d h) (none-behind d (suc i) 
 
 module _ (s : List ℕ) (i : ℕ) where
   -- fields of 0 from the d-th on
-  clear-up : (n d : ℕ) → n + d ≡ 4 → ((k : ℕ) → d ≤ k → k < 4 → unsignedAt s (i * 12 + k * 2) ≡ 0) → allZero (drop d (xs (pointAt s i))) ≡ true
+  clear-up : (n d : ℕ) → n + d ≡ 4 → ((k : ℕ) → d ≤ k → k < 4 → unsignedAt s (i * 12 + k * 2) ≡ 0)
+      → allZero (drop d (xs (pointAt s i))) ≡ true
   clear-up zero d e f = zero-past (xs (pointAt s i)) d (omega arith)
   clear-up (suc n) d e f =
       let h : d < 4 = omega arith in
-      zero-next (xs (pointAt s i)) d h (x-zero s i d h (f d (omega arith) h)) ∙ clear-up n (d + 1) (omega arith) (λ k u l. f k (omega arith) l)
+      zero-next (xs (pointAt s i)) d h (x-zero s i d h (f d (omega arith) h))
+      ∙ clear-up n (d + 1) (omega arith) (λ k u l. f k (omega arith) l)
 
   module _ {p q r t : ℕ} (small : (p < 65536) × (q < 65536) × (r < 65536) × (t < 65536)) (first : p ≡ 0 → unsignedAt s (i * 12) ≡ 0)
-      (second : q ≡ 0 → unsignedAt s (i * 12 + 2) ≡ 0) (third : r ≡ 0 → unsignedAt s (i * 12 + 4) ≡ 0) (fourth : t ≡ 0 → unsignedAt s (i * 12 + 6) ≡ 0) where
+      (second : q ≡ 0 → unsignedAt s (i * 12 + 2) ≡ 0) (third : r ≡ 0 → unsignedAt s (i * 12 + 4) ≡ 0)
+      (fourth : t ≡ 0 → unsignedAt s (i * 12 + 6) ≡ 0) where
     abbrev joined : ℕ
     joined = p + q * 65536 + (r + t * 65536) * 4294967296
 

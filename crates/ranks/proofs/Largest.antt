@@ -1,4 +1,5 @@
--- The (q + 1)-th largest of a list is the least number that at most q of it exceed; so it never falls when one element grows. Assumes nothing.
+-- The (q + 1)-th largest of a list is the least number that at most q of it exceed; so it never falls when one element grows. Assumes
+-- nothing.
 use mathlib.Core.Path.{_≡_, refl}
 use mathlib.Core.Bool.{cond}
 use mathlib.Core.List.{List, [], _∷_, _++_}
@@ -12,7 +13,7 @@ use Rattle.integers.specs.Lists.{All, none, also}
 use Rattle.integers.proofs.Lists.{all-map}
 use Rattle.integers.proofs.Tests.{by-cond, le-or-lt}
 use Rattle.ranks.specs.Largest.{insertDown, sortDown, nthLargest}
-use Rattle.ranks.specs.Laws.{exceeding, Largest, Rises, LargestRises, Examples}
+use Rattle.ranks.specs.Laws.{exceeding, Largest, LargestRises, Examples}
 
 -- 1 if x exceeds a, else 0
 abbrev one : ℕ → ℕ → ℕ

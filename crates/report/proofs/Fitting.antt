@@ -33,7 +33,8 @@ use Rattle.search.specs.Search.{TableAfter, checkLent, searchedLent, searchAnsw
 use Rattle.search.specs.declared.Answer.{Answer}
 use Rattle.text.specs.Line.{line, lineIn}
 use Rattle.report.specs.Inside.{Searched, numbersLent}
-use Rattle.report.specs.Report.{FitTable, FitBounds, FitCertified, TableLent, BoundsLent, checkFit, enough, fitAnswer, fitLine, fitSearch, reportLine, storeOf}
+use Rattle.report.specs.Report.{FitTable, FitBounds, FitCertified, TableLent, BoundsLent, checkFit, enough, fitAnswer, fitLine}
+use Rattle.report.specs.Report.{fitSearch, reportLine, storeOf}
 
 -- no more numbers are lent than a table of 2,048 rows has
 pub lent-few : (r : ℕ) → numbersLent r ≤ 32768
@@ -103,7 +104,8 @@ module _
     front-long : length (take n u) ≡ n
     front-long = s .long ∙ length-take-le n table there
 
-    from-peak : (front : List ℤ) → length front ≡ n → 16 * found .peak ≤ n → drop (16 * found .peak) (with-rest front) ≡ with-rest (drop (16 * found .peak) front)
+    from-peak : (front : List ℤ) → length front ≡ n → 16 * found .peak ≤ n
+        → drop (16 * found .peak) (with-rest front) ≡ with-rest (drop (16 * found .peak) front)
     from-peak front long few = drop-append-le (16 * found .peak) front (drop n table) (omega arith)
 
     whole-table : TableAfter check found table u
@@ -158,7 +160,8 @@ module _ (input : List ℕ) (table : List ℤ) (bounds : List ℕ) (long : 32768
   unfolding checkFit inOrder
   short-refused short = rw (lt-leb 72 (length input) short) refl
 
-  empty-refused : (job : Job) (numbers entries : ℕ) → length input < 72 → checkSearch (storeOf input) job numbers entries ≡ Refuse Refusal.Length
+  empty-refused : (job : Job) (numbers entries : ℕ) → length input < 72
+      → checkSearch (storeOf input) job numbers entries ≡ Refuse Refusal.Length
   unfolding checkSearch checkJob checkModel checkStore inOrder
   empty-refused job numbers entries short = rw (drop-of-length-le input {i = 72} (le-of-lt short)) refl
 
@@ -194,10 +197,19 @@ module _ (input : List ℕ) (table : List ℤ) (bounds : List ℕ) (long : 32768
     refused-fit why is refuses =
         let never : checkFit input ≡ Pass → ⊥ = λ h. refused-not-passed why (sym is ∙ h) in
         let found = searchedLent (storeOf input) job front bounds in
-        let w = whole-table (Refuse why) found table u lent (omega (arith, lent-few (job .rows))) (s .rest) (rw refuses at (s .rows)) (λ h. refused-not-passed why h) in (
+        let w =
+        whole-table (Refuse why) found table u lent (omega (arith, lent-few (job .rows))) (s .rest) (rw refuses at (s .rows))
+        (λ h. refused-not-passed why h) in (
           s .told ∙ rw (refuses, is) refl,
           (
-            record { long = w .long; untouched = λ v h. w .untouched why refl; leftovers = []; rows = λ h. absurd (never h); rest = λ h. absurd (never h) },
+            record {
+              long = w .long;
+              untouched = λ v h. w .untouched why refl;
+              leftovers = [];
+              rows = λ h. absurd (never h);
+              rest = λ h.
+                  absurd (never h);
+            },
             (
               record {
                 long = s .entries .long;
@@ -219,7 +231,9 @@ module _ (input : List ℕ) (table : List ℤ) (bounds : List ℕ) (long : 32768
         let same = same-search read all in
         let few = peak-accepted (storeOf input) job front bounds pass in
         let found = searchedLent (storeOf input) job front bounds in
-        let table-after = whole-table Pass found table u lent (omega (arith, lent-few (job .rows))) (s .rest) (rw pass at (s .rows)) (λ h. omega (arith, few, lent-long)) in (
+        let table-after =
+        whole-table Pass found table u lent (omega (arith, lent-few (job .rows))) (s .rest) (rw pass at (s .rows))
+        (λ h. omega (arith, few, lent-long)) in (
           s .told ∙ rw (pass, is, same) refl,
           (
             rw is (rw same at table-after),
@@ -268,7 +282,8 @@ pub record-read : (input : List ℕ) (r : JobRead) → r ≡ readJob input → 7
 unfolding readJob
 record-read input r e whole = ap (λ (x : JobRead). x .job) e ∙ rw (le-leb 72 (length input) whole) refl
 
-pub store-part : (input : List ℕ) (start : ℕ) → start ≡ min 72 (length input) → take (length input - start) (drop start input) ≡ storeOf input
+pub store-part : (input : List ℕ) (start : ℕ) → start ≡ min 72 (length input)
+    → take (length input - start) (drop start input) ≡ storeOf input
 store-part input start e =
     take-all (length input - start) (drop start input) (omega (arith, length-drop start input))
     ∙ ⊎-elim
@@ -302,7 +317,8 @@ module _ (input : List ℕ) (table : List ℤ) (bounds out : List ℕ) where
         ),
       )
 
-  pub all-lent : (n : ℕ) (text : List ℕ) (u : List ℤ) (e : List ℕ) → enough table bounds out ≡ true → Reported input table bounds out n text u e → Lent n text u e
+  pub all-lent : (n : ℕ) (text : List ℕ) (u : List ℤ) (e : List ℕ) → enough table bounds out ≡ true
+      → Reported input table bounds out n text u e → Lent n text u e
   unfolding reportLine over
   all-lent n text u e is r =
       let never : enough table bounds out ≡ false → ⊥ = λ h. true-not-false (sym is ∙ h) in (

@@ -15,9 +15,11 @@ unfoldable pub numbersLent : ℕ → ℕ
 numbersLent r = cond (leb r 2048) (16 * r) 0
 
 -- The answer, the table u and the list e are those of a search that was lent the front of the table and the whole list.
-pub record Searched (store : List ℕ) (job : Job) (table : List ℤ) (bounds : List ℕ) (answer : Answer) (u : List ℤ) (e : List ℕ) : Type 0 where
-  pub told : answer ≡ searchAnswer store job (take (numbersLent (job .rows)) table) bounds
-  pub rows : TableSearched store job (take (numbersLent (job .rows)) table) bounds (take (numbersLent (job .rows)) u)
-  pub rest : drop (numbersLent (job .rows)) u ≡ drop (numbersLent (job .rows)) table
-  pub entries : BoundsSearched store job (take (numbersLent (job .rows)) table) bounds e
-  pub certificate : Certified store job (take (numbersLent (job .rows)) table) bounds answer
+pub record Searched
+    (store : List ℕ) (job : Job) (table : List ℤ) (bounds : List ℕ) (answer : Answer) (u : List ℤ) (e : List ℕ) : Type 0
+  where
+    pub told : answer ≡ searchAnswer store job (take (numbersLent (job .rows)) table) bounds
+    pub rows : TableSearched store job (take (numbersLent (job .rows)) table) bounds (take (numbersLent (job .rows)) u)
+    pub rest : drop (numbersLent (job .rows)) u ≡ drop (numbersLent (job .rows)) table
+    pub entries : BoundsSearched store job (take (numbersLent (job .rows)) table) bounds e
+    pub certificate : Certified store job (take (numbersLent (job .rows)) table) bounds answer

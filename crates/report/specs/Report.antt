@@ -70,7 +70,8 @@ pub record BoundsLent (input : List ℕ) (table : List ℤ) (bounds out after : 
   pub idle : enough table bounds out ≡ false → after ≡ bounds
   pub searched : enough table bounds out ≡ true → FitBounds input bounds after
 
--- A text handed over for an accepted job is certified: it tells what the search comes to, and of that demand 3 holds, with the job's r rows.
+-- A text handed over for an accepted job is certified: it tells what the search comes to, and of that demand 3 holds, with the job's r
+-- rows.
 abbrev pub FitCertified : List ℕ → List ℕ → Type 0
 FitCertified input text =
     checkFit input ≡ Pass →

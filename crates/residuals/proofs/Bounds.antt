@@ -1,5 +1,6 @@
--- The bound of a box is at most the cost of each of its vectors, and equal for a box of one vector: of every cost that is made from the points'
--- least sizes alone and never falls when one of them grows, and so for the four values of p; residuals have a limit. Assumes nothing.
+-- The bound of a box is at most the cost of each of its vectors, and equal for a box of one vector: of every cost that is made from the
+-- points' least sizes alone and never falls when one of them grows, and so for the four values of p; residuals have a limit. Assumes
+-- nothing.
 use mathlib.Core.Path.{_≡_, refl, sym, ap, ap₂, _∙_}
 use mathlib.Core.Bool.{Bool, true, false, cond}
 use mathlib.Core.List.{List, [], _∷_, map}
@@ -20,7 +21,8 @@ use Rattle.boxes.proofs.Volume.{between-at, high-low}
 use Rattle.jobs.specs.declared.Model.{Model}
 use Rattle.points.specs.declared.Point.{Point}
 use Rattle.points.specs.Points.{xs}
-use Rattle.residuals.specs.Cost.{at, dot, dotMax, dotMin, least, residual, sizeAt, eMin, eMax, nearestTo0, leastSize, unlessGap, totalLoss, leastAt, cost, leastOver, bound}
+use Rattle.residuals.specs.Cost.{at, dot, dotMax, dotMin, least, residual, sizeAt, eMin, eMax, nearestTo0, leastSize, unlessGap}
+use Rattle.residuals.specs.Cost.{totalLoss, leastAt, cost, leastOver, bound}
 use Rattle.ranks.specs.Largest.{nthLargest}
 use Rattle.ranks.specs.Laws.{Rises}
 use Rattle.ranks.proofs.Largest.{nth-largest-rises}

@@ -13,12 +13,13 @@ use Rattle.integers.proofs.Lists.{all-append}
 use Rattle.jobs.specs.declared.Model.{Model}
 use Rattle.points.specs.Points.{isGap, unsignedAt, signedAt, pointAt, firstPoints, pointsOf, xs}
 use Rattle.ranks.proofs.Largest.{largest}
-use Rattle.residuals.specs.Cost.{least, unlessGap, sizeAt, leastAt, cost}
+use Rattle.residuals.specs.Cost.{unlessGap, sizeAt, leastAt, cost}
 use Rattle.residuals.specs.Laws.{Small}
 use Rattle.residuals.proofs.Bounds.{residual-small}
 use Rattle.residuals.proofs.Least.{least-first}
 
-by-half : (lower : Bool) (n : ℕ) → (T lower → n < 32768) → (T (not lower) → 32768 ≤ n) → natAbs (sel lower (pos n) (negsuc (65536 - suc n))) ≤ 32768
+by-half : (lower : Bool) (n : ℕ) → (T lower → n < 32768) → (T (not lower) → 32768 ≤ n)
+    → natAbs (sel lower (pos n) (negsuc (65536 - suc n))) ≤ 32768
 by-half true n below above = omega (arith, below tt)
 by-half false n below above = omega (arith, above tt)
 

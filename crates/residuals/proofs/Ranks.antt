@@ -1,5 +1,5 @@
--- For p = 3 a cost is a rank of the points' least sizes; how many of these exceed a number is the cost for p = 0 with that number as threshold.
--- Assumes nothing.
+-- For p = 3 a cost is a rank of the points' least sizes; how many of these exceed a number is the cost for p = 0 with that number as
+-- threshold. Assumes nothing.
 use mathlib.Core.Path.{_≡_, refl, sym, ap, _∙_}
 use mathlib.Core.Bool.{Bool, true, cond}
 use mathlib.Core.List.{List, [], _∷_, map}
@@ -29,7 +29,8 @@ exceeding-sum a (x ∷ sizes) = exceeding-more a x sizes ∙ ap (λ (n : ℕ). c
 -- how many of the points' least sizes exceed a
 pub exceeding-total : (a : ℕ) (m : Model) (size : Point → ℕ → ℕ) (qs : List Point) →
     totalLoss (counting a m) size qs ≡ exceeding a (map (λ q. unlessGap q (least (size q) (m .n))) qs)
-exceeding-total a m size qs = total-of-least (counting a m) size qs ∙ sym (exceeding-sum a (map (λ q. unlessGap q (least (size q) (m .n))) qs))
+exceeding-total a m size qs =
+    total-of-least (counting a m) size qs ∙ sym (exceeding-sum a (map (λ q. unlessGap q (least (size q) (m .n))) qs))
 
 module _ (m : Model) (qs : List Point) (h : eqb (m .p) 3 ≡ true) where
   pub cost-rank : (v : List ℤ) → cost m qs v ≡ nthLargest (m .eps) (map (λ q. unlessGap q (least (sizeAt m v q) (m .n))) qs)

@@ -89,7 +89,8 @@ module _ (m : Model) (size : Point → ℕ → ℕ) where
 
     -- one record more: the loss of its least size
     pub one-summed : {i sum : ℕ} (loss : ℕ) → LossSmall (m .p) (m .eps) → i < length s / 12 →
-        loss ≡ lossOf (m .p) (m .eps) (unlessGap (pointAt s i) (least (size (pointAt s i)) (m .n))) → Summed i sum → Summed (i + 1) (sum + loss)
+        loss ≡ lossOf (m .p) (m .eps) (unlessGap (pointAt s i) (least (size (pointAt s i)) (m .n))) → Summed i sum
+        → Summed (i + 1) (sum + loss)
     unfolding added
     one-summed {i} {sum} loss cut h e g =
         let q = pointAt s i in

@@ -50,8 +50,8 @@ sizeAt m v q j = natAbs (residual m v q j)
 unfoldable pub leastAt : Model → List ℤ → Point → ℕ
 leastAt m v q = unlessGap q (least (sizeAt m v q) (m .n))
 
--- "The cost of a vector is the sum over the points of the least loss among its lines." Document 02: "p = 3: the cost is the (q + 1)-th largest of
--- the points' least |e| over the lines". "The ε field carries q".
+-- "The cost of a vector is the sum over the points of the least loss among its lines." Document 02: "p = 3: the cost is the (q + 1)-th
+-- largest of the points' least |e| over the lines". "The ε field carries q".
 unfoldable pub cost : Model → List Point → List ℤ → ℕ
 cost m qs v = cond (eqb (m .p) 3) (nthLargest (m .eps) (map (leastAt m v) qs)) (totalLoss m (sizeAt m v) qs)
 
@@ -85,7 +85,7 @@ leastSize m B q j = nearestTo0 (eMin m B q j) (eMax m B q j)
 unfoldable pub leastOver : Model → Box → Point → ℕ
 leastOver m B q = unlessGap q (least (leastSize m B q) (m .n))
 
--- "The bound of a box is the same sum with |e| replaced by its least size over the box." For p = 3, "The box bound takes the (q + 1)-th largest
--- of the least sizes."
+-- "The bound of a box is the same sum with |e| replaced by its least size over the box." For p = 3, "The box bound takes the (q + 1)-th
+-- largest of the least sizes."
 unfoldable pub bound : Model → List Point → Box → ℕ
 bound m qs B = cond (eqb (m .p) 3) (nthLargest (m .eps) (map (leastOver m B) qs)) (totalLoss m (leastSize m B) qs)

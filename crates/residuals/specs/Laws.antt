@@ -44,8 +44,8 @@ lossSum p ε (a ∷ sizes) = lossOf p ε a + lossSum p ε sizes
 unfoldable pub makeOf : Model → List ℕ → ℕ
 makeOf m sizes = cond (eqb (m .p) 3) (nthLargest (m .eps) sizes) (lossSum (m .p) (m .eps) sizes)
 
--- "the four values of p then use it": the least loss among the lines is the loss of the least |e|, so that for each p cost and bound are made of
--- the points' least sizes alone.
+-- "the four values of p then use it": the least loss among the lines is the loss of the least |e|, so that for each p cost and bound are
+-- made of the points' least sizes alone.
 pub record Made (m : Model) (qs : List Point) : Type 0 where
   pub rises : Rises (makeOf m)
   pub of-cost : (v : List ℤ) → cost m qs v ≡ costBy (makeOf m) m qs v

@@ -99,7 +99,8 @@ module _ (t : List ℤ) (i : ℕ) (b : Box) where
         let rest = drop (16 * i + 16) t in
         let low : take 8 (drop (16 * i) (withRow t i b)) ≡ b .low = rw from-row (take-at (b .low) (b .high ++ rest) 8 (w .low)) in
         let high : take 8 (drop (16 * i + 8) (withRow t i b)) ≡ b .high =
-        rw (← drop-drop 8 (16 * i) (withRow t i b), from-row, drop-at (b .low) (b .high ++ rest) 8 (w .low)) (take-at (b .high) rest 8 (w .high))
+        rw (← drop-drop 8 (16 * i) (withRow t i b), from-row, drop-at (b .low) (b .high ++ rest) 8 (w .low))
+        (take-at (b .high) rest 8 (w .high))
         in
         let is : i < rowCount (withRow t i b) = omega (arith, there-length) in
         row-there (withRow t i b) i is ∙ rw (low, high)
@@ -109,8 +110,12 @@ module _ (t : List ℤ) (i : ℕ) (b : Box) where
         let q = b .low ++ (b .high ++ drop (16 * i + 16) t) in
         let is : j < rowCount (withRow t i b) = omega (arith, there-length) in
         row-there (withRow t i b) j is
-        ∙ rw
-        (with-grouped, part-before t q (16 * j) 8 (16 * i) (omega arith) (omega arith), part-before t q (16 * j + 8) 8 (16 * i) (omega arith) (omega arith))
+        ∙ rw (
+          with-grouped,
+          part-before t q (16 * j) 8 (16 * i) (omega arith) (omega arith),
+          part-before t q (16 * j + 8) 8 (16 * i)
+              (omega arith) (omega arith),
+        )
         (sym (row-there t j (omega arith)))
 
     there-rest : drop (16 * i + 16) (withRow t i b) ≡ drop (16 * i + 16) t
@@ -118,7 +123,8 @@ module _ (t : List ℤ) (i : ℕ) (b : Box) where
 
   module _ (w : Whole b) where
     pub length-with : length (withRow t i b) ≡ length t
-    length-with = ⊎-elim (λ (h : rowCount t ≤ i). ap length (with-missing h)) (λ (h : i < rowCount t). there-length h w) (le-or-lt (rowCount t) i)
+    length-with =
+        ⊎-elim (λ (h : rowCount t ≤ i). ap length (with-missing h)) (λ (h : i < rowCount t). there-length h w) (le-or-lt (rowCount t) i)
 
     -- the rows before it
     pub row-before : (j : ℕ) → j < i → rowAt (withRow t i b) j ≡ rowAt t j
@@ -132,7 +138,8 @@ module _ (t : List ℤ) (i : ℕ) (b : Box) where
     pub rest-with : (k : ℕ) → 16 * i + 16 ≤ k → drop k (withRow t i b) ≡ drop k t
     rest-with k g =
         rest-later t (withRow t i b) (16 * i + 16) k g
-        (⊎-elim (λ (h : rowCount t ≤ i). ap (drop (16 * i + 16)) (with-missing h)) (λ (h : i < rowCount t). there-rest h w) (le-or-lt (rowCount t) i))
+        (⊎-elim (λ (h : rowCount t ≤ i). ap (drop (16 * i + 16)) (with-missing h)) (λ (h : i < rowCount t). there-rest h w)
+        (le-or-lt (rowCount t) i))
 
 -- The first n rows.
 pub rows-more : (t : List ℤ) (n : ℕ) → rowsOf t (n + 1) ≡ rowsOf t n ++ (rowAt t n ∷ [])
@@ -150,7 +157,8 @@ unfolding rowsOf
 rows-take t zero i h = let e : i ≡ 0 = omega arith in rw e
 rows-take t (suc n) i h =
     ⊎-elim
-    (λ (k : suc n ≤ i). let e : i ≡ suc n = omega arith in rw e (take-all (suc n) (rowsOf t (suc n)) (omega (arith, rows-length t (suc n)))))
+    (λ (k : suc n ≤ i). let e : i ≡ suc n = omega arith in rw e
+    (take-all (suc n) (rowsOf t (suc n)) (omega (arith, rows-length t (suc n)))))
     (λ (k : i < suc n). take-append-le i (rowsOf t n) (rowAt t n ∷ []) (omega (arith, rows-length t n)) ∙ rows-take t n i (omega arith))
     (le-or-lt (suc n) i)
 
@@ -190,10 +198,17 @@ rows-with t i b h w = rows-more (withRow t i b) i ∙ rw (rows-before t i b w i 
 -- a row that is written as it is
 pub row-own : (t : List ℤ) (i : ℕ) → i < rowCount t → withRow t i (rowAt t i) ≡ t
 row-own t i h =
-    let row : (rowAt t i) .low ++ (rowAt t i) .high ≡ take 16 (drop (16 * i) t) = rw (row-there t i h, ← drop-drop 8 (16 * i) t) (sym (take-add 8 8 (drop (16 * i) t))) in
+    let row : (rowAt t i) .low ++ (rowAt t i) .high ≡ take 16 (drop (16 * i) t) =
+    rw (row-there t i h, ← drop-drop 8 (16 * i) t) (sym (take-add 8 8 (drop (16 * i) t))) in
     let rest : drop (16 * i + 16) t ≡ drop 16 (drop (16 * i) t) = sym (drop-drop 16 (16 * i) t) in
     with-there t i (rowAt t i) h (row-whole t i)
-    ∙ rw (row, rest, append-assoc (take (16 * i) t) (take 16 (drop (16 * i) t)) (drop 16 (drop (16 * i) t)), take-append-drop 16 (drop (16 * i) t))
+    ∙ rw (
+      row,
+      rest,
+      append-assoc (take (16 * i) t) (take 16 (drop (16 * i) t)) (drop 16 (drop (16 * i) t)),
+      take-append-drop 16
+          (drop (16 * i) t),
+    )
     (take-append-drop (16 * i) t)
 
 -- a row that moves to an earlier one
@@ -232,7 +247,11 @@ module _ (t : List ℤ) (i n : ℕ) (one : i < n) (there : n ≤ rowCount t) whe
   pub without-before : (j : ℕ) → j < i → rowAt (withoutRow t i n) j ≡ rowAt t j
   without-before j h =
       row-of j (omega arith)
-      ∙ rw (down-before t (16 * i) 16 moved (16 * j) 8 (omega arith) room, down-before t (16 * i) 16 moved (16 * j + 8) 8 (omega arith) room)
+      ∙ rw (
+        down-before t (16 * i) 16 moved (16 * j) 8 (omega arith) room,
+        down-before t (16 * i) 16 moved (16 * j + 8) 8 (omega arith)
+            room,
+      )
       (sym (row-there t j (omega arith)))
 
   pub without-behind : (j : ℕ) → i ≤ j → j < n - 1 → rowAt (withoutRow t i n) j ≡ rowAt t (j + 1)
@@ -240,5 +259,11 @@ module _ (t : List ℤ) (i n : ℕ) (one : i < n) (there : n ≤ rowCount t) whe
       let low : 16 * j + 16 ≡ 16 * (j + 1) = omega arith in
       let high : 16 * j + 8 + 16 ≡ 16 * (j + 1) + 8 = omega arith in
       row-of j (omega arith)
-      ∙ rw (down-moved t (16 * i) 16 moved (16 * j) 8 (omega arith) (omega arith) room, down-moved t (16 * i) 16 moved (16 * j + 8) 8 (omega arith) (omega arith) room, low, high)
+      ∙ rw (
+        down-moved t (16 * i) 16 moved (16 * j) 8 (omega arith) (omega arith) room,
+        down-moved t (16 * i) 16 moved (16 * j + 8) 8
+            (omega arith) (omega arith) room,
+        low,
+        high,
+      )
       (sym (row-there t (j + 1) (omega arith)))

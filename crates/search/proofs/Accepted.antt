@@ -40,7 +40,8 @@ module _ (store : List ℕ) (job : Job) (t : List ℤ) (d : List ℕ) where
   open-count = length (found .list)
 
   abbrev Promised : Answer → List ℤ → List ℕ → Type 0
-  Promised r u e = (r ≡ searchAnswer store job t d) × (TableSearched store job t d u × (BoundsSearched store job t d e × Certified store job t d r))
+  Promised r u e =
+      (r ≡ searchAnswer store job t d) × (TableSearched store job t d u × (BoundsSearched store job t d e × Certified store job t d r))
 
   module _ (ok : checkLent store job t d ≡ Pass) where
     pub certificate : CertifiedIn store job (rowCount t)
@@ -53,7 +54,8 @@ module _ (store : List ℕ) (job : Job) (t : List ℤ) (d : List ℕ) where
     pub peak-accepted : found .peak ≤ rowCount t
     peak-accepted =
         let sound =
-        reached-sound (cost (job .model) (pointsOf store)) B (bound-laws (job .model) (pointsOf store)) (job .budget) (rowCount t) (job .t) (job .start) (job .domain)
+        reached-sound (cost (job .model) (pointsOf store)) B (bound-laws (job .model) (pointsOf store)) (job .budget) (rowCount t) (job .t)
+        (job .start) (job .domain)
         ((runs-accepted store job (length t) (length d) ok) .inside) (found .count) (stateOf found) (certificate .counted)
         in
         omega (arith, sound .room, rows-accepted store job (length t) (length d) ok)
@@ -67,7 +69,9 @@ module _ (store : List ℕ) (job : Job) (t : List ℤ) (d : List ℕ) where
           long = q .within .long;
           untouched = λ why h. refused-not-passed why (sym h ∙ ok);
           leftovers = drop open-count (rowsOf v (found .peak));
-          rows = λ h. two-parts (rowsOf v (found .peak)) (found .list) open-count (rows-take v (found .peak) open-count (q .few) ∙ q .open-rows);
+          rows =
+              λ h. two-parts (rowsOf v (found .peak)) (found .list) open-count
+              (rows-take v (found .peak) open-count (q .few) ∙ q .open-rows);
           rest = λ h. q .within .rest;
         },
         (
@@ -75,7 +79,9 @@ module _ (store : List ℕ) (job : Job) (t : List ℤ) (d : List ℕ) where
             long = q .within .long-entries;
             untouched = λ why h. refused-not-passed why (sym h ∙ ok);
             leftovers = drop open-count (take (found .peak) f);
-            entries = λ h. two-parts (take (found .peak) f) (map B (found .list)) open-count (take-take open-count (found .peak) f (q .few) ∙ q .open-entries);
+            entries =
+                λ h. two-parts (take (found .peak) f) (map B (found .list)) open-count
+                (take-take open-count (found .peak) f (q .few) ∙ q .open-entries);
             rest = λ h. q .within .rest-entries;
           },
           λ h. (q .answer, certificate),

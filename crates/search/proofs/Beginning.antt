@@ -38,7 +38,8 @@ whole-cost store m v ok x found small = omega (arith, found, cost-up-to store m 
 abbrev pub noBoxes : Listing
 noBoxes = record { rows = 0; blocks = 0; late = 0; near = record { at = 0; bound = gone }; number = 0 }
 
-none-listed : (bound : Box → ℕ) (t : List ℤ) (d l p : List ℕ) (v : List ℤ) (f : List ℕ) → length l ≡ 64 → length p ≡ 64 → Listed bound t d l p v f noBoxes []
+none-listed : (bound : Box → ℕ) (t : List ℤ) (d l p : List ℕ) (v : List ℤ) (f : List ℕ) → length l ≡ 64 → length p ≡ 64
+    → Listed bound t d l p v f noBoxes []
 unfolding rowsOf picked
 none-listed bound t d l p v f long places =
     record {
@@ -74,11 +75,13 @@ module _
 
     held : (t : List ℤ) (d l p : List ℕ) → length l ≡ 64 → length p ≡ 64 → Listed bound t d l p w k g (ifKept child (child .half))
     held t d l p x y =
-        added bound t d l p v f noBoxes [] (none-listed bound t d l p v f x y) (child .half) (child .bound) whole (omega (arith, long .0, long .1))
+        added bound t d l p v f noBoxes [] (none-listed bound t d l p v f x y) (child .half) (child .bound) whole
+        (omega (arith, long .0, long .1))
         (child .kept) (λ is. tested .exact is ∙ ap bound (sym (tested .half))) small
 
     -- the given box, if it is kept
-    pub begun : Begun cost bound tol start domain (record { best = record { vector = start; cost = c }; list = g; count = 0; peak = g .number }) w k
+    pub begun : Begun cost bound tol start domain
+        (record { best = record { vector = start; cost = c }; list = g; count = 0; peak = g .number }) w k
     unfolding begin
     begun =
         let zeros : List ℕ = replicate 64 0 in

@@ -15,14 +15,16 @@ use Rattle.search.specs.Inside.{keptBy, markOf, answerWith, Ended, Ran}
 use Rattle.search.proofs.Replacing.{all-kept}
 
 module _
-    (bound : Box → ℕ) (tol : ℕ) (def : Search.Answer) (t : List ℤ) (d : List ℕ) (z : End) (u : List ℤ) (e m q : List ℕ) (w : List ℤ) (k : List ℕ)
+    (bound : Box → ℕ) (tol : ℕ) (def : Search.Answer) (t : List ℤ) (d : List ℕ) (z : End) (u : List ℤ) (e m q : List ℕ) (w : List ℤ)
+    (k : List ℕ)
     (h : Ended bound tol def t d z u e m q w k) (a : Listing) (u₂ : List ℤ) (e₂ m₂ q₂ : List ℕ)
     (by : SettledBy u e m q w k (z .state .list) (markOf tol (z .state .best)) a u₂ e₂ m₂ q₂)
   where
     together : Together bound u e (z .state .list .rows) (def .list) a u₂ e₂
     together =
         rw (all-kept (keptBy bound (markOf tol (z .state .best))) (h .kept)) at
-        (settled-together bound u e m q w k (z .state .list) (def .list) (h .listed) (markOf tol (z .state .best)) (h .fits) (h .room) a u₂ e₂ m₂ q₂ by)
+        (settled-together bound u e m q w k (z .state .list) (def .list) (h .listed) (markOf tol (z .state .best)) (h .fits) (h .room) a u₂
+        e₂ m₂ q₂ by)
 
     pub ran : (r : Answer) → r ≡ answerWith (z .kind) (z .state) (z .low) → Ran bound def t d r u₂ e₂
     ran r is =

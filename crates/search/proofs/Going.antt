@@ -29,7 +29,8 @@ use Rattle.certificate.proofs.Lists.{all-at}
 use Rattle.certificate.proofs.Ahead.{ahead-le}
 use Rattle.certificate.proofs.Smallest.{lower-le}
 use Rattle.certificate.proofs.Steps.{unsolved-open}
-use Rattle.certificate.proofs.Running.{Running, running-begins, running-sound, running-costed, running-solved, running-spent, running-full, running-goes}
+use Rattle.certificate.proofs.Running.{Running, running-begins, running-sound, running-costed, running-solved, running-spent, running-full}
+use Rattle.certificate.proofs.Running.{running-goes}
 use Rattle.search.specs.declared.branch.Best.{Best}
 use Rattle.search.specs.declared.step.State.{State}
 use Rattle.search.specs.declared.step.Stepped.{Stepped}
@@ -69,7 +70,8 @@ pub going-begins :
     Begun (r .cost) (r .bound) (r .tol) (r .start) (r .domain) s w k → Going r s (r .t) (r .d) m q w k
 going-begins r s m q w k x y b =
     record {
-      running = rw (b .state (r .t) (r .d)) (running-begins (r .cost) (r .bound) (r .budget) (rowCount (r .t)) (r .tol) (r .start) (r .domain));
+      running =
+          rw (b .state (r .t) (r .d)) (running-begins (r .cost) (r .bound) (r .budget) (rowCount (r .t)) (r .tol) (r .start) (r .domain));
       stands = b .stands (r .t) (r .d) m q x y;
       within = record { long = refl; long-entries = refl; rest = refl; rest-entries = refl };
     }
@@ -178,7 +180,8 @@ module _
 
         -- (b)
         pub going-spent :
-            s .count ≡ budget → Ended bound (r .tol) (def r) (r .t) (r .d) (record { kind = kindOf spent; low = low; state = s }) u e m q w k
+            s .count ≡ budget → Ended bound (r .tol) (def r) (r .t) (r .d) (record { kind = kindOf spent; low = low; state = s }) u e m q w
+            k
         going-spent all =
             ended spent (running-spent cost bound budget rows (r .tol) (r .start) (r .domain) now-state (g .running) unsolved all)
 
@@ -200,7 +203,8 @@ module _
                 kept = going-kept;
                 costed = λ some.
                     rw (chosen .box) at
-                    (all-at zeroBox (running-costed cost bound budget rows (r .tol) (r .start) (r .domain) now-state (g .running) some) at (chosen .inside));
+                    (all-at zeroBox (running-costed cost bound budget rows (r .tol) (r .start) (r .domain) now-state (g .running) some) at
+                    (chosen .inside));
                 room = omega (arith, open-rows, g .within .long);
                 entries = omega (arith, g .within .long, g .within .long-entries, ready .enough);
                 longest = open-few;
@@ -219,7 +223,8 @@ module _
                   let same = out .kept is in
                   rw (same .0, same .1, same .2, same .3, same .4, same .5)
                   (ended full
-                  (running-full cost bound budget rows (r .tol) (r .start) (r .domain) now-state (g .running) unsolved less (omega (arith, g .within .long))))
+                  (running-full cost bound budget rows (r .tol) (r .start) (r .domain) now-state (g .running) unsolved less
+                  (omega (arith, g .within .long))))
 
               -- one split less is left
               pub going-counts : z .full ≡ false → budget - z .state .count < budget - s .count
@@ -234,13 +239,16 @@ module _
                   record {
                     running =
                         rw (o₂ .state)
-                        (running-goes cost bound budget rows (r .tol) (r .start) (r .domain) now-state (g .running) unsolved less (omega (arith, g .within .long)));
+                        (running-goes cost bound budget rows (r .tol) (r .start) (r .domain) now-state (g .running) unsolved less
+                        (omega (arith, g .within .long)));
                     stands = o₂ .stands;
                     within =
                         record {
                           long = o₂ .within .long ∙ g .within .long;
                           long-entries = o₂ .within .long-entries ∙ g .within .long-entries;
-                          rest = o₂ .within .rest ∙ rest-later (r .t) u (16 * s .peak) (16 * z .state .peak) (omega arith) (g .within .rest);
-                          rest-entries = o₂ .within .rest-entries ∙ rest-later (r .d) e (s .peak) (z .state .peak) peaks (g .within .rest-entries);
+                          rest =
+                              o₂ .within .rest ∙ rest-later (r .t) u (16 * s .peak) (16 * z .state .peak) (omega arith) (g .within .rest);
+                          rest-entries =
+                              o₂ .within .rest-entries ∙ rest-later (r .d) e (s .peak) (z .state .peak) peaks (g .within .rest-entries);
                         };
                   }

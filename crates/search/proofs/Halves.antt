@@ -54,7 +54,8 @@ module _ (m : Model) (some : 1 ≤ m .d) (b half : Box) (same : SameBut b half) 
     where
       by : (t : Bool) → eqb j cutLine ≡ t → cond t (leastSize m half q j) (leastSize m b q j) ≡ leastSize m half q j
       by true e = refl
-      by false e = size-agrees m b half q j (λ i h. same (j * m .d + i) (elsewhere (longestSide b) (m .d) j i some h (eqb-false j cutLine e)))
+      by false e =
+          size-agrees m b half q j (λ i h. same (j * m .d + i) (elsewhere (longestSide b) (m .d) j i some h (eqb-false j cutLine e)))
 
   half-bound : m .p ≤ 2 → (qs : List Point) → totalLoss m (halfSize m b half cutLine) qs ≡ bound m qs half
   half-bound sums qs =

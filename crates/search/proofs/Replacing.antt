@@ -30,7 +30,8 @@ use Rattle.certificate.proofs.Lists.{append-kept, length-kept, takes-at, takes-
 use Rattle.search.specs.Inside.{keptBy, Tested, RoomMade, Within, LateLong, Replaceable, remaining, ReplacedIn}
 
 -- a half, kept or not, for any test
-pub half-box : (bound : Box → ℕ) (keep : Box → Bool) (b : Box) (child : Child) → Tested bound keep b child → ifKept child (child .half) ≡ keepIf keep (b ∷ [])
+pub half-box : (bound : Box → ℕ) (keep : Box → Bool) (b : Box) (child : Child) → Tested bound keep b child
+    → ifKept child (child .half) ≡ keepIf keep (b ∷ [])
 half-box bound keep b child s = rw (s .decided, s .half)
 
 -- where all are kept
@@ -198,7 +199,8 @@ module _
     -- a half that is kept has a bound that is not gone
     half-small : (child : Child) → Tested bound keep (child .half) child → child .kept ≡ true → child .bound < gone
     half-small child s is =
-        let passes = ahead-le (mark .t) (mark .cost) (mark .best) (bound (child .half)) (child .half .low) (subst T (sym (sym (s .decided) ∙ is)) tt) in
+        let passes =
+        ahead-le (mark .t) (mark .cost) (mark .best) (bound (child .half)) (child .half .low) (subst T (sym (sym (s .decided) ∙ is)) tt) in
         omega (arith, s .exact is, h .below)
 
     abbrev one : Listing
@@ -206,7 +208,8 @@ module _
 
     with-left : Listed bound u e m q (putRow w₁ a₂ left) (putEntry k₁ a₂ left) one (keepIf keep rest ++ ifKept left (left .half))
     with-left =
-        added bound u e m q w₁ k₁ a₂ (keepIf keep rest) (ready .0) (left .half) (left .bound) left-whole (omega (arith, ready .1, late-is .0, late-is .1))
+        added bound u e m q w₁ k₁ a₂ (keepIf keep rest) (ready .0) (left .half) (left .bound) left-whole
+        (omega (arith, ready .1, late-is .0, late-is .1))
         (left .kept) (h .left-tested .exact) (half-small left (h .left-tested))
 
     left-long : LateLong (putRow w₁ a₂ left) (putEntry k₁ a₂ left)
@@ -218,11 +221,14 @@ module _
     both : Listed bound u e m q (putRow (putRow w₁ a₂ left) one right) (putEntry (putEntry k₁ a₂ left) one right) (putLate one right)
         ((keepIf keep rest ++ ifKept left (left .half)) ++ ifKept right (right .half))
     both =
-        added bound u e m q (putRow w₁ a₂ left) (putEntry k₁ a₂ left) one (keepIf keep rest ++ ifKept left (left .half)) with-left (right .half) (right .bound)
-        right-whole (omega (arith, ready .1, late-more a₂ (left .bound) (left .kept), left-long .0, left-long .1)) (right .kept) (h .right-tested .exact)
+        added bound u e m q (putRow w₁ a₂ left) (putEntry k₁ a₂ left) one (keepIf keep rest ++ ifKept left (left .half)) with-left
+        (right .half) (right .bound)
+        right-whole (omega (arith, ready .1, late-more a₂ (left .bound) (left .kept), left-long .0, left-long .1)) (right .kept)
+        (h .right-tested .exact)
         (half-small right (h .right-tested))
 
-    remains : (keepIf keep rest ++ ifKept left (left .half)) ++ ifKept right (right .half) ≡ remaining bound mark list (left .half) (right .half)
+    remains : (keepIf keep rest ++ ifKept left (left .half)) ++ ifKept right (right .half)
+        ≡ remaining bound mark list (left .half) (right .half)
     remains =
         rw (half-box bound keep (left .half) left (h .left-tested), half-box bound keep (right .half) right (h .right-tested))
         (append-assoc (keepIf keep rest) (keepIf keep (left .half ∷ [])) (keepIf keep (right .half ∷ []))

@@ -25,6 +25,7 @@ first store job table bounds zero is =
 
 pub same-vector : SameVector
 same-vector store store′ job job′ table table′ bounds bounds′ points model domain zero zero′ is is′ =
-    one-first (cost (job .model) (pointsOf store)) (job .domain) ((searchAnswer store job table bounds) .vector) ((searchAnswer store′ job′ table′ bounds′) .vector)
+    one-first (cost (job .model) (pointsOf store)) (job .domain) ((searchAnswer store job table bounds) .vector)
+    ((searchAnswer store′ job′ table′ bounds′) .vector)
     (first store job table bounds zero is)
     (rw (points, model, domain) (first store′ job′ table′ bounds′ zero′ is′))

@@ -1,5 +1,5 @@
--- The split of the definition, by how the list is held: what remains is what is kept of the others, and the halves of the box that was found.
--- Assumes nothing.
+-- The split of the definition, by how the list is held: what remains is what is kept of the others, and the halves of the box that was
+-- found. Assumes nothing.
 use mathlib.Core.Path.{_≡_, refl, sym, ap, subst, _∙_}
 use mathlib.Core.Bool.{Bool, true, false, cond, not}
 use mathlib.Core.List.{List, [], _∷_}
@@ -53,7 +53,8 @@ count-kept : (keep : Box → Bool) (bs : List Box) → sum (λ b. cond (keep b) 
 count-kept keep [] = refl
 count-kept keep (b ∷ bs) =
     let rest = count-kept keep bs in
-    by-test (keep b) (b ∷ keepIf keep bs) (keepIf keep bs) (λ (xs : List Box). cond (keep b) 1 0 + sum (λ b. cond (keep b) 1 0) bs ≡ length xs)
+    by-test (keep b) (b ∷ keepIf keep bs) (keepIf keep bs)
+    (λ (xs : List Box). cond (keep b) 1 0 + sum (λ b. cond (keep b) 1 0) bs ≡ length xs)
     (λ e. rw e (omega arith))
     (λ e. rw e (omega arith))
 
@@ -153,7 +154,8 @@ module _
           ap {B = ℕ} (λ (x : Bool). cond x 1 0) is,
         )
 
-    counted : number (keptAt t d mark) (min (g .rows) (roomIn t d)) + number (keptAt v f mark) (min (g .late) (roomIn v f)) ≡ length (keepIf keep list)
+    counted : number (keptAt t d mark) (min (g .rows) (roomIn t d)) + number (keptAt v f mark) (min (g .late) (roomIn v f))
+        ≡ length (keepIf keep list)
     counted =
         let far = picked (rowAt t) (keptAt t d mark) (g .rows) in
         let near = picked (rowAt v) (keptAt v f mark) (g .late) in
@@ -170,7 +172,8 @@ module _
         ))
 
     -- whether the table is too small
-    pub step-told : (own : Bool) → own ≡ keep b → (full : Bool) → full ≡ tooMany t d v f g mark all own more → full ≡ ltb (rowCount t) (length (after .list))
+    pub step-told : (own : Bool) → own ≡ keep b → (full : Bool) → full ≡ tooMany t d v f g mark all own more
+        → full ≡ ltb (rowCount t) (length (after .list))
     step-told own is full told = told ∙ rw split-is (by (leb (g .number + more) (rowCount t + 1)) refl)
       where
         one-less : length list ≡ suc (length rest)
@@ -182,15 +185,18 @@ module _
             ones (x ∷ xs) = omega (arith, ones xs)
 
         exact : (a : Bool) → a ≡ all → rowCount t + 1 < g .number + more →
-            cond a true (ltb (rowCount t + cond own 1 0) (number (keptAt t d mark) (min (g .rows) (roomIn t d)) + number (keptAt v f mark) (min (g .late) (roomIn v f)) + more))
+            cond a true (ltb (rowCount t + cond own 1 0)
+            (number (keptAt t d mark) (min (g .rows) (roomIn t d)) + number (keptAt v f mark) (min (g .late) (roomIn v f)) + more))
             ≡ ltb (rowCount t) (length kept)
         exact true e many =
             let whole = all-kept keep ((takes-all (takes-at zeroBox list at (h .chosen .inside)) (all-stay (sym e))) .1) in
-            sym (lt-ltb (rowCount t) (length kept) (omega (arith, remain, one-less, ap (λ (x : List Box). length x) whole, h .stands .listed .number)))
+            sym (lt-ltb (rowCount t) (length kept)
+            (omega (arith, remain, one-less, ap (λ (x : List Box). length x) whole, h .stands .listed .number)))
         exact false e many = rw (counted, with-own own is, remain) (shifted (rowCount t) others (cond own 1 0) more)
 
         by : (x : Bool) → leb (g .number + more) (rowCount t + 1) ≡ x →
-            cond x false (cond all true (ltb (rowCount t + cond own 1 0) (number (keptAt t d mark) (min (g .rows) (roomIn t d)) + number (keptAt v f mark) (min (g .late) (roomIn v f)) + more)))
+            cond x false (cond all true (ltb (rowCount t + cond own 1 0)
+            (number (keptAt t d mark) (min (g .rows) (roomIn t d)) + number (keptAt v f mark) (min (g .late) (roomIn v f)) + more)))
             ≡ ltb (rowCount t) (length kept)
         by true e =
             let few = leb-true (g .number + more) (rowCount t + 1) e in

@@ -29,7 +29,8 @@ module _ (tol c : ℕ) (best : List ℤ) (y : ℕ) (v : List ℤ) (x cap : ℕ) 
 
 -- a vector v that is tried, x being what was found of its cost as far as a cap above the best one's
 module _ (cost : List ℤ → ℕ) (tol : ℕ) (best v : List ℤ) (x cap : ℕ) (found : x ≡ min (cost v) cap) (far : cost best < cap) where
-  pub tried-new : ahead tol (cost best) best x v ≡ true → _≡_ {A = Best} (record { vector = v; cost = x }) (bestOf cost (better cost tol best v))
+  pub tried-new : ahead tol (cost best) best x v ≡ true
+      → _≡_ {A = Best} (record { vector = v; cost = x }) (bestOf cost (better cost tol best v))
   unfolding better
   tried-new is =
       let e = whole-ahead tol (cost best) best (cost v) v x cap found far is in

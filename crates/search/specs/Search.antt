@@ -84,7 +84,8 @@ pub record BoundsAfter (bound : Box → ℕ) (check : Check) (found : Search.Ans
 -- of what a search in so many rows comes to demand 3 holds
 abbrev pub CertifiedIn : List ℕ → Job → ℕ → Type 0
 CertifiedIn store job rows =
-    Certificate (cost (job .model) (pointsOf store)) (bound (job .model) (pointsOf store)) (job .budget) rows (job .t) (job .start) (job .domain)
+    Certificate (cost (job .model) (pointsOf store)) (bound (job .model) (pointsOf store)) (job .budget) rows (job .t) (job .start)
+    (job .domain)
     (searched store job rows)
 
 -- A search that is lent a table and a list of bounds. "r is its length divided by 16, rounded down."

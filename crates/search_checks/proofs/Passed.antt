@@ -24,7 +24,8 @@ last-decides Pass Pass (Refuse r) d h = refused-not-passed r h
 last-decides Pass (Refuse r) c d h = refused-not-passed r h
 last-decides (Refuse r) b c d h = refused-not-passed r h
 
-first-refuse : (a b c d : Check) (r : Refusal) → inOrder (a ∷ inOrder (b ∷ c ∷ []) ∷ []) ≡ Refuse r → inOrder (a ∷ b ∷ c ∷ d ∷ []) ≡ Refuse r
+first-refuse : (a b c d : Check) (r : Refusal) → inOrder (a ∷ inOrder (b ∷ c ∷ []) ∷ []) ≡ Refuse r
+    → inOrder (a ∷ b ∷ c ∷ d ∷ []) ≡ Refuse r
 unfolding inOrder
 first-refuse Pass Pass Pass d r h = refused-not-passed r (sym h)
 first-refuse Pass Pass (Refuse q) d r h = h
@@ -88,4 +89,6 @@ module _ (store : List ℕ) (job : Job) where
     rows-accepted = leb→le 16 numbers (passed (leb 16 numbers) Refusal.Table (first-passed table (bounds ∷ []) lent))
 
     pub entries-accepted : numbers / 16 ≤ entries
-    entries-accepted = leb→le (numbers / 16) entries (passed (leb (numbers / 16) entries) Refusal.Bounds (first-passed bounds [] (others-passed table (bounds ∷ []) lent)))
+    entries-accepted =
+        leb→le (numbers / 16) entries (passed (leb (numbers / 16) entries) Refusal.Bounds
+        (first-passed bounds [] (others-passed table (bounds ∷ []) lent)))

@@ -9,7 +9,7 @@ use native.Mathlib.Omega.{arith}
 use lib.Dec.{T, ltb, ltb→lt, lt→ltb}
 use lib.IntN.{pos}
 use lib.ListN.{length, getD}
-use lib.Ieee.{Float, nan, inf, fin, binary64, up, down, round, lt, ofInt}
+use lib.Ieee.{Float, nan, inf, fin, binary64, up, down, lt, ofInt}
 use lib.Ieee.Exact.{HasValue}
 use lib.Ieee.Fits.{down-pos}
 use lib.Ieee.Back.{round-whole}
@@ -24,7 +24,9 @@ use Rattle.selection.proofs.Exact.{selected-is}
 scaled : (a b x y e f n d : ℕ) → 0 < f → 0 < e → a ≤ b → x * 1 ≡ a * e → y * 1 ≡ b * f → y * d < n * f → x * d < n * e
 scaled a b x y e f n d F E h p q l =
     let whole : b * d < n =
-    ⊎-elim (λ (g : n ≤ b * d). absurd (not-le-of-lt l (subst (λ (z : ℕ). n * f ≤ z) (mul-right-comm b d f ∙ ap (λ (z : ℕ). z * d) (sym q ∙ mul-one y)) (mul-le-mul-right f g)))) (λ (g : b * d < n). g) (le-or-lt n (b * d)) in
+    ⊎-elim (λ (g : n ≤ b * d). absurd
+    (not-le-of-lt l (subst (λ (z : ℕ). n * f ≤ z) (mul-right-comm b d f ∙ ap (λ (z : ℕ). z * d) (sym q ∙ mul-one y))
+    (mul-le-mul-right f g)))) (λ (g : b * d < n). g) (le-or-lt n (b * d)) in
     let less : a * d * e < n * e = mul-lt-mul-of-pos-right (omega (arith, mul-le-mul-right d h)) E in
     subst (λ (z : ℕ). z < n * e) (mul-right-comm a d e ∙ ap (λ (z : ℕ). z * d) (sym p ∙ mul-one x)) less
 
@@ -49,7 +51,8 @@ whole-value : (a : ℕ) → a ≤ most → HasValue (ofInt binary64 (pos a)) fal
 unfolding ofInt
 whole-value a h = round-whole binary64 false a h
 
-pub one-falls : (a b : ℕ) (x : Float) → a ≤ b → b ≤ most → cond (lt (ofInt binary64 (pos b)) x) 1 0 ≤ cond (lt (ofInt binary64 (pos a)) x) 1 0
+pub one-falls : (a b : ℕ) (x : Float) → a ≤ b → b ≤ most
+    → cond (lt (ofInt binary64 (pos b)) x) 1 0 ≤ cond (lt (ofInt binary64 (pos a)) x) 1 0
 one-falls a b x h k =
     by-cond (λ (n : ℕ). n ≤ cond (lt (ofInt binary64 (pos a)) x) 1 0) (lt (ofInt binary64 (pos b)) x)
     (λ t. by-cond (λ (n : ℕ). 1 ≤ n) (lt (ofInt binary64 (pos a)) x) (λ s. omega arith)
@@ -109,7 +112,8 @@ module _ {q cap : ℕ} {sizes : List (List Float)} {low high : ℕ} (g : Bracket
         ordered = above;
         below = omega (arith, g .below);
         few = λ h.
-            ⊎-elim (λ (e : exceedingAll a sizes ≤ count). omega arith) (λ (l : count < exceedingAll a sizes). absurd (omega (arith, lower l)))
+            ⊎-elim (λ (e : exceedingAll a sizes ≤ count). omega arith)
+            (λ (l : count < exceedingAll a sizes). absurd (omega (arith, lower l)))
             (le-or-lt (exceedingAll a sizes) count);
         least = g .least;
       }
@@ -119,7 +123,13 @@ pub whole-range : {q cap : ℕ} (sizes : List (List Float)) (high : ℕ) → hig
 whole-range sizes high e =
     record { ordered = omega arith; below = omega arith; few = λ h. absurd (omega arith); least = λ b h. absurd (omega arith) }
 
-pub found : {q cap : ℕ} {sizes : List (List Float)} {low high : ℕ} → Bracketed q cap sizes low high → high ≤ low → low ≡ selected (λ a. exceedingAll a sizes) q cap
+pub found : {q cap : ℕ} {sizes : List (List Float)} {low high : ℕ} → Bracketed q cap sizes low high → high ≤ low
+    → low ≡ selected (λ a. exceedingAll a sizes) q cap
 found {q} {sizes = sizes} {low} {high} g h =
     let e : low ≡ high = omega (arith, g .ordered) in
-    selected-is (record { within = omega (arith, g .below); few = λ l. omega (arith, g .few (omega arith), ap (λ (x : ℕ). exceedingAll x sizes) e); least = g .least })
+    selected-is (record {
+      within = omega (arith, g .below);
+      few = λ l.
+          omega (arith, g .few (omega arith), ap (λ (x : ℕ). exceedingAll x sizes) e);
+      least = g .least;
+    })

@@ -16,7 +16,8 @@ module _ (v : List ℤ) (b : ℕ) (x : List ℤ) {w u : ℕ → Float} {y : Floa
   residual-within : Within (lineResidual w u y d) (z -ℤ dot v b x d) 6442450944
   unfolding dot
   residual-within =
-      wider (omega arith) (lessened-within (dot v b x) (λ k. at v (b + k) *ℤ at x k) refl (λ k. refl) target d few (λ k h. mul-within (line k h) (point k h) (omega arith)))
+      wider (omega arith) (lessened-within (dot v b x) (λ k. at v (b + k) *ℤ at x k) refl (λ k. refl) target d few
+      (λ k h. mul-within (line k h) (point k h) (omega arith)))
 
   pub size-exact : Within (sized (lineResidual w u y d)) (pos (natAbs (z -ℤ dot v b x d))) 6442450944
   size-exact = record { whole = size-whole (residual-within .whole); small = residual-within .small }

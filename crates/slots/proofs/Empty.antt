@@ -15,7 +15,8 @@ use Rattle.boxes.specs.declared.Box.{Box}
 use Rattle.jobs.specs.declared.Model.{Model}
 use Rattle.points.specs.declared.Point.{Point}
 use Rattle.points.specs.Points.{isGap, xs}
-use Rattle.residuals.specs.Cost.{at, dot, dotMax, dotMin, residual, least, unlessGap, sizeAt, leastAt, eMin, eMax, leastSize, leastOver, nearestTo0}
+use Rattle.residuals.specs.Cost.{at, dot, dotMax, dotMin, residual, least, unlessGap, sizeAt, leastAt, eMin, eMax, leastSize, leastOver}
+use Rattle.residuals.specs.Cost.{nearestTo0}
 use Rattle.columns.specs.Columns.{nowhere, placed}
 use Rattle.slots.specs.Laws.{EmptySlot, PlacedPoint}
 
@@ -38,7 +39,8 @@ no-difference a b h k = omega (arith, abs-sub a b)
 no-dot : (v : List ℤ) (b d : ℕ) → natAbs (dot v b (xs nowhere) d) ≡ 0
 unfolding dot
 no-dot v b zero = refl
-no-dot v b (suc d) = omega (arith, abs-add (dot v b (xs nowhere) d) (at v (b + d) *ℤ at (xs nowhere) d), no-dot v b d, no-product (at v (b + d)) d)
+no-dot v b (suc d) =
+    omega (arith, abs-add (dot v b (xs nowhere) d) (at v (b + d) *ℤ at (xs nowhere) d), no-dot v b d, no-product (at v (b + d)) d)
 
 module _ (B : Box) (b : ℕ) where
   no-max : (d : ℕ) → natAbs (dotMax B b (xs nowhere) d) ≡ 0
@@ -47,7 +49,13 @@ module _ (B : Box) (b : ℕ) where
   no-max (suc d) =
       let l = at (B .low) (b + d) *ℤ at (xs nowhere) d in
       let h = at (B .high) (b + d) *ℤ at (xs nowhere) d in
-      omega (arith, abs-add (dotMax B b (xs nowhere) d) (maxZ l h), no-max d, max-either (λ (z : ℤ). natAbs z ≡ 0) l h (no-product (at (B .low) (b + d)) d) (no-product (at (B .high) (b + d)) d))
+      omega (
+        arith,
+        abs-add (dotMax B b (xs nowhere) d) (maxZ l h),
+        no-max d,
+        max-either (λ (z : ℤ). natAbs z ≡ 0) l h
+            (no-product (at (B .low) (b + d)) d) (no-product (at (B .high) (b + d)) d),
+      )
 
   no-min : (d : ℕ) → natAbs (dotMin B b (xs nowhere) d) ≡ 0
   unfolding dotMin
@@ -55,7 +63,13 @@ module _ (B : Box) (b : ℕ) where
   no-min (suc d) =
       let l = at (B .low) (b + d) *ℤ at (xs nowhere) d in
       let h = at (B .high) (b + d) *ℤ at (xs nowhere) d in
-      omega (arith, abs-add (dotMin B b (xs nowhere) d) (minZ l h), no-min d, min-either (λ (z : ℤ). natAbs z ≡ 0) l h (no-product (at (B .low) (b + d)) d) (no-product (at (B .high) (b + d)) d))
+      omega (
+        arith,
+        abs-add (dotMin B b (xs nowhere) d) (minZ l h),
+        no-min d,
+        min-either (λ (z : ℤ). natAbs z ≡ 0) l h
+            (no-product (at (B .low) (b + d)) d) (no-product (at (B .high) (b + d)) d),
+      )
 
 no-near : (a z : ℤ) → natAbs a ≡ 0 → natAbs z ≡ 0 → nearestTo0 a z ≡ 0
 unfolding nearestTo0
@@ -63,14 +77,18 @@ no-near a z h k = by-cond (λ (n : ℕ). n ≡ 0) (ltZ (pos 0) a) (λ t. h) (λ 
 
 no-size : (m : Model) (v : List ℤ) (j : ℕ) → sizeAt m v nowhere j ≡ 0
 unfolding sizeAt residual
-no-size m v j = no-difference (pos 0 *ℤ pos (2 ^ m .scale)) (dot v (j * m .d) (xs nowhere) (m .d)) (no-y (2 ^ m .scale)) (no-dot v (j * m .d) (m .d))
+no-size m v j =
+    no-difference (pos 0 *ℤ pos (2 ^ m .scale)) (dot v (j * m .d) (xs nowhere) (m .d)) (no-y (2 ^ m .scale)) (no-dot v (j * m .d) (m .d))
 
 no-least : (m : Model) (B : Box) (j : ℕ) → leastSize m B nowhere j ≡ 0
 unfolding leastSize eMin eMax
 no-least m B j =
-    no-near (pos 0 *ℤ pos (2 ^ m .scale) -ℤ dotMax B (j * m .d) (xs nowhere) (m .d)) (pos 0 *ℤ pos (2 ^ m .scale) -ℤ dotMin B (j * m .d) (xs nowhere) (m .d))
-    (no-difference (pos 0 *ℤ pos (2 ^ m .scale)) (dotMax B (j * m .d) (xs nowhere) (m .d)) (no-y (2 ^ m .scale)) (no-max B (j * m .d) (m .d)))
-    (no-difference (pos 0 *ℤ pos (2 ^ m .scale)) (dotMin B (j * m .d) (xs nowhere) (m .d)) (no-y (2 ^ m .scale)) (no-min B (j * m .d) (m .d)))
+    no-near (pos 0 *ℤ pos (2 ^ m .scale) -ℤ dotMax B (j * m .d) (xs nowhere) (m .d))
+    (pos 0 *ℤ pos (2 ^ m .scale) -ℤ dotMin B (j * m .d) (xs nowhere) (m .d))
+    (no-difference (pos 0 *ℤ pos (2 ^ m .scale)) (dotMax B (j * m .d) (xs nowhere) (m .d)) (no-y (2 ^ m .scale))
+    (no-max B (j * m .d) (m .d)))
+    (no-difference (pos 0 *ℤ pos (2 ^ m .scale)) (dotMin B (j * m .d) (xs nowhere) (m .d)) (no-y (2 ^ m .scale))
+    (no-min B (j * m .d) (m .d)))
 
 pub empty-slot : (m : Model) → EmptySlot m
 empty-slot m = record { at-vector = no-size m; over-box = no-least m }
@@ -83,7 +101,8 @@ least-zero f (suc zero) z = z 0
 least-zero f (suc (suc n)) z = omega (arith, z (suc n))
 
 -- what is placed in a slot has its point's least size
-pub placed-least : (size : Point → ℕ → ℕ) → ((j : ℕ) → size nowhere j ≡ 0) → (q : Point) (n : ℕ) → least (size (placed q)) n ≡ unlessGap q (least (size q) n)
+pub placed-least : (size : Point → ℕ → ℕ) → ((j : ℕ) → size nowhere j ≡ 0) → (q : Point) (n : ℕ)
+    → least (size (placed q)) n ≡ unlessGap q (least (size q) n)
 unfolding placed unlessGap
 placed-least size none q n = by-gap (isGap q)
   where

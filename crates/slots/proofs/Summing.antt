@@ -35,18 +35,21 @@ module _ (m : Model) (size : Point → ℕ → ℕ) (s : List ℕ) (cut : LossSm
   empty t k e =
       loss-in t k nowhere e ∙ ap (lossOf (m .p) (m .eps)) (least-zero (size nowhere) (m .n) none) ∙ loss-zero (m .p) (m .eps)
 
-  nothing-more : (t k sum i j : ℕ) → i ≡ j → slotLoss t k ≡ 0 → Summed m size s i (sum + sumOf (slotLoss t) k) → Summed m size s j (sum + (sumOf (slotLoss t) k + slotLoss t k))
+  nothing-more : (t k sum i j : ℕ) → i ≡ j → slotLoss t k ≡ 0 → Summed m size s i (sum + sumOf (slotLoss t) k)
+      → Summed m size s j (sum + (sumOf (slotLoss t) k + slotLoss t k))
   nothing-more t k sum i j e z g =
       let f : sum + sumOf (slotLoss t) k ≡ sum + (sumOf (slotLoss t) k + slotLoss t k) = omega arith in
       subst₂ (Summed m size s) e f g
 
-  one-more : (t k sum : ℕ) → Summed m size s (reached t k) (sum + sumOf (slotLoss t) k) → Summed m size s (reached t (suc k)) (sum + (sumOf (slotLoss t) k + slotLoss t k))
+  one-more : (t k sum : ℕ) → Summed m size s (reached t k) (sum + sumOf (slotLoss t) k)
+      → Summed m size s (reached t (suc k)) (sum + (sumOf (slotLoss t) k + slotLoss t k))
   one-more t k sum g =
       ⊎-elim
       (λ (h : 19 ≤ k % 20). nothing-more t k sum (reached t k) (reached t (suc k)) (omega arith) (empty t k (slot-full s t k h)) g)
       (λ (h : k % 20 < 19).
       ⊎-elim
-      (λ (l : length s / 12 ≤ number t k). nothing-more t k sum (reached t k) (reached t (suc k)) (omega arith) (empty t k (slot-past s t k l)) g)
+      (λ (l : length s / 12 ≤ number t k). nothing-more t k sum (reached t k) (reached t (suc k)) (omega arith)
+      (empty t k (slot-past s t k l)) g)
       (λ (l : number t k < length s / 12).
       let here : reached t k ≡ number t k = omega arith in
       let next : number t k + 1 ≡ reached t (suc k) = omega arith in
@@ -54,7 +57,8 @@ module _ (m : Model) (size : Point → ℕ → ℕ) (s : List ℕ) (cut : LossSm
       let q = pointAt s (number t k) in
       let loss : slotLoss t k ≡ lossOf (m .p) (m .eps) (unlessGap q (least (size q) (m .n))) =
       loss-in t k (placed q) (slot-found s t k h l) ∙ ap (lossOf (m .p) (m .eps)) (placed-least size none q (m .n)) in
-      subst₂ (Summed m size s) next f (one-summed m size s (slotLoss t k) cut l loss (subst (λ (i : ℕ). Summed m size s i (sum + sumOf (slotLoss t) k)) here g)))
+      subst₂ (Summed m size s) next f
+      (one-summed m size s (slotLoss t k) cut l loss (subst (λ (i : ℕ). Summed m size s i (sum + sumOf (slotLoss t) k)) here g)))
       (le-or-lt (length s / 12) (number t k)))
       (le-or-lt 19 (k % 20))
 
@@ -64,14 +68,16 @@ module _ (m : Model) (size : Point → ℕ → ℕ) (s : List ℕ) (cut : LossSm
   slots-summed t (suc k) sum g = one-more t k sum (slots-summed t k sum g)
 
   -- a chunk more
-  pub chunk-summed : (t sum r : ℕ) → r ≡ sumOf (slotLoss t) 80 → Summed m size s (min (length s / 12) (t * 76)) sum → Summed m size s (min (length s / 12) ((t + 1) * 76)) (sum + r)
+  pub chunk-summed : (t sum r : ℕ) → r ≡ sumOf (slotLoss t) 80 → Summed m size s (min (length s / 12) (t * 76)) sum
+      → Summed m size s (min (length s / 12) ((t + 1) * 76)) (sum + r)
   chunk-summed t sum r e g =
       let a : min (length s / 12) (t * 76) ≡ reached t 0 = omega arith in
       let b : reached t 80 ≡ min (length s / 12) ((t + 1) * 76) = omega arith in
       subst₂ (Summed m size s) b (ap (λ (n : ℕ). sum + n) (sym e)) (slots-summed t 80 sum (subst (λ (i : ℕ). Summed m size s i sum) a g))
 
 pub none-yet : (m : Model) (size : Point → ℕ → ℕ) (s : List ℕ) → Summed m size s (min (length s / 12) (0 * 76)) 0
-none-yet m size s = let e : 0 ≡ min (length s / 12) (0 * 76) = omega arith in subst (λ (i : ℕ). Summed m size s i 0) e (none-summed m size s)
+none-yet m size s =
+    let e : 0 ≡ min (length s / 12) (0 * 76) = omega arith in subst (λ (i : ℕ). Summed m size s i 0) e (none-summed m size s)
 
 -- ---- chunk after chunk
 module _ (m : Model) (size : Point → ℕ → ℕ) (s : List ℕ) (cut : LossSmall (m .p) (m .eps))

@@ -34,17 +34,22 @@ module _ (store : List ℕ) (d power : ℕ) (old : List (List (List Float))) whe
   one-through {n} {lanes} s h new same g =
       record {
         long = length-set lanes n s ∙ g .long;
-        here = λ t l. by-chunk (λ (k : ℕ) (u : List (List Float)). k ≤ n → ChunkOf store k d power u) t (λ i. new) (λ q i. g .here t (omega arith)) (omega arith);
+        here =
+            λ t l. by-chunk (λ (k : ℕ) (u : List (List Float)). k ≤ n → ChunkOf store k d power u) t (λ i. new)
+            (λ q i. g .here t (omega arith)) (omega arith);
         columns = λ t c l i.
-            by-chunk (λ (k : ℕ) (u : List (List Float)). getD u c [] ≡ getD (getD old k []) c []) t (same c l i ∙ g .columns n c l i) (λ q. g .columns t c l i);
+            by-chunk (λ (k : ℕ) (u : List (List Float)). getD u c [] ≡ getD (getD old k []) c []) t (same c l i ∙ g .columns n c l i)
+            (λ q. g .columns t c l i);
         rest = λ t l. getD-set-other lanes n t s [] (λ q. omega arith) ∙ g .rest t (omega arith);
       }
     where
       -- what holds of the new chunk at its place, and of the others elsewhere
-      by-chunk : (P : ℕ → List (List Float) → Type 0) (t : ℕ) → P n s → ((t ≡ n → ⊥) → P t (getD lanes t [])) → P t (getD (set lanes n s) t [])
+      by-chunk : (P : ℕ → List (List Float) → Type 0) (t : ℕ) → P n s → ((t ≡ n → ⊥) → P t (getD lanes t []))
+          → P t (getD (set lanes n s) t [])
       by-chunk P t here other =
           let long = g .long in
           ⊎-elim
-          (λ (q : t ≡ n). subst (λ (k : ℕ). P k (getD (set lanes n s) k [])) (sym q) (subst (P n) (sym (getD-set-same lanes n s [] (omega arith))) here))
+          (λ (q : t ≡ n). subst (λ (k : ℕ). P k (getD (set lanes n s) k [])) (sym q)
+          (subst (P n) (sym (getD-set-same lanes n s [] (omega arith))) here))
           (λ (q : t ≡ n → ⊥). subst (P t) (sym (getD-set-other lanes n t s [] q)) (other q))
           (same-or-not t n)

@@ -36,7 +36,8 @@ digits n l p low high =
 fields : (n l p b m c : ℕ) → 0 < c → 2 ^ p ≤ n → n < 2 ^ suc p → m ≡ n * c
     → 0 + (size (m * 2 ^ l / c) - suc p) * b + m * 2 ^ l / c / 2 ^ (size (m * 2 ^ l / c) - suc p) ≡ l * b + n
 fields n l p b m c C low high e =
-    let q : m * 2 ^ l / c ≡ n * 2 ^ l = ap (λ (x : ℕ). x * 2 ^ l / c) e ∙ ap (λ (x : ℕ). x / c) (mul-right-comm n c (2 ^ l)) ∙ mul-div-cancel (n * 2 ^ l) C in
+    let q : m * 2 ^ l / c ≡ n * 2 ^ l =
+    ap (λ (x : ℕ). x * 2 ^ l / c) e ∙ ap (λ (x : ℕ). x / c) (mul-right-comm n c (2 ^ l)) ∙ mul-div-cancel (n * 2 ^ l) C in
     let k : size (n * 2 ^ l) - suc p ≡ l = omega (arith, digits n l p low high) in
     rw q (rw k (omega (arith, mul-div-cancel n (pow-pos l))))
 
@@ -62,11 +63,16 @@ unfolding counted maxZ
 count-whole {x} {n} w h =
     let y = add-whole w half-whole (omega arith) in
     let z : Whole (largerOf half (add binary64 x half)) (pos (n + 4503599627370496)) = subst (Whole _) larger-is (max-whole half-whole y) in
-    omega (arith, bits-of (largerOf half (add binary64 x half)) (n + 4503599627370496) (positive (omega arith) z) (omega arith) (omega arith))
+    omega (
+      arith,
+      bits-of (largerOf half (add binary64 x half)) (n + 4503599627370496) (positive (omega arith) z) (omega arith)
+          (omega arith),
+    )
   where
     larger-is : maxZ (pos 4503599627370496) (pos (n + 4503599627370496)) ≡ pos (n + 4503599627370496)
     larger-is =
-        ap (λ (t : Bool). cond t (pos (n + 4503599627370496)) (pos 4503599627370496)) (is-true (leb 4503599627370496 (n + 4503599627370496)) (le→leb 4503599627370496 (n + 4503599627370496) (omega arith)))
+        ap (λ (t : Bool). cond t (pos (n + 4503599627370496)) (pos 4503599627370496))
+        (is-true (leb 4503599627370496 (n + 4503599627370496)) (le→leb 4503599627370496 (n + 4503599627370496) (omega arith)))
 
 -- what a conversion to bits asks
 pub larger-number : (y : Float) → T (not (isNan (largerOf half y)))

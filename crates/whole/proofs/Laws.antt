@@ -1,9 +1,11 @@
--- Whole numbers up to 2 ^ 53 in size, as binary64 numbers: sums, differences, products, the order and casts are those of ℤ. Assumes nothing.
+-- Whole numbers up to 2 ^ 53 in size, as binary64 numbers: sums, differences, products, the order and casts are those of ℤ. Assumes
+-- nothing.
 use mathlib.Core.Path.{_≡_, refl, sym, ap, ap₂, _∙_, subst}
 use mathlib.Core.Bool.{Bool, true, false, not, _&&_, cond}
 use mathlib.Core.Logic.{⊎-elim}
 use Prim.Native.Nat.{ℕ, zero, suc, _+_, _-_, _*_, _^_, _≤_, _<_}
-use native.Mathlib.Nat.{mul-one, mul-comm, mul-assoc, mul-left-comm, mul-pos, mul-lt-mul-of-pos-right, mul-le-mul-right, add-mul, zero-mul, mul-zero, zero-lt-suc, not-le-of-lt, lt-of-not-le}
+use native.Mathlib.Nat.{mul-one, mul-comm, mul-assoc, mul-left-comm, mul-pos, mul-lt-mul-of-pos-right, mul-le-mul-right, add-mul, zero-mul}
+use native.Mathlib.Nat.{mul-zero, zero-lt-suc, not-le-of-lt, lt-of-not-le}
 use native.Mathlib.Omega.{arith}
 use lib.Dec.{T, ltb, leb, ltb→lt, lt→ltb, nltb→le, not-T, le→leb, leb·suc-suc}
 use lib.IntN.{ℤ, pos, negsuc, negℤ, natAbs, _+ℤ_, _-ℤ_, _*ℤ_, negℤ-negℤ}
@@ -45,10 +47,21 @@ signed-not true n = sym (negℤ-negℤ (pos n))
 signed-not false n = refl
 
 -- a sum, by the parts
-by-parts : (r s t : Bool) (n a b : ℕ) → cond r 0 n + (cond s a 0 + cond t b 0) ≡ cond s 0 a + cond t 0 b + cond r n 0 → signed r n ≡ signed s a +ℤ signed t b
+by-parts : (r s t : Bool) (n a b : ℕ) → cond r 0 n + (cond s a 0 + cond t b 0) ≡ cond s 0 a + cond t 0 b + cond r n 0
+    → signed r n ≡ signed s a +ℤ signed t b
 by-parts r s t n a b h =
     from-parts (signed r n) (signed s a +ℤ signed t b)
-    (omega (arith, h, sum-parts (signed s a) (signed t b), signed-up n r, signed-dn n r, signed-up a s, signed-dn a s, signed-up b t, signed-dn b t))
+    (omega (
+      arith,
+      h,
+      sum-parts (signed s a) (signed t b),
+      signed-up n r,
+      signed-dn n r,
+      signed-up a s,
+      signed-dn a s,
+      signed-up b t,
+      signed-dn b t,
+    ))
 
 -- ---- one fraction's denominator for both
 module _ (c : ℕ) (C : 0 < c) where
@@ -63,20 +76,24 @@ module _ (c : ℕ) (C : 0 < c) where
     where
       go : (t : Bool) → ltb (a * c) (b * c) ≡ t → t ≡ ltb a b
       go true e = sym (is-true (ltb a b) (lt→ltb a b (less-back a b (ltb→lt (a * c) (b * c) (rw e tt)))))
-      go false e = sym (is-false (ltb a b) (not-T (ltb a b) (λ t. not-le-of-lt (mul-lt-mul-of-pos-right (ltb→lt a b t) C) (nltb→le (a * c) (b * c) (rw e tt)))))
+      go false e =
+          sym (is-false (ltb a b) (not-T (ltb a b)
+          (λ t. not-le-of-lt (mul-lt-mul-of-pos-right (ltb→lt a b t) C) (nltb→le (a * c) (b * c) (rw e tt)))))
 
   difference : (a b d : ℕ) → d + a ≡ b → b * c - a * c ≡ d * c
   difference a b d h = let e : d * c + a * c ≡ b * c = sym (add-mul d a c) ∙ ap (λ (x : ℕ). x * c) h in omega arith
 
 -- ---- sums
 sum-rest : (c : ℕ) → 0 < c → (s t : Bool) (a b : ℕ) → t ≡ not s → a + b ≤ most
-    → Whole (cond (ltb (a * c) (b * c)) (round binary64 t (b * c - a * c) c) (round binary64 (s && ltb (b * c) (a * c)) (a * c - b * c) c)) (signed s a +ℤ signed t b)
+    → Whole (cond (ltb (a * c) (b * c)) (round binary64 t (b * c - a * c) c) (round binary64 (s && ltb (b * c) (a * c)) (a * c - b * c) c))
+    (signed s a +ℤ signed t b)
 sum-rest c C s t a b e h =
     by-cond (λ (x : Float). Whole x (signed s a +ℤ signed t b)) (ltb (a * c) (b * c))
     (λ k. let l : a < b = less-back c C a b (ltb→lt (a * c) (b * c) k) in
     rounded t (b * c - a * c) c (b - a) C (difference c C a b (b - a) (omega arith)) (omega arith) (up-side s t l e))
     (λ k. let l : b ≤ a = le-back c C b a (nltb→le (a * c) (b * c) k) in
-    rounded (s && ltb (b * c) (a * c)) (a * c - b * c) c (a - b) C (difference c C b a (a - b) (omega arith)) (omega arith) (down-side s t l e))
+    rounded (s && ltb (b * c) (a * c)) (a * c - b * c) c (a - b) C (difference c C b a (a - b) (omega arith)) (omega arith)
+    (down-side s t l e))
   where
     up-side : (s t : Bool) → a < b → t ≡ not s → signed t (b - a) ≡ signed s a +ℤ signed t b
     up-side true true l e = absurd (true≢ e)
@@ -101,7 +118,8 @@ sum-rest c C s t a b e h =
 
 sum-whole : (c : ℕ) → 0 < c → (s t : Bool) (a b : ℕ) → a + b ≤ most → Whole (sum binary64 s (a * c) t (b * c) c) (signed s a +ℤ signed t b)
 unfolding sum
-sum-whole c C true true a b h = rounded true (a * c + b * c) c (a + b) C (sym (add-mul a b c)) h (by-parts true true true (a + b) a b (omega arith))
+sum-whole c C true true a b h =
+    rounded true (a * c + b * c) c (a + b) C (sym (add-mul a b c)) h (by-parts true true true (a + b) a b (omega arith))
 sum-whole c C true false a b h = sum-rest c C true false a b refl h
 sum-whole c C false true a b h = sum-rest c C false true a b refl h
 sum-whole c C false false a b h = rounded false (a * c + b * c) c (a + b) C (sym (add-mul a b c)) h refl
@@ -110,7 +128,8 @@ sum-whole c C false false a b h = rounded false (a * c + b * c) c (a + b) C (sym
 over-one : (x e d a : ℕ) → x * 1 ≡ a * e → x * d ≡ a * (e * d)
 over-one x e d a p = ap (λ (z : ℕ). z * d) (sym (mul-one x) ∙ p) ∙ mul-assoc a e d
 
-added : (x y : Float) (s t : Bool) (a b : ℕ) → HasValue x s a 1 → HasValue y t b 1 → (P : Float → Type 0) → ((c : ℕ) → 0 < c → P (sum binary64 s (a * c) t (b * c) c)) → P (add binary64 x y)
+added : (x y : Float) (s t : Bool) (a b : ℕ) → HasValue x s a 1 → HasValue y t b 1 → (P : Float → Type 0)
+    → ((c : ℕ) → 0 < c → P (sum binary64 s (a * c) t (b * c) c)) → P (add binary64 x y)
 unfolding add
 added nan y s t a b p q P f = absurd p
 added (inf u) y s t a b p q P f = absurd p
@@ -118,8 +137,10 @@ added (fin u m e) nan s t a b p q P f = absurd q
 added (fin u m e) (inf v) s t a b p q P f = absurd q
 added (fin u m e) (fin v n d) s t a b p q P f =
     let k : m * up e * down d ≡ a * (down e * down d) = over-one (m * up e) (down e) (down d) a (p .1) in
-    let l : n * up d * down e ≡ b * (down e * down d) = over-one (n * up d) (down d) (down e) b (q .1) ∙ ap (λ (z : ℕ). b * z) (mul-comm (down d) (down e)) in
-    let r : sum binary64 u (m * up e * down d) v (n * up d * down e) (down e * down d) ≡ sum binary64 s (a * (down e * down d)) t (b * (down e * down d)) (down e * down d) =
+    let l : n * up d * down e ≡ b * (down e * down d) =
+    over-one (n * up d) (down d) (down e) b (q .1) ∙ ap (λ (z : ℕ). b * z) (mul-comm (down d) (down e)) in
+    let r : sum binary64 u (m * up e * down d) v (n * up d * down e) (down e * down d)
+    ≡ sum binary64 s (a * (down e * down d)) t (b * (down e * down d)) (down e * down d) =
     ap (λ (z : Bool). sum binary64 z (m * up e * down d) v (n * up d * down e) (down e * down d)) (p .0)
     ∙ ap (λ (z : Bool). sum binary64 s (m * up e * down d) z (n * up d * down e) (down e * down d)) (q .0)
     ∙ ap (λ (z : ℕ). sum binary64 s z t (n * up d * down e) (down e * down d)) k
@@ -149,7 +170,13 @@ negated (fin u m e) s a p = (ap not (p .0), p .1)
 
 pub neg-whole : {x : Float} {a : ℤ} → Whole x a → Whole (neg x) (negℤ a)
 neg-whole {x} {a} w =
-    record { sign = not (w .sign); size = w .size; value = negated x (w .sign) (w .size) (w .value); is = signed-not (w .sign) (w .size) ∙ ap negℤ (w .is) }
+    record {
+      sign = not (w .sign);
+      size = w .size;
+      value = negated x (w .sign) (w .size) (w .value);
+      is = signed-not (w .sign) (w .size)
+          ∙ ap negℤ (w .is);
+    }
 
 pub sub-whole : {x y : Float} {a b : ℤ} → Whole x a → Whole y b → natAbs a + natAbs b ≤ most → Whole (sub binary64 x y) (a -ℤ b)
 unfolding sub
@@ -170,7 +197,8 @@ signed-mul false true a zero = no-sign (a * 0) (mul-zero a)
 signed-mul false true a (suc b) = refl
 signed-mul false false a b = refl
 
-multiplied : (x y : Float) (s t : Bool) (a b : ℕ) → HasValue x s a 1 → HasValue y t b 1 → mul binary64 x y ≡ round binary64 (unlike s t) (a * b) 1
+multiplied : (x y : Float) (s t : Bool) (a b : ℕ) → HasValue x s a 1 → HasValue y t b 1
+    → mul binary64 x y ≡ round binary64 (unlike s t) (a * b) 1
 unfolding mul
 multiplied nan y s t a b p q = absurd p
 multiplied (inf u) y s t a b p q = absurd p
@@ -181,14 +209,16 @@ multiplied (fin u m e) (fin v n d) s t a b p q =
     let l : n * up d ≡ b * down d = sym (mul-one (n * up d)) ∙ q .1 in
     let r : a * down e * (b * down d) ≡ a * b * (down e * down d) = simp (mul-assoc, mul-left-comm) in
     ap₂ (λ (y : Bool) (z : Bool). round binary64 (unlike y z) (m * up e * (n * up d)) (down e * down d)) (p .0) (q .0)
-    ∙ round-same binary64 (unlike s t) (m * up e * (n * up d)) (down e * down d) (a * b) 1 (mul-pos (down-pos e) (down-pos d)) (zero-lt-suc 0)
+    ∙ round-same binary64 (unlike s t) (m * up e * (n * up d)) (down e * down d) (a * b) 1 (mul-pos (down-pos e) (down-pos d))
+    (zero-lt-suc 0)
     (mul-one (m * up e * (n * up d)) ∙ ap₂ _*_ k l ∙ r)
 
 pub mul-whole : {x y : Float} {a b : ℤ} → Whole x a → Whole y b → natAbs (a *ℤ b) ≤ most → Whole (mul binary64 x y) (a *ℤ b)
 mul-whole {x} {y} {a} {b} w v h =
     let e : w .size * v .size ≡ natAbs (a *ℤ b) = ap₂ _*_ (size-is w) (size-is v) ∙ sym (P.abs-mul a b) in
     subst (λ (r : Float). Whole r (a *ℤ b)) (sym (multiplied x y (w .sign) (v .sign) (w .size) (v .size) (w .value) (v .value)))
-    (rounded (unlike (w .sign) (v .sign)) (w .size * v .size) 1 (w .size * v .size) (zero-lt-suc 0) (sym (mul-one (w .size * v .size))) (omega arith)
+    (rounded (unlike (w .sign) (v .sign)) (w .size * v .size) 1 (w .size * v .size) (zero-lt-suc 0) (sym (mul-one (w .size * v .size)))
+    (omega arith)
     (signed-mul (w .sign) (v .sign) (w .size) (v .size) ∙ ap₂ _*ℤ_ (w .is) (v .is)))
 
 -- ---- the order
@@ -196,11 +226,14 @@ below-scaled : (c : ℕ) → 0 < c → (s t : Bool) (a b : ℕ) → below s (a *
 below-scaled c C false false a b = ltb-scaled c C a b
 below-scaled c C false true a zero = sym (is-false (ltb a 0) (not-T (ltb a 0) (λ t. let h : a < 0 = ltb→lt a 0 t in omega arith)))
 below-scaled c C false true a (suc b) = refl
-below-scaled c C true false zero b = ap (λ (x : ℕ). ltb x (0 * c + b * c)) (sym (zero-mul c)) ∙ ap (λ (x : ℕ). ltb (0 * c) (x + b * c)) (zero-mul c) ∙ ap (ltb (0 * c)) (omega arith) ∙ ltb-scaled c C 0 b
+below-scaled c C true false zero b =
+    ap (λ (x : ℕ). ltb x (0 * c + b * c)) (sym (zero-mul c)) ∙ ap (λ (x : ℕ). ltb (0 * c) (x + b * c)) (zero-mul c)
+    ∙ ap (ltb (0 * c)) (omega arith) ∙ ltb-scaled c C 0 b
 below-scaled c C true false (suc a) b =
     is-true (ltb 0 (suc a * c + b * c)) (lt→ltb 0 (suc a * c + b * c) (let h : 0 < suc a * c = mul-pos (zero-lt-suc a) C in omega arith))
 below-scaled c C true true zero zero = ltb-scaled c C 0 0
-below-scaled c C true true zero (suc b) = ltb-scaled c C (suc b) 0 ∙ is-false (ltb (suc b) 0) (not-T (ltb (suc b) 0) (λ t. let h : suc b < 0 = ltb→lt (suc b) 0 t in omega arith))
+below-scaled c C true true zero (suc b) =
+    ltb-scaled c C (suc b) 0 ∙ is-false (ltb (suc b) 0) (not-T (ltb (suc b) 0) (λ t. let h : suc b < 0 = ltb→lt (suc b) 0 t in omega arith))
 below-scaled c C true true (suc a) zero = ltb-scaled c C 0 (suc a) ∙ is-true (ltb 0 (suc a)) (lt→ltb 0 (suc a) (zero-lt-suc a))
 below-scaled c C true true (suc a) (suc b) = ltb-scaled c C (suc b) (suc a) ∙ leb·suc-suc (suc b) a
 
@@ -212,7 +245,8 @@ compared (fin u m e) nan s t a b p q = absurd q
 compared (fin u m e) (inf v) s t a b p q = absurd q
 compared (fin u m e) (fin v n d) s t a b p q =
     let k : m * up e * down d ≡ a * (down e * down d) = over-one (m * up e) (down e) (down d) a (p .1) in
-    let l : n * up d * down e ≡ b * (down e * down d) = over-one (n * up d) (down d) (down e) b (q .1) ∙ ap (λ (z : ℕ). b * z) (mul-comm (down d) (down e)) in
+    let l : n * up d * down e ≡ b * (down e * down d) =
+    over-one (n * up d) (down d) (down e) b (q .1) ∙ ap (λ (z : ℕ). b * z) (mul-comm (down d) (down e)) in
     ap₂ (λ (y : Bool) (z : Bool). below y (m * up e * down d) z (n * up d * down e)) (p .0) (q .0)
     ∙ ap₂ (λ (y : ℕ) (z : ℕ). below s y t z) k l
     ∙ below-scaled (down e * down d) (mul-pos (down-pos e) (down-pos d)) s t a b
@@ -221,7 +255,8 @@ pub lt-whole : {x y : Float} {a b : ℤ} → Whole x a → Whole y b → lt x y 
 lt-whole {x} {y} w v = compared x y (w .sign) (v .sign) (w .size) (v .size) (w .value) (v .value) ∙ ap₂ ltZ (w .is) (v .is)
 
 -- what an `if` on the order picks
-pub pick-whole : {x y u v : Float} {a b c d : ℤ} → Whole x a → Whole y b → Whole u c → Whole v d → Whole (cond (lt x y) u v) (cond (ltZ a b) c d)
+pub pick-whole : {x y u v : Float} {a b c d : ℤ} → Whole x a → Whole y b → Whole u c → Whole v d
+    → Whole (cond (lt x y) u v) (cond (ltZ a b) c d)
 pick-whole {x} {y} {u} {v} {a} {b} {c} {d} p q r s = rw (lt-whole p q) (go (ltZ a b))
   where
     go : (t : Bool) → Whole (cond t u v) (cond t c d)

@@ -7,7 +7,7 @@ use native.Mathlib.Omega.{arith}
 use lib.Dec.{ltb, ltb→lt, nltb→le}
 use lib.IntN.{ℤ, pos, negsuc, negℤ, natAbs, _+ℤ_, _-ℤ_, _*ℤ_}
 use lib.Signed.{ltZ, leZ}
-use lib.Ieee.{Float, binary64, neg, add, sub, mul, ofInt}
+use lib.Ieee.{Float, binary64, add, sub, mul, ofInt}
 use Rattle.integers.specs.Integers.{maxZ, minZ}
 use Rattle.integers.proofs.Order.{max-either, min-either}
 use Rattle.integers.proofs.Parts.{abs-add, abs-sub, abs-mul, from-parts, leZ-true, leZ-false, ltZ-true, ltZ-false}

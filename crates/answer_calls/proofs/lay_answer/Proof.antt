@@ -45,8 +45,10 @@ long c = search needs
 returns : tie.Need-returns
 returns c =
     let told = c .before .before in
-    let first = told .before .before .before .before in
-    (first .fill-coordinates .ensures, (told .fill-numbers .ensures, long (first .before .before .before .before .before .before .before .before)))
+    let first = told .before .before .before .before in (
+      first .fill-coordinates .ensures,
+      (told .fill-numbers .ensures, long (first .before .before .before .before .before .before .before .before)),
+    )
 
 pub lay-answer-spec : {M : Type 1} → statement M
 lay-answer-spec =

@@ -28,7 +28,8 @@ returns-2 c =
     let v = w .before .before in
     let vector = v .before .before .before .args .vector .now in
     let is-vector = v .vector-of .ensures ∙ vector-from vector (v .before .if1 .left) in
-    rw (eq-eqb (length vector) 8 (v .before .if1 .left), ← is-vector, ← w .write-answer .ensures .0) (c .check-code .ensures, w .write-answer .ensures .1)
+    rw (eq-eqb (length vector) 8 (v .before .if1 .left), ← is-vector, ← w .write-answer .ensures .0)
+    (c .check-code .ensures, w .write-answer .ensures .1)
 
 pub write-answer-spec : {M : Type 1} → statement M
 write-answer-spec =

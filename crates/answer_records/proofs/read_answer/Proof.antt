@@ -31,7 +31,8 @@ returns-2 c =
     let bytes = answer .before .before .before .args .bytes .now in
     let r = c .before .before .r .given in
     c .refused-answer2 .ensures
-    ∙ sym (read-refused bytes (r .0 .0) (answer .before .if1 .left) (ap checkAnswer (sym (answer .get-answer .ensures)) ∙ sym (check .check-answer .ensures) ∙ r .1))
+    ∙ sym (read-refused bytes (r .0 .0) (answer .before .if1 .left)
+    (ap checkAnswer (sym (answer .get-answer .ensures)) ∙ sym (check .check-answer .ensures) ∙ r .1))
 
 enum-told : tie.Need-enum-told
 enum-told c = search needs
@@ -42,7 +43,8 @@ returns-3 c =
     let answer = check .before in
     let bytes = answer .before .before .before .args .bytes .now in
     rw (answer .get-answer .ensures)
-    (sym (read-accepted bytes (answer .before .if1 .left) (ap checkAnswer (sym (answer .get-answer .ensures)) ∙ sym (check .check-answer .ensures) ∙ c .enum-told .given .1)))
+    (sym (read-accepted bytes (answer .before .if1 .left)
+    (ap checkAnswer (sym (answer .get-answer .ensures)) ∙ sym (check .check-answer .ensures) ∙ c .enum-told .given .1)))
 
 pub read-answer-spec : {M : Type 1} → statement M
 read-answer-spec =

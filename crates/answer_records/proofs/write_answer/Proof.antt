@@ -25,8 +25,10 @@ enum-told c = search needs
 returns-2 : tie.Need-returns-2
 returns-2 c =
     let check = c .before .before .before in
-    let args = check .before .before .args in
-    (sym (write-no-room (args .a) (args .out .now) (sym (check .check-answer .ensures) ∙ c .before .enum-told .given .1) (omega arith)), refl)
+    let args = check .before .before .args in (
+      sym (write-no-room (args .a) (args .out .now) (sym (check .check-answer .ensures) ∙ c .before .enum-told .given .1) (omega arith)),
+      refl,
+    )
 
 put-answer-requires : tie.Need-put-answer-requires
 put-answer-requires c κs = search needs
@@ -39,8 +41,11 @@ returns-3 c =
     let put = c .before .before in
     let room = put .before .before in
     let check = room .before .before .before in
-    let args = check .before .before .args in
-    (sym (write-accepted (args .a) (args .out .now) (sym (check .check-answer .ensures) ∙ room .before .enum-told .given .1) (room .if1 .left)), put .put-answer .ensures)
+    let args = check .before .before .args in (
+      sym (write-accepted (args .a) (args .out .now) (sym (check .check-answer .ensures) ∙ room .before .enum-told .given .1)
+          (room .if1 .left)),
+      put .put-answer .ensures,
+    )
 
 pub write-answer-spec : {M : Type 1} → statement M
 write-answer-spec =

@@ -23,7 +23,8 @@ returns : tie.Need-returns
 unfolding checkTakeIn inOrder
 returns c =
     let s = c .before .before .before in
-    let refused : checkStore (s .before .args .size) ≡ Refuse (c .before .r .given .0 .0) = sym (s .check-store .ensures) ∙ c .before .r .given .1 in
+    let refused : checkStore (s .before .args .size) ≡ Refuse (c .before .r .given .0 .0) =
+    sym (s .check-store .ensures) ∙ c .before .r .given .1 in
     rw refused
 
 enum-told : tie.Need-enum-told
@@ -52,7 +53,8 @@ returns-4 c =
     rw (good-length (c .before .before .before), good-mark (c .before), lt-leb _ _ h)
 
 -- there is space in the store, and within 49,152 bytes there is none
-over : (c : tie.Else3) → let a = c .before .before .before .before .before .before .args in 49152 < a .mark + a .size → Refuse Short ≡ checkTakeIn (a .room) (a .mark) (a .size)
+over : (c : tie.Else3) → let a = c .before .before .before .before .before .before .args in 49152 < a .mark + a .size
+    → Refuse Short ≡ checkTakeIn (a .room) (a .mark) (a .size)
 unfolding checkTakeIn inOrder checkSpace
 over c h =
     let a = c .before .before .before .before .before .before .args in
@@ -66,7 +68,8 @@ returns-6 : tie.Need-returns-6
 returns-6 c = over (c .before .before) (omega arith)
 
 -- there is space: what is left is the beacon's own limit
-space : (c : tie.Else5) → let a = c .before .before .before .before .before .before .before .before .args in checkTakeIn (a .room) (a .mark) (a .size) ≡ inOrder (checkBody (a .size) ∷ [])
+space : (c : tie.Else5) → let a = c .before .before .before .before .before .before .before .before .args in checkTakeIn (a .room) (a .mark)
+    (a .size) ≡ inOrder (checkBody (a .size) ∷ [])
 unfolding checkTakeIn inOrder checkSpace
 space c =
     let m = c .before .before .before in

@@ -19,7 +19,9 @@ taken : (c : tie.After-enum-told) → checks (c .before .before .before .before 
 unfolding checks
 taken c = sym (c .before .before .check-take-in .ensures) ∙ c .enum-told .given .1
 
-room : (s : tie.Start) → checks s ≡ Pass → (s .args .mark + length (s .args .beacon .now) ≤ length (s .args .store .now)) × (s .args .mark + length (s .args .beacon .now) ≤ 49152)
+room : (s : tie.Start) → checks s ≡ Pass
+    → (s .args .mark + length (s .args .beacon .now) ≤ length (s .args .store .now))
+    × (s .args .mark + length (s .args .beacon .now) ≤ 49152)
 unfolding checks
 room s passed = new-mark (length (s .args .store .now)) (s .args .mark) (length (s .args .beacon .now)) passed
 
@@ -51,7 +53,8 @@ returns-2 : tie.Need-returns-2
 unfolding takeInAnswer storeAfter checks
 returns-2 c =
     let k = c .before .before .before in
-    let refused : checks (k .before .before .before) ≡ Refuse (c .before .r .given .0 .0) = sym (k .check-take-in .ensures) ∙ c .before .r .given .1 in
+    let refused : checks (k .before .before .before) ≡ Refuse (c .before .r .given .0 .0) =
+    sym (k .check-take-in .ensures) ∙ c .before .r .given .1 in
     (rw refused, rw refused)
 
 pub take-in-spec : {M : Type 1} → statement M

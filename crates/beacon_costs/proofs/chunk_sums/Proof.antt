@@ -25,7 +25,8 @@ group-losses-requires c κs = search needs
 returns-2 : tie.Need-returns-2
 returns-2 c =
     let s = c .before .before .before .before .before .before in
-    chunk-sums (s .args .store .now) (s .pre .0 .0) (s .pre .0 .3) (s .pre .0 .1) (c .before .before .decode-chunk .ensures .0) (c .group-losses .ensures)
+    chunk-sums (s .args .store .now) (s .pre .0 .0) (s .pre .0 .3) (s .pre .0 .1) (c .before .before .decode-chunk .ensures .0)
+    (c .group-losses .ensures)
 
 pub chunk-sums-spec : {M : Type 1} → statement M
 chunk-sums-spec =

@@ -28,8 +28,12 @@ enum-told c = search needs
 write-sums-requires : tie.Need-write-sums-requires
 write-sums-requires c κs =
     let e = c .before in
-    let a = e .before .before .before .before .before .args in
-    (all-ready (a .store .now) (a .m) (a .v) _ (pass e), room (a .store .now) (a .m) (a .v) _ (pass e), picked (a .store .now) (a .m) (a .v) _ (pass e))
+    let a = e .before .before .before .before .before .args in (
+      all-ready (a .store .now) (a .m) (a .v) _ (pass e),
+      room (a .store .now) (a .m) (a .v) _ (pass e),
+      picked (a .store .now) (a .m) (a .v)
+          _ (pass e),
+    )
 
 enum-known-r : tie.Need-enum-known-r
 enum-known-r c = search needs

@@ -17,7 +17,8 @@ smaller-requires c κs = search needs
 returns : tie.Need-returns
 returns c =
     c .smaller .ensures
-    ∙ ap (smallerOf (c .before .before .before .args .m)) (c .before .larger2 .ensures ∙ ap (largerOf zeroth) (c .before .before .larger .ensures))
+    ∙ ap (smallerOf (c .before .before .before .args .m))
+    (c .before .larger2 .ensures ∙ ap (largerOf zeroth) (c .before .before .larger .ensures))
 
 pub least-of-spec : {M : Type 1} → statement M
 least-of-spec = tie.close (tie.spec larger-requires larger-requires-2 smaller-requires returns)

@@ -14,10 +14,14 @@ over-long-requires : tie.Need-over-long-requires
 over-long-requires c κs = search needs
 
 returns : tie.Need-returns
-returns c = let n : min (taken (c .before .before .before .args .d)) 2 ≡ taken (c .before .before .before .args .d) = omega arith in λ k h. rw n at (c .over-few .ensures k h)
+returns c =
+    let n : min (taken (c .before .before .before .args .d)) 2 ≡ taken (c .before .before .before .args .d) = omega arith in
+    λ k h. rw n at (c .over-few .ensures k h)
 
 returns-2 : tie.Need-returns-2
-returns-2 c = let n : max (taken (c .before .before .before .args .d)) 3 ≡ taken (c .before .before .before .args .d) = omega arith in λ k h. rw n at (c .over-long .ensures k h)
+returns-2 c =
+    let n : max (taken (c .before .before .before .args .d)) 3 ≡ taken (c .before .before .before .args .d) = omega arith in
+    λ k h. rw n at (c .over-long .ensures k h)
 
 pub over-line-spec : {M : Type 1} → statement M
 over-line-spec = tie.close (tie.spec over-few-requires over-long-requires returns returns-2)

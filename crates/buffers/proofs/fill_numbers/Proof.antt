@@ -63,7 +63,13 @@ returns-2 c =
     let a = c .before .before .before .args in
     let same = c .before .loop .inv .3 in
     let e : c .before .loop .k ≡ length (a .told .now) = omega arith in
-    rw (c .before .loop .inv .1, e, laid-whole (a .out .now) (a .told .now) same, eq-eqb (length (a .out .now)) (length (a .told .now)) same)
+    rw (
+      c .before .loop .inv .1,
+      e,
+      laid-whole (a .out .now) (a .told .now) same,
+      eq-eqb (length (a .out .now)) (length (a .told .now))
+          same,
+    )
 
 pub fill-numbers-spec : {M : Type 1} → statement M
 fill-numbers-spec =

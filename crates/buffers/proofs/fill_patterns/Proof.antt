@@ -63,7 +63,13 @@ returns-2 c =
     let a = c .before .before .before .args in
     let same = c .before .loop .inv .3 in
     let e : c .before .loop .k ≡ length (a .bits .now) = omega arith in
-    rw (c .before .loop .inv .1, e, laid-whole (a .out .now) (a .bits .now) same, eq-eqb (length (a .out .now)) (length (a .bits .now)) same)
+    rw (
+      c .before .loop .inv .1,
+      e,
+      laid-whole (a .out .now) (a .bits .now) same,
+      eq-eqb (length (a .out .now)) (length (a .bits .now))
+          same,
+    )
 
 pub fill-patterns-spec : {M : Type 1} → statement M
 fill-patterns-spec =

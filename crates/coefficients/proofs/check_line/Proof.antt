@@ -15,7 +15,9 @@ check-scale-requires c κs = search needs
 
 returns : tie.Need-returns
 unfolding checkUsed inOrder
-returns c = c .check-scale .ensures ∙ simp (le-leb _ _ (c .before .before .if1 .taken), c .before .if2 .taken) (sym (in-order-one (checkScale (c .before .before .before .args .s))))
+returns c =
+    c .check-scale .ensures ∙ simp (le-leb _ _ (c .before .before .if1 .taken), c .before .if2 .taken)
+    (sym (in-order-one (checkScale (c .before .before .before .args .s))))
 
 returns-2 : tie.Need-returns-2
 unfolding checkUsed inOrder

@@ -22,7 +22,8 @@ int-to-float-result-2 c = search needs
 returns : tie.Need-returns
 returns c =
     let start = c .before .before .before in
-    let e : c .before .power .result ≡ 2 ^ start .args .s = c .before .power .ensures ∙ ap (λ (k : ℕ). 2 ^ k) (mod-eq-of-lt (omega arith)) in
+    let e : c .before .power .result ≡ 2 ^ start .args .s =
+    c .before .power .ensures ∙ ap (λ (k : ℕ). 2 ^ k) (mod-eq-of-lt (omega arith)) in
     let f = start .fits .w in
     simp (toZ-ofZ w16 (start .args .w) f, e) (divided (start .args .s) (start .pre) (start .args .w) f)
 

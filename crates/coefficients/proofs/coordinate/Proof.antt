@@ -1,4 +1,5 @@
--- If some w has the pattern p, then p's value times 2 ^ s is w: it lies in the range, is cut to w, and w's coefficient has p's bits. Where one of these fails, no w has it.
+-- If some w has the pattern p, then p's value times 2 ^ s is w: it lies in the range, is cut to w, and w's coefficient has p's bits. Where
+-- one of these fails, no w has it.
 use borrow.Author.Needs.{needs}
 use mathlib.Core.Path.{_≡_, sym, ap, _∙_, subst}
 use mathlib.Core.Bool.{Bool, false, not}
@@ -24,7 +25,8 @@ use Rattle.coefficients.proofs.coordinate.Tie as tie
 abbrev value : (c : tie.After-power) → Float
 value c = mul binary32 (ofBits binary32 (c .before .before .args .p)) (ofInt binary32 (pos (c .power .result)))
 
-value-back : (c : tie.After-power) (w : ℤ) → SFits w16 w → patternOf (c .before .before .args .s) w ≡ c .before .before .args .p → value c ≡ ofInt binary32 w
+value-back : (c : tie.After-power) (w : ℤ) → SFits w16 w → patternOf (c .before .before .args .s) w ≡ c .before .before .args .p
+    → value c ≡ ofInt binary32 w
 value-back c w f e =
     let start = c .before .before in
     let q : c .power .result ≡ 2 ^ start .args .s = c .power .ensures ∙ ap (λ (k : ℕ). 2 ^ k) (mod-eq-of-lt (omega arith)) in
@@ -49,10 +51,13 @@ cast-read : (c : tie.After-truncating-f32-to-i64) → toZ w16 (ofZ w16 (toZ w64 
 cast-read c = ap (λ (z : ℤ). toZ w16 (ofZ w16 z)) (whole-read c) ∙ toZ-ofZ w16 (whole c) (whole-fits c)
 
 -- ---- the coefficient of w
-made : (c : tie.After-coefficient) → c .coefficient .result ≡ coefficientOf (c .before .before .before .before .before .before .before .args .s) (whole (c .before))
+made : (c : tie.After-coefficient)
+    → c .coefficient .result ≡ coefficientOf (c .before .before .before .before .before .before .before .args .s) (whole (c .before))
 made c = c .coefficient .ensures ∙ ap (coefficientOf _) (cast-read (c .before))
 
-made-bits : (c : tie.After-coefficient) → toBits binary32 (c .coefficient .result) ≡ patternOf (c .before .before .before .before .before .before .before .args .s) (whole (c .before))
+made-bits : (c : tie.After-coefficient)
+    → toBits binary32 (c .coefficient .result)
+    ≡ patternOf (c .before .before .before .before .before .before .before .args .s) (whole (c .before))
 made-bits c =
     let start = c .before .before .before .before .before .before .before in
     ap (toBits binary32) (made c) ∙ coefficient-bits (start .args .s) (start .pre) (whole (c .before)) (whole-fits (c .before))
@@ -63,10 +68,13 @@ nan p h = subst T (sym (nanBits-above binary32 p)) (lt→ltb 2139095040 (p % 214
 returns : tie.Need-returns
 returns c =
     let start = c .before in
-    missed (start .args .s) (start .args .p) (nan-missed (start .args .s) (start .pre) (start .args .p) (nan (start .args .p) (c .if1 .taken)))
+    missed (start .args .s) (start .args .p)
+    (nan-missed (start .args .s) (start .pre) (start .args .p) (nan (start .args .p) (c .if1 .taken)))
 
 float-from-bits-v : tie.Need-float-from-bits-v
-float-from-bits-v c = subst (λ (b : Bool). T (not b)) (sym (nanBits-above binary32 (c .before .args .p))) (le→nltb 2139095040 (c .before .args .p % 2147483648) (c .if1 .left))
+float-from-bits-v c =
+    subst (λ (b : Bool). T (not b)) (sym (nanBits-above binary32 (c .before .args .p)))
+    (le→nltb 2139095040 (c .before .args .p % 2147483648) (c .if1 .left))
 
 power-requires : tie.Need-power-requires
 power-requires c κs = search needs
@@ -91,7 +99,9 @@ float-to-bits-if4 c =
 returns-2 : tie.Need-returns-2
 returns-2 c =
     let start = c .before .before .before .before .before .before .before .before in
-    let m = found (start .args .s) (start .pre) (start .args .p) (whole (c .before .before)) (whole-fits (c .before .before)) (sym (made-bits (c .before)) ∙ c .if4 .taken) in
+    let m =
+    found (start .args .s) (start .pre) (start .args .p) (whole (c .before .before)) (whole-fits (c .before .before))
+    (sym (made-bits (c .before)) ∙ c .if4 .taken) in
     (m .0, cast-read (c .before .before) ∙ m .1)
 
 returns-3 : tie.Need-returns-3
@@ -100,7 +110,8 @@ returns-3 c =
     missed (start .args .s) (start .args .p)
     (λ w f e.
     let same : whole (c .before .before) ≡ w =
-    c .before .before .truncating-f32-to-i64 .ensures ∙ ap (toSigned 63) (value-back (c .before .before .before .before .before .before) w f e) ∙ int-cut w f in
+    c .before .before .truncating-f32-to-i64 .ensures
+    ∙ ap (toSigned 63) (value-back (c .before .before .before .before .before .before) w f e) ∙ int-cut w f in
     c .if4 .left (made-bits (c .before) ∙ ap (patternOf (start .args .s)) same ∙ e))
 
 -- a test that fails of v, though it holds of every w's cast

@@ -83,7 +83,8 @@ module _ (c : tie.After-rest-zero) where
   long : length ps ≡ 4
   long = search needs
 
-  read : stored (r1 .coordinate .result .w) ∷ stored (r2 .coordinate2 .result .w) ∷ stored (r3 .coordinate3 .result .w) ∷ stored (r4 .coordinate4 .result .w) ∷ [] ≡ map (coordinateOf S) ps
+  read : stored (r1 .coordinate .result .w) ∷ stored (r2 .coordinate2 .result .w) ∷ stored (r3 .coordinate3 .result .w)
+      ∷ stored (r4 .coordinate4 .result .w) ∷ [] ≡ map (coordinateOf S) ps
   read =
       let e1 = coordinate-stored S (getD ps 0 0) _ (r1 .coordinate .ensures .1) in
       let e2 = coordinate-stored S (getD ps 1 0) _ (r2 .coordinate2 .ensures .1) in
@@ -93,12 +94,14 @@ module _ (c : tie.After-rest-zero) where
 
   -- check 12 is what the code tests
   checked : {t : Bool}
-      → r1 .coordinate .result .found && r2 .coordinate2 .result .found && r3 .coordinate3 .result .found && r4 .coordinate4 .result .found && c .rest-zero .result ≡ t
+      → r1 .coordinate .result .found && r2 .coordinate2 .result .found && r3 .coordinate3 .result .found && r4 .coordinate4 .result .found
+      && c .rest-zero .result ≡ t
       → coordinatesIf (passIf t OffGrid) (map (coordinateOf S) ps) ≡ coordinatesIf (checkGrid d S ps) (map (coordinateOf S) ps)
   checked e =
       let z = c .rest-zero .ensures ∙ ap (λ (l : List ℤ). allZero (drop d l)) read in
       ap (λ (t : Bool). coordinatesIf (passIf t OffGrid) (map (coordinateOf S) ps))
-      (sym e ∙ (λ i. r1 .coordinate .ensures .0 i && r2 .coordinate2 .ensures .0 i && r3 .coordinate3 .ensures .0 i && r4 .coordinate4 .ensures .0 i && z i))
+      (sym e ∙ (λ i. r1 .coordinate .ensures .0 i && r2 .coordinate2 .ensures .0 i && r3 .coordinate3 .ensures .0 i
+      && r4 .coordinate4 .ensures .0 i && z i))
       ∙ ap (λ (k : Check). coordinatesIf k (map (coordinateOf S) ps)) (sym (grid-check S (r1 .before .pre) d ps long))
 
 returns : tie.Need-returns

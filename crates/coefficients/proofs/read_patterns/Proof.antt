@@ -29,12 +29,14 @@ returns c =
     let r = c .before .before .r .given in
     let e = sym (c .before .before .before .before .check-line .ensures) ∙ r .1 in
     c .not-read .ensures
-    ∙ ap (λ (k : Check). coordinatesIf k (map (coordinateOf (a .s)) (a .bits))) (sym (after-refusal (checkUsed (a .d) ∷ checkScale (a .s) ∷ []) (checkGrid (a .d) (a .s) (a .bits) ∷ []) (r .0 .0) e))
+    ∙ ap (λ (k : Check). coordinatesIf k (map (coordinateOf (a .s)) (a .bits)))
+    (sym (after-refusal (checkUsed (a .d) ∷ checkScale (a .s) ∷ []) (checkGrid (a .d) (a .s) (a .bits) ∷ []) (r .0 .0) e))
 
 enum-told : tie.Need-enum-told
 enum-told c = search needs
 
-passed : (c : tie.After-enum-told) → inOrder (checkUsed (c .before .before .before .args .d) ∷ checkScale (c .before .before .before .args .s) ∷ []) ≡ Pass
+passed : (c : tie.After-enum-told)
+    → inOrder (checkUsed (c .before .before .before .args .d) ∷ checkScale (c .before .before .before .args .s) ∷ []) ≡ Pass
 passed c = sym (c .before .before .check-line .ensures) ∙ c .enum-told .given .1
 
 read-checked-requires : tie.Need-read-checked-requires
@@ -45,7 +47,8 @@ unfolding coordinatesOf readingChecks
 returns-2 c =
     let a = c .before .before .before .before .args in
     c .read-checked .ensures
-    ∙ ap (λ (k : Check). coordinatesIf k (map (coordinateOf (a .s)) (a .bits))) (sym (after-pass (checkUsed (a .d) ∷ checkScale (a .s) ∷ []) (checkGrid (a .d) (a .s) (a .bits)) (passed (c .before))))
+    ∙ ap (λ (k : Check). coordinatesIf k (map (coordinateOf (a .s)) (a .bits)))
+    (sym (after-pass (checkUsed (a .d) ∷ checkScale (a .s) ∷ []) (checkGrid (a .d) (a .s) (a .bits)) (passed (c .before))))
 
 pub read-patterns-spec : {M : Type 1} → statement M
 read-patterns-spec =

@@ -59,7 +59,8 @@ module _ (c : tie.After-rest-zero) where
   w = c .before .args .t3
 
   -- check 6 is what `rest_zero` answered
-  checked : {t : Bool} → c .rest-zero .result ≡ t → writtenIf (passIf t Start) (lineOf S w) ≡ writtenIf (checkVector 1 (c .before .args .d) w) (lineOf S w)
+  checked : {t : Bool} → c .rest-zero .result ≡ t
+      → writtenIf (passIf t Start) (lineOf S w) ≡ writtenIf (checkVector 1 (c .before .args .d) w) (lineOf S w)
   checked e = rw unused-check (ap (λ (t : Bool). writtenIf (passIf t Start) (lineOf S w)) (sym e ∙ c .rest-zero .ensures))
 
 -- a field, from the bits of the coordinate that were handed to `coefficient`

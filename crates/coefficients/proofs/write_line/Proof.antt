@@ -29,12 +29,14 @@ returns c =
     let r = c .before .before .r .given in
     let e = sym (c .before .before .before .before .check-line .ensures) ∙ r .1 in
     c .not-written .ensures
-    ∙ ap (λ (k : Check). writtenIf k (lineOf (a .s) (a .w))) (sym (after-refusal (checkUsed (a .d) ∷ checkScale (a .s) ∷ []) (checkVector 1 (a .d) (a .w) ∷ []) (r .0 .0) e))
+    ∙ ap (λ (k : Check). writtenIf k (lineOf (a .s) (a .w)))
+    (sym (after-refusal (checkUsed (a .d) ∷ checkScale (a .s) ∷ []) (checkVector 1 (a .d) (a .w) ∷ []) (r .0 .0) e))
 
 enum-told : tie.Need-enum-told
 enum-told c = search needs
 
-passed : (c : tie.After-enum-told) → inOrder (checkUsed (c .before .before .before .args .d) ∷ checkScale (c .before .before .before .args .s) ∷ []) ≡ Pass
+passed : (c : tie.After-enum-told)
+    → inOrder (checkUsed (c .before .before .before .args .d) ∷ checkScale (c .before .before .before .args .s) ∷ []) ≡ Pass
 passed c = sym (c .before .before .check-line .ensures) ∙ c .enum-told .given .1
 
 write-checked-requires : tie.Need-write-checked-requires
@@ -45,7 +47,8 @@ unfolding writtenOf writingChecks
 returns-2 c =
     let a = c .before .before .before .before .args in
     c .write-checked .ensures
-    ∙ ap (λ (k : Check). writtenIf k (lineOf (a .s) (a .w))) (sym (after-pass (checkUsed (a .d) ∷ checkScale (a .s) ∷ []) (checkVector 1 (a .d) (a .w)) (passed (c .before))))
+    ∙ ap (λ (k : Check). writtenIf k (lineOf (a .s) (a .w)))
+    (sym (after-pass (checkUsed (a .d) ∷ checkScale (a .s) ∷ []) (checkVector 1 (a .d) (a .w)) (passed (c .before))))
 
 pub write-line-spec : {M : Type 1} → statement M
 write-line-spec =

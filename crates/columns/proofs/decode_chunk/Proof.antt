@@ -3,7 +3,6 @@ use mathlib.Core.Path.{sym, _∙_}
 use mathlib.Core.List.{[]}
 use Prim.Native.Nat.{_<_}
 use native.Mathlib.Omega.{arith}
-use lib.ListN.{getD}
 use lib.Seq.{getD-set-other}
 use Rattle.whole.proofs.Laws.{cast-whole}
 use Rattle.gaps.proofs.Above.{each-above}
@@ -39,7 +38,9 @@ returns c =
     let s = k .before .before .before .before .before in
     let e = b .scale-above .ensures in
     let ys = b .scale-above .last .0 in
-    let all = all-samples (d .0) (s .args .power) (s .fits .power .fits) ys (k .known-columns .ensures) (e .1) (cast-whole mark (omega arith)) (each-above _ _ 80 (sym (e .0) ∙ c .if1 .taken)) in
+    let all =
+    all-samples (d .0) (s .args .power) (s .fits .power .fits) ys (k .known-columns .ensures) (e .1) (cast-whole mark (omega arith))
+    (each-above _ _ 80 (sym (e .0) ∙ c .if1 .taken)) in
     (all, λ n l h. getD-set-other (r .last .0) 4 n ys [] (λ q. omega arith) ∙ d .1 n l h)
 
 empty-gaps-requires : tie.Need-empty-gaps-requires
@@ -48,8 +49,11 @@ empty-gaps-requires c κs =
     let k = b .before .before .before in
     let d = k .before .before .decode-records .ensures in
     let s = k .before .before .before .before .before in
-    let few : s .args .t < 256 = search needs in
-    (few, scaled (d .0) (s .args .power) (s .fits .power .fits) (b .scale-above .last .0) (k .known-columns .ensures) (b .scale-above .ensures .1))
+    let few : s .args .t < 256 = search needs in (
+      few,
+      scaled (d .0) (s .args .power) (s .fits .power .fits) (b .scale-above .last .0) (k .known-columns .ensures)
+          (b .scale-above .ensures .1),
+    )
 
 returns-2 : tie.Need-returns-2
 returns-2 c =

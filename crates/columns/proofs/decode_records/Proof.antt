@@ -16,7 +16,8 @@ use Rattle.columns.proofs.used.Reads as used-reads
 use Rattle.lanes.proofs.known_columns.Reads as known-columns-reads
 
 abbrev Inv-loop : tie.InvT-loop
-Inv-loop chunk₀ store t d c₀ c-end chunk c = Laid (λ c k x. Within x (field c (recordIn store t k)) 32768) chunk₀ c chunk × (c ≤ c-end) × (c-end ≡ min d 4)
+Inv-loop chunk₀ store t d c₀ c-end chunk c =
+    Laid (λ c k x. Within x (field c (recordIn store t k)) 32768) chunk₀ c chunk × (c ≤ c-end) × (c-end ≡ min d 4)
 
 abbrev μ-loop : tie.MeasureT-loop
 μ-loop chunk₀ store t d c₀ c-end chunk c = c-end - c

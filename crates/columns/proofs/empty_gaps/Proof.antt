@@ -29,7 +29,8 @@ use Rattle.lanes.proofs.known_columns.Reads as known-columns-reads
 
 abbrev Inv-loop : tie.InvT-loop
 Inv-loop chunk₀ store t d power ys c₀ c-end chunk c =
-    Laid (Emptied store t d) chunk₀ c chunk × (c ≤ c-end) × (c-end ≡ min d 4) × ((k : ℕ) → k < 80 → FieldOfSlots store t 4 k nan (lane ys k))
+    Laid (Emptied store t d) chunk₀ c chunk × (c ≤ c-end) × (c-end ≡ min d 4)
+    × ((k : ℕ) → k < 80 → FieldOfSlots store t 4 k nan (lane ys k))
 
 abbrev μ-loop : tie.MeasureT-loop
 μ-loop chunk₀ store t d power ys c₀ c-end chunk c = c-end - c
@@ -44,7 +45,8 @@ used-requires : tie.Need-used-requires Inv-loop μ-loop
 used-requires c κs = search needs
 
 loop-holds : tie.Need-loop-holds Inv-loop μ-loop
-loop-holds c = (none-laid _ _ (c .before .known-columns .ensures), omega arith, c .used .ensures, c .before .before .before .decode-column .ensures)
+loop-holds c =
+    (none-laid _ _ (c .before .known-columns .ensures), omega arith, c .used .ensures, c .before .before .before .decode-column .ensures)
 
 mul-keep-above : tie.Need-mul-keep-above Inv-loop μ-loop
 mul-keep-above c = search needs
@@ -77,7 +79,8 @@ loop-again c =
     λ k h u.
     kept-in (a .store .now) (a .t) k (cast-whole mark (omega arith)) (v .3 k h) (field n) (no-field n (omega (arith, v .2)))
     (c .keep-above .ensures k h)
-    (subst (λ (xs : List Float). Within (lane xs k) (field n (recordIn (a .store .now) (a .t) k)) 32768) (sym same) (s .pre .1 .column n k u (omega (arith, v .2)) h)) in
+    (subst (λ (xs : List Float). Within (lane xs k) (field n (recordIn (a .store .now) (a .t) k)) 32768) (sym same)
+    (s .pre .1 .column n k u (omega (arith, v .2)) h)) in
     (one-laid _ _ (c .keep-above .last .0) (omega (arith, v .2)) new (v .0), omega arith, v .2, v .3)
 
 index-1-keep-above-2 : tie.Need-index-1-keep-above-2 Inv-loop μ-loop
@@ -100,9 +103,11 @@ returns c =
     let ys = c .keep-above2 .last .0 in
     let new : (k : ℕ) → k < 80 → Within (lane ys k) ((slot (a .store .now) (a .t) k) .y *ℤ pos (a .power)) 2147483648 =
     λ k h.
-    kept-in (a .store .now) (a .t) k (cast-whole mark (omega arith)) (v .3 k h) (λ (q : Point). q .y *ℤ pos (a .power)) (ap pos (zero-mul (a .power)))
+    kept-in (a .store .now) (a .t) k (cast-whole mark (omega arith)) (v .3 k h) (λ (q : Point). q .y *ℤ pos (a .power))
+    (ap pos (zero-mul (a .power)))
     (c .keep-above2 .ensures k h)
-    (subst (λ (xs : List Float). Within (lane xs k) ((recordIn (a .store .now) (a .t) k) .y *ℤ pos (a .power)) 2147483648) (sym same) (s .pre .1 .target k h)) in
+    (subst (λ (xs : List Float). Within (lane xs k) ((recordIn (a .store .now) (a .t) k) .y *ℤ pos (a .power)) 2147483648) (sym same)
+    (s .pre .1 .target k h)) in
     let Target : ℕ → Float → Type 0 = λ k x. Within x (slot (a .store .now) (a .t) k .y *ℤ pos (a .power)) 2147483648 in
     let r = all-laid _ _ ys few (v .0) (slot (a .store .now) (a .t)) Target (λ c k x l h w. w (omega arith)) new in
     (record { column = r .column; target = r .target }, others-laid _ _ ys few (v .0))

@@ -17,7 +17,8 @@ use Rattle.columns.proofs.record.field.Reads as field-reads
 use Rattle.lanes.proofs.known.Reads as known-reads
 
 abbrev Inv-loop : tie.InvT-loop
-Inv-loop out₀ o n store i at end place₀ k₀ out place k = Filled o (FieldOfRecords store o i at) out₀ k out × (place ≡ (i + (k - o)) * 12 + at) × (k ≤ o + n)
+Inv-loop out₀ o n store i at end place₀ k₀ out place k =
+    Filled o (FieldOfRecords store o i at) out₀ k out × (place ≡ (i + (k - o)) * 12 + at) × (k ≤ o + n)
 
 abbrev μ-loop : tie.MeasureT-loop
 μ-loop out₀ o n store i at end place₀ k₀ out place k = o + n - k

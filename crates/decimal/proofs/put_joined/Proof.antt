@@ -62,8 +62,15 @@ put-signed-requires c κs = omega (arith, roomy (c .before .before))
 loop-holds : tie.Need-loop-holds Inv-loop μ-loop
 loop-holds c =
     let p = c .before .before in
-    let e = p .before .before .before in
-    (omega arith, omega arith, omega arith, omega arith, refl, rw (others-none (v e)) (put-nothing (p .put-signed .last .0) (p .put-signed .result)))
+    let e = p .before .before .before in (
+      omega arith,
+      omega arith,
+      omega arith,
+      omega arith,
+      refl,
+      rw (others-none (v e))
+          (put-nothing (p .put-signed .last .0) (p .put-signed .result)),
+    )
 
 -- the first coordinate and those that the loop has put behind it
 module _ (c : tie.At-loop Inv-loop μ-loop) where
@@ -119,8 +126,15 @@ loop-again c =
     let k = l .loop .k in
     let read = toZ-ofZ {w = w16} {z = getD (v e) k (pos 0)} (record { sfits = q .before .put-signed-arg4 .given }) in
     let coordinate = rw read at (q .put-signed2 .ensures .0) in
-    let text = put-more (l .loop .inv .5) (put-more (p .put-byte .ensures) coordinate) in
-    (omega arith, omega arith, omega arith, omega arith, omega arith, rw (others-more (v e) k (l .loop .inv .0) (omega (arith, eight e))) text)
+    let text = put-more (l .loop .inv .5) (put-more (p .put-byte .ensures) coordinate) in (
+      omega arith,
+      omega arith,
+      omega arith,
+      omega arith,
+      omega arith,
+      rw (others-more (v e) k (l .loop .inv .0) (omega (arith, eight e)))
+          text,
+    )
 
 same-length-2 : tie.Need-same-length-2 Inv-loop μ-loop
 same-length-2 c = omega arith

@@ -55,8 +55,10 @@ returns c =
     let z = p .before .before .before in
     let s = begun z in
     let size = rw (is-size z) at (q .put-decimal .ensures) in
-    let negative = rw (toZ-ofZ (s .fits .w)) at (p .before .before .if1 .taken) in
-    (rw (signed-negative (s .args .w) negative) (put-more (p .put-byte .ensures) size), omega (arith, size-short (s .args .w) (s .fits .w), p .put-byte .ensures .place, size .place))
+    let negative = rw (toZ-ofZ (s .fits .w)) at (p .before .before .if1 .taken) in (
+      rw (signed-negative (s .args .w) negative) (put-more (p .put-byte .ensures) size),
+      omega (arith, size-short (s .args .w) (s .fits .w), p .put-byte .ensures .place, size .place),
+    )
 
 same-length-2 : tie.Need-same-length-2
 same-length-2 c = search needs

@@ -14,14 +14,22 @@ use Rattle.fields.proofs.fill_number.Tie as tie
 
 kept-long : (part : List ℕ) (i x : ℕ) → i ≤ length part → length (take i part ++ bigEndian (length part - i) x) ≡ length part
 kept-long part i x h =
-    omega (arith, length-append (take i part) (bigEndian (length part - i) x), length-take-le i part h, length-bigEndian (length part - i) x)
+    omega (
+      arith,
+      length-append (take i part) (bigEndian (length part - i) x),
+      length-take-le i part h,
+      length-bigEndian (length part - i)
+          x,
+    )
 
-byte-more : (part : List ℕ) (j k x : ℕ) → j < length part → set (take (suc j) part ++ bigEndian k x) j (x / 256 ^ k % 256) ≡ take j part ++ bigEndian (suc k) x
+byte-more : (part : List ℕ) (j k x : ℕ) → j < length part
+    → set (take (suc j) part ++ bigEndian k x) j (x / 256 ^ k % 256) ≡ take j part ++ bigEndian (suc k) x
 unfolding bigEndian
 byte-more part j k x h = set-before part (bigEndian k x) j (x / 256 ^ k % 256) h
 
 abbrev Inv-loop : tie.InvT-loop
-Inv-loop part₀ x rest₀ i₀ part rest i = (i ≤ length part₀) × (part ≡ take i part₀ ++ bigEndian (length part₀ - i) x) × (rest ≡ x / 256 ^ (length part₀ - i))
+Inv-loop part₀ x rest₀ i₀ part rest i =
+    (i ≤ length part₀) × (part ≡ take i part₀ ++ bigEndian (length part₀ - i) x) × (rest ≡ x / 256 ^ (length part₀ - i))
 
 abbrev μ-loop : tie.MeasureT-loop
 μ-loop part₀ x rest₀ i₀ part rest i = i
@@ -55,7 +63,8 @@ loop-again c = let p = c .before in
     let next : p .loop .i ≡ suc j = omega arith in
     let more : length part - j ≡ suc k = omega arith in (
       omega arith,
-      rw (more, p .loop .inv .2, p .loop .inv .1) (ap (λ (n : ℕ). set (take n part ++ bigEndian k (a .x)) j (a .x / 256 ^ k % 256)) next ∙ byte-more part j k (a .x) (omega arith)),
+      rw (more, p .loop .inv .2, p .loop .inv .1)
+          (ap (λ (n : ℕ). set (take n part ++ bigEndian k (a .x)) j (a .x / 256 ^ k % 256)) next ∙ byte-more part j k (a .x) (omega arith)),
       rw (more, p .loop .inv .2, div-div-eq-div-mul, pow-suc),
     )
 

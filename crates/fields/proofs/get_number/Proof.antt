@@ -54,7 +54,8 @@ wide-requires : tie.Need-wide-requires Inv-loop μ-loop
 wide-requires c κs = search needs
 
 add-x : tie.Need-add-x Inv-loop μ-loop
-add-x c = record { fits = omega (arith, pow-le-pow-right {n = 256} (omega arith) {i = c .before .before .before .loop .i} {j = 7} (omega arith)) }
+add-x c =
+    record { fits = omega (arith, pow-le-pow-right {n = 256} (omega arith) {i = c .before .before .before .loop .i} {j = 7} (omega arith)) }
 
 add-i : tie.Need-add-i Inv-loop μ-loop
 add-i c = omega arith

@@ -34,7 +34,14 @@ coordinate-stored :
     Stored (p ++ vectorBytes (take (k + 1) v)) (n + 2 * (k + 1)) t b
 coordinate-stored v p t b n k inside s =
     let next : n + 2 * (k + 1) ≡ n + 2 * k + 2 = omega arith in
-    rw (next, add-one, take-suc v k (pos 0) inside, coordinate-more, ← append-assoc p (vectorBytes (take k v)) (bigEndian 2 (ofZ w16 (getD v k (pos 0))))) s
+    rw (
+      next,
+      add-one,
+      take-suc v k (pos 0) inside,
+      coordinate-more,
+      ← append-assoc p (vectorBytes (take k v))
+          (bigEndian 2 (ofZ w16 (getD v k (pos 0)))),
+    ) s
 
 abbrev Inv-loop : tie.InvT-loop
 Inv-loop bytes₀ at v k₀ bytes k =

@@ -1,7 +1,7 @@
 -- The loop's invariant: no other was counted exactly if the numbers before k lie above the mark, and these are scaled. The measure is what
 -- is left of them.
 use mathlib.Core.Path.{_≡_, refl, sym, ap, _∙_}
-use mathlib.Core.Bool.{true, false}
+use mathlib.Core.Bool.{false}
 use mathlib.Core.Logic.{⊎-elim}
 use Prim.Native.Nat.{_+_, _-_, _≤_, _<_}
 use native.Mathlib.Omega.{arith}
@@ -19,7 +19,8 @@ use Rattle.gaps.proofs.scale_above.Statement.{statement}
 use Rattle.gaps.proofs.scale_above.Tie as tie
 
 abbrev Inv-loop : tie.InvT-loop
-Inv-loop ys₀ mark by others₀ k₀ ys others k = (eqb others 0 ≡ allAbove mark ys₀ k) × (k ≤ 80) × (others ≤ k) × Filled 0 (λ i a b. b ≡ mul binary64 a by) ys₀ k ys
+Inv-loop ys₀ mark by others₀ k₀ ys others k =
+    (eqb others 0 ≡ allAbove mark ys₀ k) × (k ≤ 80) × (others ≤ k) × Filled 0 (λ i a b. b ≡ mul binary64 a by) ys₀ k ys
 
 abbrev μ-loop : tie.MeasureT-loop
 μ-loop ys₀ mark by others₀ k₀ ys others k = 80 - k

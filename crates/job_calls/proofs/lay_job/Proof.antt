@@ -58,8 +58,13 @@ returns : tie.Need-returns
 returns c =
     let told = c .before .before in
     let row = told .before .before .before .before in
-    let first = row .before .before .before in
-    (told .fill-numbers .ensures, (row .write-row .ensures, (first .fill-coordinates .ensures, long (first .before .before .before .before .before .before .before .before .before .before))))
+    let first = row .before .before .before in (
+      told .fill-numbers .ensures,
+      (
+        row .write-row .ensures,
+        (first .fill-coordinates .ensures, long (first .before .before .before .before .before .before .before .before .before .before)),
+      ),
+    )
 
 pub lay-job-spec : {M : Type 1} → statement M
 lay-job-spec =

@@ -18,7 +18,8 @@ module _ (c : tie.After-read-job) where
   abbrev start : tie.Start
   start = c .before .before .before .before .before
 
-  lengths-right : jobLengths (length (start .args .numbers .now)) (length (start .args .corners .now)) (length (start .args .start .now)) ≡ true
+  lengths-right : jobLengths (length (start .args .numbers .now)) (length (start .args .corners .now)) (length (start .args .start .now))
+      ≡ true
   lengths-right = sym (c .before .before .job-lengths-right .ensures) ∙ not-false _ (c .before .if1 .left)
 
 returns : tie.Need-returns

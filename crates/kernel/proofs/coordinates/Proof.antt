@@ -61,7 +61,8 @@ returns c =
     let p = c .before in
     let a = p .before .args in
     let v = p .loop .inv in
-    let done : Filled 0 (Double (a .t1)) (replicate 12 zeroth) 8 (p .loop .u) = rw (← v .1) (until-filled (omega (arith, v .2, c .loop-test .left)) (v .0)) in
+    let done : Filled 0 (Double (a .t1)) (replicate 12 zeroth) 8 (p .loop .u) =
+    rw (← v .1) (until-filled (omega (arith, v .2, c .loop-test .left)) (v .0)) in
     let eight : length (a .t1) ≡ 8 = search needs in
     (all-doubles (a .t1) (p .loop .u) eight done, λ k h. all-filled (v .0) (c .loop-test .left) k h .1)
 

@@ -113,7 +113,9 @@ at-line-requires : tie.Need-at-line-requires
 at-line-requires c κs = search needs
 
 returns : tie.Need-returns
-returns c = let e = c .before .before .before .before .before .before .before .before .before .before .if1 .taken in λ k h. rw e (c .over-line .ensures k h)
+returns c =
+    let e = c .before .before .before .before .before .before .before .before .before .before .if1 .taken in
+    λ k h. rw e (c .over-line .ensures k h)
 
 returns-2 : tie.Need-returns-2
 returns-2 c = let e = c .before .before .before .before .before .before .if1 .left in λ k h. rw e (c .at-line .ensures k h)

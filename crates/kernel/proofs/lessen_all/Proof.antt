@@ -1,4 +1,5 @@
--- The loop's invariant: each lane is the least of what it was and of the sizes under the lines before j. The measure is what is left of the lines.
+-- The loop's invariant: each lane is the least of what it was and of the sizes under the lines before j. The measure is what is left of the
+-- lines.
 use mathlib.Core.Path.{_≡_, refl, ap, _∙_}
 use Prim.Native.Nat.{ℕ, _*_, _-_, _≤_, _<_, min}
 use native.Mathlib.Numerals.{add-one}
@@ -49,7 +50,8 @@ returns c =
     let p = c .before in
     let a = p .before .args in
     let e : p .loop .j ≡ a .n = omega (arith, p .loop .inv .0, c .loop-test .left) in
-    λ k h. p .loop .inv .1 k h ∙ ap (λ (n : ℕ). leastBy (a .over) (a .s .now) (a .low .now) (a .high .now) (a .d) (lane (a .least .now) k) n k) e
+    λ k h. p .loop .inv .1 k h ∙ ap
+    (λ (n : ℕ). leastBy (a .over) (a .s .now) (a .low .now) (a .high .now) (a .d) (lane (a .least .now) k) n k) e
 
 pub lessen-all-spec : {M : Type 1} → statement M
 lessen-all-spec =

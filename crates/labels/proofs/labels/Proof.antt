@@ -73,7 +73,8 @@ returns-3 c =
     let e = c .before .before .before in
     let a = e .before .before .before .args in
     let r = c .before .r in
-    let refuse = first-refuses (a .store .now) (a .m) (a .t3) (a .out .now) (r .given .0 .0) (sym (e .check-threshold .ensures) ∙ r .given .1) in
+    let refuse =
+    first-refuses (a .store .now) (a .m) (a .t3) (a .out .now) (r .given .0 .0) (sym (e .check-threshold .ensures) ∙ r .given .1) in
     rw refuse (refl, refl)
 
 pub labels-spec : {M : Type 1} → statement M

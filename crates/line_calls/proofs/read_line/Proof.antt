@@ -25,7 +25,8 @@ module _ (c : tie.After-read-patterns) where
   is-read : c .read-patterns .result ≡ coordinatesOf (start .args .d) (start .args .scale) (start .args .patterns .now)
   is-read =
       let four = line-lengths (length (start .args .coordinates .now)) (length (start .args .patterns .now)) lengths-right .1 in
-      c .read-patterns .ensures ∙ ap (coordinatesOf (start .args .d) (start .args .scale)) (c .before .patterns-of .ensures ∙ exactly-all 4 0 (start .args .patterns .now) four)
+      c .read-patterns .ensures ∙ ap (coordinatesOf (start .args .d) (start .args .scale))
+      (c .before .patterns-of .ensures ∙ exactly-all 4 0 (start .args .patterns .now) four)
 
 -- a line has four coordinates
 long : (c : tie.After-w) → length (c .before .read-patterns .result .w) ≡ 4

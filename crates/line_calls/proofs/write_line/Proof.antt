@@ -27,7 +27,8 @@ module _ (c : tie.After-write-line) where
   is-written : c .write-line .result ≡ writtenOf (start .args .d) (start .args .scale) (start .args .coordinates .now)
   is-written =
       let four = line-lengths (length (start .args .coordinates .now)) (length (start .args .patterns .now)) lengths-right .0 in
-      c .write-line .ensures ∙ ap (writtenOf (start .args .d) (start .args .scale)) (c .before .coordinates-of .ensures ∙ exactly-all 4 (pos 0) (start .args .coordinates .now) four)
+      c .write-line .ensures ∙ ap (writtenOf (start .args .d) (start .args .scale))
+      (c .before .coordinates-of .ensures ∙ exactly-all 4 (pos 0) (start .args .coordinates .now) four)
 
 returns : tie.Need-returns
 returns c =
@@ -71,7 +72,8 @@ returns-2 c =
     let a = start w .args in
     let room = line-lengths (length (a .coordinates .now)) (length (a .patterns .now)) (lengths-right w) in
     let whole = filled-whole (a .patterns .now) (patternsOf (w .write-line .result .line)) (room .1) in
-    rw (lengths-right w, ← is-written w, told .enum-told .given .1) (refl, fill .fill-patterns .ensures ∙ ap (filled (a .patterns .now)) (bits .patterns .ensures) ∙ whole)
+    rw (lengths-right w, ← is-written w, told .enum-told .given .1)
+    (refl, fill .fill-patterns .ensures ∙ ap (filled (a .patterns .now)) (bits .patterns .ensures) ∙ whole)
 
 returns-3 : tie.Need-returns-3
 returns-3 c =

@@ -26,7 +26,8 @@ returns : tie.Need-returns
 unfolding groupSums
 returns c =
     let last = ap (λ (n : ℕ). n ∷ []) (c .group-sum4 .ensures) in
-    ap₂ _∷_ (c .before .before .before .group-sum .ensures) (ap₂ _∷_ (c .before .before .group-sum2 .ensures) (ap₂ _∷_ (c .before .group-sum3 .ensures) last))
+    ap₂ _∷_ (c .before .before .before .group-sum .ensures)
+    (ap₂ _∷_ (c .before .before .group-sum2 .ensures) (ap₂ _∷_ (c .before .group-sum3 .ensures) last))
 
 pub group-sums-spec : {M : Type 1} → statement M
 group-sums-spec =

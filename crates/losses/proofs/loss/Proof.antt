@@ -42,7 +42,9 @@ unfolding lossIn
 returns-3 c = let e : c .before .before .args .p ≡ 2 = c .before .match .keys3 in rw e (c .cut-square .ensures)
 
 returns-4 : tie.Need-returns-4
-returns-4 c = let r = c .match .rest in sym (no-loss (c .before .args .p) (c .before .args .eps) (c .before .args .size) (r .0 .0 .1) (r .0 .1) (r .1))
+returns-4 c =
+    let r = c .match .rest in
+    sym (no-loss (c .before .args .p) (c .before .args .eps) (c .before .args .size) (r .0 .0 .1) (r .0 .1) (r .1))
 
 pub loss-spec : {M : Type 1} → statement M
 loss-spec =

@@ -12,11 +12,13 @@ use Rattle.model.proofs.bound.Statement.{statement}
 use Rattle.model.proofs.bound.Tie as tie
 
 module _ (c : tie.After-enum-told) where
-  pass : checkBound (c .before .before .before .before .args .store .now) (c .before .before .before .before .args .m) (c .before .before .before .before .args .b) ≡ Pass
+  pass : checkBound (c .before .before .before .before .args .store .now) (c .before .before .before .before .args .m)
+      (c .before .before .before .before .args .b) ≡ Pass
   pass = sym (c .before .before .check-bound .ensures) ∙ c .enum-told .given .1
 
   was-ready : Ready (length (c .before .before .before .before .args .store .now)) (c .before .before .before .before .args .m)
-  was-ready = ready (c .before .before .before .before .args .store .now) (c .before .before .before .before .args .m) (bound-model _ _ _ pass)
+  was-ready =
+      ready (c .before .before .before .before .args .store .now) (c .before .before .before .before .args .m) (bound-model _ _ _ pass)
 
 check-bound-requires : tie.Need-check-bound-requires
 check-bound-requires c κs = search needs
@@ -40,7 +42,8 @@ returns-2 : tie.Need-returns-2
 unfolding boundAnswer
 returns-2 c =
     let e = c .before .before .before in
-    let refuse : checkBound (e .before .before .args .store .now) (e .before .before .args .m) (e .before .before .args .b) ≡ Refuse (c .before .r .given .0 .0) = sym (e .check-bound .ensures) ∙ c .before .r .given .1 in
+    let refuse : checkBound (e .before .before .args .store .now) (e .before .before .args .m) (e .before .before .args .b)
+    ≡ Refuse (c .before .r .given .0 .0) = sym (e .check-bound .ensures) ∙ c .before .r .given .1 in
     rw refuse refl
 
 pub bound-spec : {M : Type 1} → statement M

@@ -8,7 +8,8 @@ use Rattle.model_checks.proofs.Passed.{ready}
 use Rattle.model.proofs.bound_in.Statement.{statement}
 use Rattle.model.proofs.bound_in.Tie as tie
 
-pass : (c : tie.After-enum-told) → checkModel (c .before .before .before .before .args .store .now) (c .before .before .before .before .args .m) ≡ Pass
+pass : (c : tie.After-enum-told)
+    → checkModel (c .before .before .before .before .args .store .now) (c .before .before .before .before .args .m) ≡ Pass
 pass c = sym (c .before .before .check-model .ensures) ∙ c .enum-told .given .1
 
 check-model-requires : tie.Need-check-model-requires
@@ -31,7 +32,8 @@ returns-2 : tie.Need-returns-2
 unfolding boundIn boundUpTo
 returns-2 c =
     let e = c .before .before in
-    let refuse : checkModel (e .before .before .args .store .now) (e .before .before .args .m) ≡ Refuse (c .enum-told2 .given .0 .0) = sym (e .check-model .ensures) ∙ c .enum-told2 .given .1 in
+    let refuse : checkModel (e .before .before .args .store .now) (e .before .before .args .m) ≡ Refuse (c .enum-told2 .given .0 .0) =
+    sym (e .check-model .ensures) ∙ c .enum-told2 .given .1 in
     rw refuse (refl, λ decoded. refl)
 
 pub bound-in-spec : {M : Type 1} → statement M

@@ -12,11 +12,13 @@ use Rattle.model.proofs.cost.Statement.{statement}
 use Rattle.model.proofs.cost.Tie as tie
 
 module _ (c : tie.After-enum-told) where
-  pass : checkCost (c .before .before .before .before .args .store .now) (c .before .before .before .before .args .m) (c .before .before .before .before .args .v) ≡ Pass
+  pass : checkCost (c .before .before .before .before .args .store .now) (c .before .before .before .before .args .m)
+      (c .before .before .before .before .args .v) ≡ Pass
   pass = sym (c .before .before .check-cost .ensures) ∙ c .enum-told .given .1
 
   was-ready : Ready (length (c .before .before .before .before .args .store .now)) (c .before .before .before .before .args .m)
-  was-ready = ready (c .before .before .before .before .args .store .now) (c .before .before .before .before .args .m) (cost-model _ _ _ pass)
+  was-ready =
+      ready (c .before .before .before .before .args .store .now) (c .before .before .before .before .args .m) (cost-model _ _ _ pass)
 
 check-cost-requires : tie.Need-check-cost-requires
 check-cost-requires c κs = search needs
@@ -40,7 +42,8 @@ returns-2 : tie.Need-returns-2
 unfolding costAnswer
 returns-2 c =
     let e = c .before .before .before in
-    let refuse : checkCost (e .before .before .args .store .now) (e .before .before .args .m) (e .before .before .args .v) ≡ Refuse (c .before .r .given .0 .0) = sym (e .check-cost .ensures) ∙ c .before .r .given .1 in
+    let refuse : checkCost (e .before .before .args .store .now) (e .before .before .args .m) (e .before .before .args .v)
+    ≡ Refuse (c .before .r .given .0 .0) = sym (e .check-cost .ensures) ∙ c .before .r .given .1 in
     rw refuse refl
 
 pub cost-spec : {M : Type 1} → statement M

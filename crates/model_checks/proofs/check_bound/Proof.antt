@@ -29,7 +29,8 @@ returns c =
     let a = two .before .before .before .before .args in
     let stray = checkStray (a .m .d) (pointsOf (a .store .now)) in
     c .then-stray .ensures
-    ∙ (λ i. inOrder ((two .in-order .ensures ∙ λ j. inOrder (two .before .before .check-model .ensures j ∷ two .before .check-box .ensures j ∷ [])) i ∷ stray ∷ []))
+    ∙ (λ i. inOrder ((two .in-order .ensures
+    ∙ λ j. inOrder (two .before .before .check-model .ensures j ∷ two .before .check-box .ensures j ∷ [])) i ∷ stray ∷ []))
     ∙ in-order-group (checkModel (a .store .now) (a .m) ∷ checkBox (a .m .n) (a .m .d) (a .b) ∷ []) (stray ∷ [])
 
 pub check-bound-spec : {M : Type 1} → statement M

@@ -45,8 +45,10 @@ returns c =
     let shape = c .before .before .before .before .before .check-shape .ensures in
     let store = c .before .before .before .before .before .before .check-store .ensures in
     c .in-order3 .ensures
-    ∙ (λ i. inOrder ((first ∙ λ j. inOrder (store j ∷ shape j ∷ [])) i ∷ (c .before .in-order2 .ensures ∙ λ j. inOrder (scale j ∷ loss j ∷ [])) i ∷ []))
-    ∙ in-order-pairs (checkStore (length (a .store .now))) (checkShape (a .m .n) (a .m .d)) (checkScale (a .m .scale)) (checkLossFor (length (a .store .now) / 12) (a .m .p) (a .m .eps))
+    ∙ (λ i. inOrder ((first ∙ λ j. inOrder (store j ∷ shape j ∷ [])) i
+    ∷ (c .before .in-order2 .ensures ∙ λ j. inOrder (scale j ∷ loss j ∷ [])) i ∷ []))
+    ∙ in-order-pairs (checkStore (length (a .store .now))) (checkShape (a .m .n) (a .m .d)) (checkScale (a .m .scale))
+    (checkLossFor (length (a .store .now) / 12) (a .m .p) (a .m .eps))
 
 pub check-model-spec : {M : Type 1} → statement M
 check-model-spec =

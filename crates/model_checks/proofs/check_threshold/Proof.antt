@@ -39,7 +39,8 @@ returns c =
     let loss = checkLoss (a .m .p) (a .m .eps) in
     let vector = checkVector (a .m .n) (a .m .d) (a .v) in
     let stray = checkStray (a .m .d) (pointsOf (a .store .now)) in
-    let chosen = one .in-order .ensures ∙ λ j. inOrder (one .before .before .check-model .ensures j ∷ one .before .check-loss .ensures j ∷ []) in
+    let chosen =
+    one .in-order .ensures ∙ λ j. inOrder (one .before .before .check-model .ensures j ∷ one .before .check-loss .ensures j ∷ []) in
     c .then-stray .ensures
     ∙ (λ i. inOrder ((two .in-order2 .ensures ∙ λ j. inOrder (chosen j ∷ two .before .check-vector .ensures j ∷ [])) i ∷ stray ∷ []))
     ∙ (λ i. inOrder (in-order-group (model ∷ loss ∷ []) (vector ∷ []) i ∷ stray ∷ []))

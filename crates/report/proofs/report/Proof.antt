@@ -11,7 +11,8 @@ use Rattle.report.proofs.report.Tie as tie
 returns : tie.Need-returns
 returns c =
     let a = c .before .before .before .before .args in
-    nothing-lent (a .input .now) (a .table .now) (a .bounds .now) (a .out .now) (rw (lt-leb 32768 (length (a .table .now)) (omega (arith, c .if1 .taken))) refl)
+    nothing-lent (a .input .now) (a .table .now) (a .bounds .now) (a .out .now)
+    (rw (lt-leb 32768 (length (a .table .now)) (omega (arith, c .if1 .taken))) refl)
 
 returns-2 : tie.Need-returns-2
 returns-2 c =

@@ -39,7 +39,8 @@ returns c =
     let q = c .before .before .before in
     let n = q .before .before .before in
     let a = n .before .before .before .args in
-    lent-back (a .store .now) (a .job) (a .table .now) (q .search .last .1 .1 .0) (a .bounds .now) (q .search .last .1 .1 .1 .0) (q .search .result)
+    lent-back (a .store .now) (a .job) (a .table .now) (q .search .last .1 .1 .0) (a .bounds .now) (q .search .last .1 .1 .1 .0)
+    (q .search .result)
     (n .numbers-lent .result) (n .numbers-lent .ensures) (few n) (q .search .ensures)
 
 pub search-rows-spec : {M : Type 1} → statement M

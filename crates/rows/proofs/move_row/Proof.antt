@@ -43,7 +43,13 @@ returns c =
     let w = c .before in
     let there = w .before .before .before .before in
     let a = there .before .before .args in
-    rw (lt-ltb (a .to) (a .i) (there .before .if1 .taken), lt-ltb (a .i) _ (there .if2 .taken), w .put-box .ensures, w .before .before .box-at .ensures)
+    rw (
+      lt-ltb (a .to) (a .i) (there .before .if1 .taken),
+      lt-ltb (a .i) _ (there .if2 .taken),
+      w .put-box .ensures,
+      w .before .before
+          .box-at .ensures,
+    )
     (row-written (a .table .now) (a .to) _ (omega (arith, there .before .if1 .taken, there .if2 .taken)))
 
 returns-2 : tie.Need-returns-2

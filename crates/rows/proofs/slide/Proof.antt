@@ -46,8 +46,12 @@ loop-less c = omega arith
 loop-again : tie.Need-loop-again Inv-loop μ-loop
 loop-again c =
     let l = c .before .before in
-    let back = toZ-ofZ w16 (getD (l .loop .part) (l .loop .k + 16) (pos 0)) (record { sfits = c .part .given }) in
-    (omega arith, simp length-set (l .loop .inv .1), rw (back, l .loop .inv .2) (down-turn (l .before .args .part .now) 0 16 (l .loop .k) (pos 0) (omega arith) (omega arith)))
+    let back = toZ-ofZ w16 (getD (l .loop .part) (l .loop .k + 16) (pos 0)) (record { sfits = c .part .given }) in (
+      omega arith,
+      simp length-set (l .loop .inv .1),
+      rw (back, l .loop .inv .2)
+          (down-turn (l .before .args .part .now) 0 16 (l .loop .k) (pos 0) (omega arith) (omega arith)),
+    )
 
 same-length : tie.Need-same-length Inv-loop μ-loop
 same-length c = c .before .loop .inv .1

@@ -44,7 +44,8 @@ returns c =
     let t = a .table .now in
     let moved : 16 * a .n - 16 * a .i - 16 ≡ 16 * (a .n - 1) - 16 * a .i = omega arith in
     rw (slid .slide .ensures)
-    (rw moved at (part-down t (16 * a .i) 16 (16 * a .n) (omega arith) (omega arith)) ∙ without-there t (a .i) (a .n) (omega arith) (omega arith))
+    (rw moved at (part-down t (16 * a .i) 16 (16 * a .n) (omega arith) (omega arith))
+    ∙ without-there t (a .i) (a .n) (omega arith) (omega arith))
 
 returns-2 : tie.Need-returns-2
 unfolding withoutRow

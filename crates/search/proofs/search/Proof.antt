@@ -28,13 +28,17 @@ module _ (c : tie.After-enum-told) where
   pass = sym (c .before .before .check-search .ensures) ∙ c .enum-told .given .1
 
   runs : Runs (begun .args .store .now) (begun .args .job)
-  runs = runs-accepted (begun .args .store .now) (begun .args .job) (length (begun .args .table .now)) (length (begun .args .bounds .now)) pass
+  runs =
+      runs-accepted (begun .args .store .now) (begun .args .job) (length (begun .args .table .now)) (length (begun .args .bounds .now)) pass
 
   rows : 16 ≤ length (begun .args .table .now)
-  rows = rows-accepted (begun .args .store .now) (begun .args .job) (length (begun .args .table .now)) (length (begun .args .bounds .now)) pass
+  rows =
+      rows-accepted (begun .args .store .now) (begun .args .job) (length (begun .args .table .now)) (length (begun .args .bounds .now)) pass
 
   entries : length (begun .args .table .now) / 16 ≤ length (begun .args .bounds .now)
-  entries = entries-accepted (begun .args .store .now) (begun .args .job) (length (begun .args .table .now)) (length (begun .args .bounds .now)) pass
+  entries =
+      entries-accepted (begun .args .store .now) (begun .args .job) (length (begun .args .table .now)) (length (begun .args .bounds .now))
+      pass
 
 slice-aggregate-decode : tie.Need-slice-aggregate-decode
 slice-aggregate-decode c = search needs
@@ -73,7 +77,9 @@ module _ (c : tie.After-decode) where
       let a = begun told .args in
       record {
         checked = (runs told) .checked;
-        decoded = decoded-for (a .store .now) (a .job .model) ((runs told) .checked) (c .before .power .ensures) refl (search needs) (c .decode .ensures);
+        decoded =
+            decoded-for (a .store .now) (a .job .model) ((runs told) .checked) (c .before .power .ensures) refl (search needs)
+            (c .decode .ensures);
       }
 
 begin-requires : tie.Need-begin-requires
@@ -103,7 +109,8 @@ returns c =
     let r = c .before .before .before .before .before in
     let e = told (r .before .before .before .before .before .before .before .before .before .before .before .before .before) in
     let a = begun e .args in
-    promised-pass (a .store .now) (a .job) (a .table .now) (a .bounds .now) (pass e) (r .run .last .1 .1 .1 .0) (r .run .last .1 .1 .1 .1 .0) (r .run .result)
+    promised-pass (a .store .now) (a .job) (a .table .now) (a .bounds .now) (pass e) (r .run .last .1 .1 .1 .0)
+    (r .run .last .1 .1 .1 .1 .0) (r .run .result)
     (r .run .ensures)
 
 returns-2 : tie.Need-returns-2

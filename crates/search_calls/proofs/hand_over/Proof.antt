@@ -55,7 +55,10 @@ returns c =
       rw (← kind) (c .settle .ensures .0),
       (
         rw (← kind) (c .settle .ensures .1),
-        (rw (← kind, accepted) (first .fill-coordinates .ensures), (rw (← kind, accepted) (laid .fill-numbers .ensures), long (told .before .before))),
+        (
+          rw (← kind, accepted) (first .fill-coordinates .ensures),
+          (rw (← kind, accepted) (laid .fill-numbers .ensures), long (told .before .before)),
+        ),
       ),
     )
 
@@ -63,8 +66,10 @@ returns-2 : tie.Need-returns-2
 returns-2 c =
     let told = c .before .before in
     let kind = told .before .before .outcome-of .ensures in
-    let why = told .enum-told2 .given .1 in
-    (rw (← kind) (c .settle2 .ensures .0), (rw (← kind) (c .settle2 .ensures .1), (rw (← kind, why) refl, (rw (← kind, why) refl, long (told .before .before)))))
+    let why = told .enum-told2 .given .1 in (
+      rw (← kind) (c .settle2 .ensures .0),
+      (rw (← kind) (c .settle2 .ensures .1), (rw (← kind, why) refl, (rw (← kind, why) refl, long (told .before .before)))),
+    )
 
 pub hand-over-spec : {M : Type 1} → statement M
 hand-over-spec =

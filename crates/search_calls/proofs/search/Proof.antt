@@ -72,18 +72,22 @@ returns-2 c =
     let a = test .before .before .before .before .before .args in
     let m = modelOf (a .n) (a .d) (a .scale) (a .p) (a .eps) in
     let job = jobFrom m (a .t) (a .budget) 0 (a .corners .now) (a .start .now) in
-    let is-job : j .job-of .result ≡ job = j .job-of .ensures ∙ ap (λ m. jobFrom m (a .t) (a .budget) 0 (a .corners .now) (a .start .now)) (j .before .model-of .ensures) in
+    let is-job : j .job-of .result ≡ job =
+    j .job-of .ensures ∙ ap (λ m. jobFrom m (a .t) (a .budget) 0 (a .corners .now) (a .start .now)) (j .before .model-of .ensures) in
     let found : s .search .result ≡ searchAnswer (a .store .now) job (a .table .now) (a .bounds .now) =
     s .search .ensures .0 ∙ ap (λ (x : Job). searchAnswer (a .store .now) x (a .table .now) (a .bounds .now)) is-job in
-    let right : searchLengths (length (a .corners .now)) (length (a .start .now)) (length (a .vector .now)) (length (a .numbers .now)) ≡ true = sym (test .before .lengths-right .ensures) ∙ not-false _ (test .if1 .left) in
-    let room = search-lengths (length (a .corners .now)) (length (a .start .now)) (length (a .vector .now)) (length (a .numbers .now)) right in
+    let right : searchLengths (length (a .corners .now)) (length (a .start .now)) (length (a .vector .now)) (length (a .numbers .now))
+    ≡ true = sym (test .before .lengths-right .ensures) ∙ not-false _ (test .if1 .left) in
+    let room =
+    search-lengths (length (a .corners .now)) (length (a .start .now)) (length (a .vector .now)) (length (a .numbers .now)) right in
     let out = h .hand-over .ensures in
     let laid = filled-whole (a .vector .now) (s .search .result .vector) (room .0 ∙ sym (out .1 .1 .1 .1)) in
     let told = filled-whole (a .numbers .now) (searchNumbers (s .search .result)) (room .1) in
     let handed-vector = rw laid at (out .1 .1 .0) in
     let handed-numbers = rw told at (out .1 .1 .1 .0) in
     let certificate =
-    subst (λ (x : Job). Certified (a .store .now) x (a .table .now) (a .bounds .now) (s .search .result)) is-job (s .search .ensures .1 .1 .1) in
+    subst (λ (x : Job). Certified (a .store .now) x (a .table .now) (a .bounds .now) (s .search .result)) is-job
+    (s .search .ensures .1 .1 .1) in
     rw (right, ← found) (
       out .0,
       (
@@ -102,13 +106,16 @@ returns-2 c =
               (
                 record {
                   searched = λ _.
-                      subst (λ (x : Job). BoundsSearched (a .store .now) x (a .table .now) (a .bounds .now) (s .search .last .1 .1 .1 .0)) is-job
+                      subst (λ (x : Job). BoundsSearched (a .store .now) x (a .table .now) (a .bounds .now) (s .search .last .1 .1 .1 .0))
+                      is-job
                       (s .search .ensures .1 .1 .0);
                   kept = λ wrong. absurd (true≢false (sym right ∙ wrong));
                 },
                 λ e.
-                    certified-call (a .store .now) m (a .t) (a .budget) (a .corners .now) (a .start .now) (a .table .now) (a .bounds .now) (a .vector .now)
-                    (a .numbers .now) (s .search .result) (a .value .now) _ _ _ found certificate (sym (out .0) ∙ e) (out .1 .0) handed-vector handed-numbers,
+                    certified-call (a .store .now) m (a .t) (a .budget) (a .corners .now) (a .start .now) (a .table .now) (a .bounds .now)
+                    (a .vector .now)
+                    (a .numbers .now) (s .search .result) (a .value .now) _ _ _ found certificate (sym (out .0) ∙ e) (out .1 .0)
+                    handed-vector handed-numbers,
               ),
             ),
           ),

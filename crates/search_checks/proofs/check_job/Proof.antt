@@ -44,11 +44,14 @@ module _ (c : tie.After-in-order2) where
 
   first :
       let j = begun .args .job in
-      c .in-order2 .result ≡ inOrder (checkModel (begun .args .store .now) (j .model) ∷ inOrder (checkBox (j .model .n) (j .model .d) (j .domain) ∷ checkStart (j .domain) (j .start) ∷ []) ∷ [])
+      c .in-order2 .result ≡ inOrder
+      (checkModel (begun .args .store .now) (j .model)
+      ∷ inOrder (checkBox (j .model .n) (j .model .d) (j .domain) ∷ checkStart (j .domain) (j .start) ∷ []) ∷ [])
   first =
       let two = c .before .before in
       c .in-order2 .ensures
-      ∙ ap₂ both (c .before .check-model .ensures) (two .in-order .ensures ∙ ap₂ both (two .before .before .check-box .ensures) (two .before .check-start .ensures))
+      ∙ ap₂ both (c .before .check-model .ensures)
+      (two .in-order .ensures ∙ ap₂ both (two .before .before .check-box .ensures) (two .before .check-start .ensures))
 
 returns : tie.Need-returns
 returns c =

@@ -26,8 +26,11 @@ exceeding-in-requires c κs = search needs
 returns : tie.Need-returns
 returns c =
     let s = c .before .before in
-    let a = s .before .args in
-    (c .exceeding-in .ensures .0 ∙ ap (λ (n : ℕ). exceedingIn (ofInt binary64 (pos n)) (a .sizes .now)) (s .under .ensures), c .exceeding-in .ensures .1)
+    let a = s .before .args in (
+      c .exceeding-in .ensures .0 ∙ ap (λ (n : ℕ). exceedingIn (ofInt binary64 (pos n)) (a .sizes .now)) (s .under .ensures),
+      c .exceeding-in
+          .ensures .1,
+    )
 
 pub reaching-spec : {M : Type 1} → statement M
 reaching-spec = tie.close (tie.spec under-requires int-to-float-exceeding-in exceeding-in-requires returns)

@@ -103,7 +103,8 @@ loop-again c =
     let p = c .before .before .before .before .before .before .before .before .before in
     let n : length (p .before .before .before .args .least .now) ≡ 80 = p .before .known .ensures in
     one-filled _ (p .loop .inv) (omega (arith, c .before .before .before .before .before .before .before .before .loop-test .taken))
-    (c .least-of .ensures ∙ ap (λ (e : Float). smallerOf (lane (p .loop .least) (p .loop .i)) (sized e)) (c .before .before .residual .ensures))
+    (c .least-of .ensures ∙ ap (λ (e : Float). smallerOf (lane (p .loop .least) (p .loop .i)) (sized e))
+    (c .before .before .residual .ensures))
 
 returns : tie.Need-returns Inv-loop μ-loop
 returns c = all-filled (c .before .loop .inv) (c .loop-test .left)

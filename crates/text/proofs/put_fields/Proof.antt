@@ -28,7 +28,8 @@ cast-put-joined-2 : tie.Need-cast-put-joined-2
 cast-put-joined-2 c = search needs
 
 mul-put-joined : tie.Need-mul-put-joined
-mul-put-joined c = omega (arith, mul-le-mul (le-of-lt (c .before .struct-known2 .given .0 .fits)) (le-of-lt (c .struct-known3 .given .1 .0 .fits)))
+mul-put-joined c =
+    omega (arith, mul-le-mul (le-of-lt (c .before .struct-known2 .given .0 .fits)) (le-of-lt (c .struct-known3 .given .1 .0 .fits)))
 
 put-joined-requires : tie.Need-put-joined-requires
 put-joined-requires c κs = search needs

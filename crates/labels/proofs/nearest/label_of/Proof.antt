@@ -57,7 +57,8 @@ module _ (c : tie.After-nearest-line) where
   -- the label, by both tests
   label-if : {two near : Bool} → leb 2 (fitting sizes (start .args .m .eps) (start .args .m .n)) ≡ two →
       leb (least sizes (start .args .m .n)) (start .args .m .eps) ≡ near →
-      sampleLabel (start .args .m) (start .args .v .now) (start .args .q) ≡ cond two 5 (cond near (suc (firstLeast sizes (start .args .m .n))) 0)
+      sampleLabel (start .args .m) (start .args .v .now) (start .args .q)
+      ≡ cond two 5 (cond near (suc (firstLeast sizes (start .args .m .n))) 0)
   unfolding sampleLabel nearestLabel
   label-if e h = λ i. cond (e i) 5 (cond (h i) (suc (firstLeast sizes (start .args .m .n))) 0)
 
@@ -79,14 +80,16 @@ cast-result c = record { fits = omega (arith, line-small (c .before .before .bef
 returns-2 : tie.Need-returns-2
 returns-2 c =
     let e = c .before .before .before .before .before .before in
-    let one : fitting (sizes e) (start e .args .m .eps) (start e .args .m .n) < 2 = omega (arith, fitting-is e, c .before .before .before .before .if1 .left) in
+    let one : fitting (sizes e) (start e .args .m .eps) (start e .args .m .n) < 2 =
+    omega (arith, fitting-is e, c .before .before .before .before .if1 .left) in
     let h : least (sizes e) (start e .args .m .n) ≤ start e .args .m .eps = omega (arith, size-is e, c .before .if2 .taken) in
     add-one (e .nearest-line .result .line) ∙ ap suc (line-is e) ∙ sym (label-if e (lt-leb _ _ one) (le-leb _ _ h))
 
 returns-3 : tie.Need-returns-3
 returns-3 c =
     let e = c .before .before .before .before .before in
-    let one : fitting (sizes e) (start e .args .m .eps) (start e .args .m .n) < 2 = omega (arith, fitting-is e, c .before .before .before .if1 .left) in
+    let one : fitting (sizes e) (start e .args .m .eps) (start e .args .m .n) < 2 =
+    omega (arith, fitting-is e, c .before .before .before .if1 .left) in
     let h : start e .args .m .eps < least (sizes e) (start e .args .m .n) = omega (arith, size-is e, c .if2 .left) in
     sym (label-if e (lt-leb _ _ one) (lt-leb _ _ h))
 

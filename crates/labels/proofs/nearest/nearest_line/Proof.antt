@@ -34,7 +34,8 @@ record Found (f : ℕ → ℕ) (ε n j line size count : ℕ) : Type 0 where
   are-fitting : count ≡ fitting f ε j
   few : count ≤ j
 
-module _ {f : ℕ → ℕ} {ε n j line size count : ℕ} (g : Found f ε n j line size count) (h : j < n) (other one : ℕ) (e : other ≡ f j) (c : one ≡ cond (leb other ε) 1 0) where
+module _ {f : ℕ → ℕ} {ε n j line size count : ℕ} (g : Found f ε n j line size count) (h : j < n) (other one : ℕ) (e : other ≡ f j)
+    (c : one ≡ cond (leb other ε) 1 0) where
   counts : count + one ≡ fitting f ε (j + 1)
   counts = ap₂ _+_ (g .are-fitting) (c ∙ ap {B = ℕ} (λ (x : ℕ). cond (leb x ε) 1 0) e) ∙ sym (fitting-more f ε j)
 
@@ -127,7 +128,17 @@ add-fitting c =
     let p = c .before .before .before .before in
     let a = p .before .before .before .before .args in
     let one = once (λ i. c .before .size2 .result) (a .eps) 0 in
-    record { fits = omega (arith, p .loop .inv .few, c .counted2 .ensures, one, c .before .before .before .loop-test .taken, p .before .before .before .before .fits .n .fits) }
+    record {
+      fits = omega (
+        arith,
+        p .loop .inv .few,
+        c .counted2 .ensures,
+        one,
+        c .before .before .before .loop-test .taken,
+        p .before
+            .before .before .before .fits .n .fits,
+      );
+    }
 
 add-j : tie.Need-add-j Inv-loop μ-loop
 add-j c = search needs
@@ -154,8 +165,10 @@ returns c =
     let p = c .before in
     let a = p .before .before .before .before .args in
     let e : p .loop .j ≡ a .n = omega (arith, p .loop .inv .within) in
-    let f = sizes (a .q) (a .v .now) (a .d) (a .power) in
-    (p .loop .inv .is-first ∙ ap (firstLeast f) e, (p .loop .inv .is-least ∙ ap (least f) e, p .loop .inv .are-fitting ∙ ap (fitting f (a .eps)) e))
+    let f = sizes (a .q) (a .v .now) (a .d) (a .power) in (
+      p .loop .inv .is-first ∙ ap (firstLeast f) e,
+      (p .loop .inv .is-least ∙ ap (least f) e, p .loop .inv .are-fitting ∙ ap (fitting f (a .eps)) e),
+    )
 
 pub nearest-line-spec : {M : Type 1} → statement M
 nearest-line-spec =

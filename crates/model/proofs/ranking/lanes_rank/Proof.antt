@@ -26,13 +26,15 @@ asked s r b e =
     subst (λ (over : Bool). RankIn over (a .store .now) (a .lanes .now) (a .m) (a .low) (a .high) (a .cap) r) (sym e)
 
 few-rank-requires : tie.Need-few-rank-requires
-few-rank-requires c κs = let n = c .before .before in (n .before .before .pre, omega (arith, n .chunk-count .ensures, c .before .if1 .taken))
+few-rank-requires c κs =
+    let n = c .before .before in (n .before .before .pre, omega (arith, n .chunk-count .ensures, c .before .if1 .taken))
 
 returns : tie.Need-returns
 returns c = asked (c .before .before .before .before .before) _ _ (c .before .if2 .taken) (c .few-rank .ensures)
 
 few-rank-requires-2 : tie.Need-few-rank-requires-2
-few-rank-requires-2 c κs = let n = c .before .before in (n .before .before .pre, omega (arith, n .chunk-count .ensures, c .before .if1 .taken))
+few-rank-requires-2 c κs =
+    let n = c .before .before in (n .before .before .pre, omega (arith, n .chunk-count .ensures, c .before .if1 .taken))
 
 returns-2 : tie.Need-returns-2
 returns-2 c = asked (c .before .before .before .before .before) _ _ (c .before .if2 .left) (c .few-rank2 .ensures)

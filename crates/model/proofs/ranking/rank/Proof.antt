@@ -4,7 +4,6 @@ use Prim.Native.Nat.{ℕ, _-_, _≤_, _<_, min}
 use native.Mathlib.Nat.{min-eq-left}
 use native.Mathlib.Omega.{arith}
 use lib.IntN.{pos}
-use lib.ListN.{length}
 use lib.Seq.{length-take-le}
 use Rattle.residuals.proofs.Sizes.{power-of}
 use Rattle.whole.proofs.Laws.{cast-asks}
@@ -50,7 +49,8 @@ loop-holds : tie.Need-loop-holds Inv-loop μ-loop
 loop-holds c = (omega arith, none-kept _ _ _ _ _ _)
 
 cast-decode-chunk : tie.Need-cast-decode-chunk Inv-loop μ-loop
-cast-decode-chunk c = let p = c .before .before in record { fits = omega (arith, c .before .loop-test .taken, p .before .chunk-count .ensures) }
+cast-decode-chunk c =
+    let p = c .before .before in record { fits = omega (arith, c .before .loop-test .taken, p .before .chunk-count .ensures) }
 
 decode-chunk-requires : tie.Need-decode-chunk-requires Inv-loop μ-loop
 decode-chunk-requires c κs = search needs
@@ -90,16 +90,19 @@ loop-again c =
     let power = power-of (m .scale) (two .before .before .power .result) (s .pre .scaled) (two .before .before .power .ensures) in
     let decodes = c .before .before .before .before .before .decode-chunk in (
       omega (arith, turn .loop-test .taken),
-      one-kept (s .args .store .now) m (s .args .over) (two .before .coordinates .result) (two .coordinates2 .result) (p .loop .sizes) (p .loop .t)
+      one-kept (s .args .store .now) m (s .args .over) (two .before .coordinates .result) (two .coordinates2 .result) (p .loop .sizes)
+          (p .loop .t)
           (p .loop .inv .1) (decodes .last .0) (c .lessen-all .last .0) (inside turn)
-          (subst (λ (n : ℕ). ChunkOf (s .args .store .now) (p .loop .t) (m .d) n (decodes .last .0)) power (decodes .ensures .0)) (c .lessen-all .ensures),
+          (subst (λ (n : ℕ). ChunkOf (s .args .store .now) (p .loop .t) (m .d) n (decodes .last .0)) power (decodes .ensures .0))
+          (c .lessen-all .ensures),
     )
 
 array-share-prefix-sizes : tie.Need-array-share-prefix-sizes Inv-loop μ-loop
 array-share-prefix-sizes c = omega (arith, c .before .loop .inv .1 .sized .long, c .before .before .chunk-count .ensures)
 
 slice-aggregate-nth-largest : tie.Need-slice-aggregate-nth-largest Inv-loop μ-loop
-slice-aggregate-nth-largest c = sym (length-take-le _ _ (omega (arith, c .before .before .loop .inv .1 .sized .long, c .before .before .before .chunk-count .ensures)))
+slice-aggregate-nth-largest c =
+    sym (length-take-le _ _ (omega (arith, c .before .before .loop .inv .1 .sized .long, c .before .before .before .chunk-count .ensures)))
 
 nth-largest-requires : tie.Need-nth-largest-requires Inv-loop μ-loop
 nth-largest-requires c κs = search needs
@@ -130,7 +133,8 @@ returns c =
     let e =
     rank-in store (s .pre) (a .low) (a .high) (kept .lanes) from to (one .0) (other .0) (one .1) (other .1) (a .over) 18446744073709551615 r
     (c .nth-largest .ensures
-    ∙ kept-selected (a .over) (a .m) (kept .lanes) from to (p .loop .sizes) n (omega (arith, kept .sized .long, p .before .chunk-count .ensures))
+    ∙ kept-selected (a .over) (a .m) (kept .lanes) from to (p .loop .sizes) n
+    (omega (arith, kept .sized .long, p .before .chunk-count .ensures))
     (λ i h. kept .sized .sizes i (omega (arith, ended))) (a .m .eps) limit
     ∙ ap (λ (k : ℕ). selected (exceedingBy (a .over) (kept .lanes) from to (a .m) k) (a .m .eps) limit) (all ∙ sym (decoded .all)))
     in

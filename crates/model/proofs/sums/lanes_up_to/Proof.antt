@@ -34,8 +34,10 @@ abbrev count : tie.After-chunk-count Inv-loop μ-loop → ℕ
 count c = let a = c .before .before .before .before .args in decodedChunks (a .store .now) (a .lanes .now)
 
 -- what is returned of them
-answer : (c : tie.After-chunk-count Inv-loop μ-loop) (r : ℕ) → r ≡ min (sumOf (losses c) (count c)) (c .before .before .before .before .args .cap)
-    → let a = c .before .before .before .before .args in SumIn (a .over) (a .store .now) (a .lanes .now) (a .m) (a .low) (a .high) (a .cap) r
+answer : (c : tie.After-chunk-count Inv-loop μ-loop) (r : ℕ)
+    → r ≡ min (sumOf (losses c) (count c)) (c .before .before .before .before .args .cap)
+    → let a = c .before .before .before .before .args in SumIn (a .over) (a .store .now) (a .lanes .now) (a .m) (a .low) (a .high) (a .cap)
+    r
 answer c r e =
     let s = c .before .before .before .before in
     let a = s .args in
@@ -61,7 +63,8 @@ returns c =
     let p = c .before .before in
     let few : p .loop .t ≤ count (p .before) = omega (arith, p .loop .inv .0, p .before .chunk-count .ensures) in
     let cap = p .before .before .before .before .before .args .cap in
-    answer (p .before) cap (cap-stays (losses (p .before)) (p .loop .t) (count (p .before)) cap few (omega (arith, c .if1 .taken, p .loop .inv .2)))
+    answer (p .before) cap (cap-stays (losses (p .before)) (p .loop .t) (count (p .before)) cap few
+    (omega (arith, c .if1 .taken, p .loop .inv .2)))
 
 mul-chunk-loss : tie.Need-mul-chunk-loss Inv-loop μ-loop
 mul-chunk-loss c = search needs

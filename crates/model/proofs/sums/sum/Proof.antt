@@ -21,7 +21,8 @@ use Rattle.scale.proofs.power.Reads as power-reads
 
 abbrev Inv-loop : tie.InvT-loop
 Inv-loop store m over power from to chunk₀ count total₀ t₀ chunk total t =
-    (t ≤ count) × (total ≤ t * 36028797018963968) × ((low high : List ℤ) → Doubles low from → Doubles high to → Through over m store low high t total)
+    (t ≤ count) × (total ≤ t * 36028797018963968)
+    × ((low high : List ℤ) → Doubles low from → Doubles high to → Through over m store low high t total)
 
 abbrev μ-loop : tie.MeasureT-loop
 μ-loop store m over power from to chunk₀ count total₀ t₀ chunk total t = count - t
@@ -44,7 +45,8 @@ loop-holds c =
     (omega arith, omega arith, λ low high l h. none-through (a .over) (a .m) (a .store .now) low high)
 
 cast-decode-chunk : tie.Need-cast-decode-chunk Inv-loop μ-loop
-cast-decode-chunk c = let p = c .before .before in record { fits = omega (arith, c .before .loop-test .taken, p .before .chunk-count .ensures) }
+cast-decode-chunk c =
+    let p = c .before .before in record { fits = omega (arith, c .before .loop-test .taken, p .before .chunk-count .ensures) }
 
 decode-chunk-requires : tie.Need-decode-chunk-requires Inv-loop μ-loop
 decode-chunk-requires c κs = search needs
@@ -55,7 +57,16 @@ chunk-loss-requires c κs = search needs
 add-total : tie.Need-add-total Inv-loop μ-loop
 add-total c =
     let p = c .before .before .before .before .before .before .before in
-    record { fits = omega (arith, p .loop .inv .1, c .before .before .before .before .before .before .loop-test .taken, p .before .chunk-count .ensures, c .chunk-loss .ensures .1) }
+    record {
+      fits = omega (
+        arith,
+        p .loop .inv .1,
+        c .before .before .before .before .before .before .loop-test .taken,
+        p .before
+            .chunk-count .ensures,
+        c .chunk-loss .ensures .1,
+      );
+    }
 
 add-t : tie.Need-add-t Inv-loop μ-loop
 add-t c = search needs
@@ -74,7 +85,8 @@ loop-again c =
       omega arith,
       omega (arith, p .loop .inv .1, c .chunk-loss .ensures .1),
       λ low high l h.
-          one-through (s .pre) (s .args .store .now) low high (two .before .coordinates .result) (two .coordinates2 .result) l h (s .args .over)
+          one-through (s .pre) (s .args .store .now) low high (two .before .coordinates .result) (two .coordinates2 .result) l h
+          (s .args .over)
           power (c .before .before .before .before .decode-chunk .ensures .0) (c .chunk-loss .ensures .0) (p .loop .inv .2 low high l h),
     )
 

@@ -18,7 +18,8 @@ returns-2 : tie.Need-returns-2
 returns-2 c =
     let s = c .before .before .before .before in
     let a = s .args in
-    by-sum (a .m) (a .low) (a .high) (a .over) (a .store .now) (a .lanes .now) (a .cap) _ (s .pre) (sum-kind (s .pre .kind) (c .before .if1 .left)) (c .lanes-up-to .ensures)
+    by-sum (a .m) (a .low) (a .high) (a .over) (a .store .now) (a .lanes .now) (a .cap) _ (s .pre)
+    (sum-kind (s .pre .kind) (c .before .if1 .left)) (c .lanes-up-to .ensures)
 
 pub up-to-spec : {M : Type 1} → statement M
 up-to-spec = tie.close (tie.spec lanes-rank-requires returns lanes-up-to-requires returns-2)

@@ -15,7 +15,8 @@ returns : tie.Need-returns
 returns c =
     let a = c .before .before .before .before .before .args in
     c .rank .ensures
-    ∙ ap (λ (over : Bool). nthLargest (a .m .eps) (leastSizes over (a .m) (a .low) (a .high) (pointsOf (a .store .now)))) (sym (c .before .if2 .taken))
+    ∙ ap (λ (over : Bool). nthLargest (a .m .eps) (leastSizes over (a .m) (a .low) (a .high) (pointsOf (a .store .now))))
+    (sym (c .before .if2 .taken))
     ∙ sym (value-rank (a .m) (a .low) (a .high) (a .over) (pointsOf (a .store .now)) (c .before .before .if1 .taken))
 
 rank-requires-2 : tie.Need-rank-requires-2
@@ -25,7 +26,8 @@ returns-2 : tie.Need-returns-2
 returns-2 c =
     let a = c .before .before .before .before .before .args in
     c .rank2 .ensures
-    ∙ ap (λ (over : Bool). nthLargest (a .m .eps) (leastSizes over (a .m) (a .low) (a .high) (pointsOf (a .store .now)))) (sym (c .before .if2 .left))
+    ∙ ap (λ (over : Bool). nthLargest (a .m .eps) (leastSizes over (a .m) (a .low) (a .high) (pointsOf (a .store .now))))
+    (sym (c .before .if2 .left))
     ∙ sym (value-rank (a .m) (a .low) (a .high) (a .over) (pointsOf (a .store .now)) (c .before .before .if1 .taken))
 
 sum-requires : tie.Need-sum-requires
@@ -35,7 +37,8 @@ returns-3 : tie.Need-returns-3
 returns-3 c =
     let s = c .before .before .before .before in
     let a = s .args in
-    c .sum .ensures ∙ sym (value-sum (a .m) (a .low) (a .high) (a .over) (pointsOf (a .store .now)) (sum-kind (s .pre .kind) (c .before .if1 .left)))
+    c .sum .ensures ∙ sym (value-sum (a .m) (a .low) (a .high) (a .over) (pointsOf (a .store .now))
+    (sum-kind (s .pre .kind) (c .before .if1 .left)))
 
 pub whole-spec : {M : Type 1} → statement M
 whole-spec = tie.close (tie.spec rank-requires returns rank-requires-2 returns-2 sum-requires returns-3)

@@ -19,7 +19,8 @@ use Rattle.points.proofs.stray.first_stray.Statement.{statement}
 use Rattle.points.proofs.stray.first_stray.Tie as tie
 
 abbrev Inv-loop : tie.InvT-loop
-Inv-loop store d first found₀ i k₀ i-end found k = (found ≡ Pass) × (allZero (drop d (xs (pointAt store i))) ≡ allZero (drop (max d k) (xs (pointAt store i))))
+Inv-loop store d first found₀ i k₀ i-end found k =
+    (found ≡ Pass) × (allZero (drop d (xs (pointAt store i))) ≡ allZero (drop (max d k) (xs (pointAt store i))))
 
 abbrev μ-loop : tie.MeasureT-loop
 μ-loop store d first found₀ i k₀ i-end found k = 4 - k
@@ -64,7 +65,8 @@ either (inl a) f g = f a
 either (inr b) f g = g b
 
 -- where field k is 0 or is used, those behind it decide
-further : (l : List ℤ) (d k : ℕ) → k < length l → (d ≤ k → natAbs (getD l k (pos 0)) ≡ 0) → allZero (drop (max d k) l) ≡ allZero (drop (max d (k + 1)) l)
+further : (l : List ℤ) (d k : ℕ) → k < length l → (d ≤ k → natAbs (getD l k (pos 0)) ≡ 0)
+    → allZero (drop (max d k) l) ≡ allZero (drop (max d (k + 1)) l)
 further l d k h e =
     ⊎-elim
     (λ (u : d ≤ k).
@@ -121,9 +123,13 @@ returns-2 c =
     let h : l .loop .k < 4 = search needs in
     let q = xs (pointAt (a .store .now) (r .records .i)) in
     let here : max (a .d) (l .loop .k) ≡ l .loop .k = omega (arith, c .before .before .if1 .taken) in
-    let e = l .loop .inv .1 ∙ ap (λ (n : ℕ). allZero (drop n q)) here ∙ zero-none q (l .loop .k) h (λ z. c .if2 .taken (c .before .unsigned-at .ensures ∙ zero-x (a .store .now) (r .records .i) (l .loop .k) h z)) in
+    let e =
+    l .loop .inv .1 ∙ ap (λ (n : ℕ). allZero (drop n q)) here
+    ∙ zero-none q (l .loop .k) h (λ z. c .if2 .taken
+    (c .before .unsigned-at .ensures ∙ zero-x (a .store .now) (r .records .i) (l .loop .k) h z)) in
     let more : r .records .i + 1 ≤ length (a .store .now) / 12 = omega arith in
-    sym (stray-stays (a .d) (a .store .now) (Stray (r .records .i)) more (stray-found (a .d) (a .store .now) (r .records .i) (r .records .inv .2) e))
+    sym (stray-stays (a .d) (a .store .now) (Stray (r .records .i)) more
+    (stray-found (a .d) (a .store .now) (r .records .i) (r .records .inv .2) e))
 
 pub first-stray-spec : {M : Type 1} → statement M
 first-stray-spec =

@@ -53,7 +53,8 @@ returns c =
     let second = c .before .before .pair-at2 .ensures in
     let third = c .before .pair-at3 .ensures in
     let fourth = c .pair-at4 .ensures in
-    joined-clear (start .args .store .now) (start .args .i) (first .0, second .0, third .0, fourth .0) (first .1) (second .1) (third .1) (fourth .1)
+    joined-clear (start .args .store .now) (start .args .i) (first .0, second .0, third .0, fourth .0) (first .1) (second .1) (third .1)
+    (fourth .1)
 
 pub joined-at-spec : {M : Type 1} → statement M
 joined-at-spec =

@@ -15,7 +15,8 @@ use Rattle.points.proofs.stray.none_stray.Statement.{statement}
 use Rattle.points.proofs.stray.none_stray.Tie as tie
 
 abbrev Inv-loop : tie.InvT-loop
-Inv-loop store d all₀ others₀ i₀ i-end all others i = (i ≤ length store / 12) × (all < 2 ^ (d * 16) → others < 2 ^ (d * 16) → strayFrom d 0 (firstPoints store i) ≡ Pass)
+Inv-loop store d all₀ others₀ i₀ i-end all others i =
+    (i ≤ length store / 12) × (all < 2 ^ (d * 16) → others < 2 ^ (d * 16) → strayFrom d 0 (firstPoints store i) ≡ Pass)
 
 abbrev μ-loop : tie.MeasureT-loop
 μ-loop store d all₀ others₀ i₀ i-end all others i = length store / 12 - i
@@ -60,7 +61,8 @@ returns c e =
     let m = l .loop .others in
     let small = shifted-out (bitOr n m) (2 ^ (a .d * 16)) (pow-pos (a .d * 16)) (eqb-true _ 0 e) in
     let last : length (a .store .now) / 12 ≡ l .loop .i = omega (arith, l .loop .inv .0, c .loop-test .left) in
-    ap (λ (k : ℕ). strayFrom (a .d) 0 (firstPoints (a .store .now) k)) last ∙ l .loop .inv .1 (left-joined n m small) (right-joined n m small)
+    ap (λ (k : ℕ). strayFrom (a .d) 0 (firstPoints (a .store .now) k)) last
+    ∙ l .loop .inv .1 (left-joined n m small) (right-joined n m small)
 
 pub none-stray-spec : {M : Type 1} → statement M
 none-stray-spec =

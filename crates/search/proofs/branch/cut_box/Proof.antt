@@ -76,13 +76,15 @@ module _ (s : tie.Start) where
 marked : (c : tie.After-mark-of) → let s = start (c .before) in c .mark-of .result ≡ markOf (s .args .t) (bestOf (C s) (v s))
 marked c = let s = start (c .before) in c .mark-of .ensures ∙ ap (markOf (s .args .t)) (s .pre .1)
 
-left-tested : (c : tie.After-tested-both) → let s = start (c .before .before) in Before s (leftHalf (s .args .b)) (c .tested-both .result .left)
+left-tested : (c : tie.After-tested-both)
+    → let s = start (c .before .before) in Before s (leftHalf (s .args .b)) (c .tested-both .result .left)
 left-tested c =
     let low = c .before .before in
     let here = ap (λ (h : Halves). h .left) (halves low) in
     same-tested (B (start low)) (c .tested-both .result .left) (marked (c .before)) here (c .tested-both .ensures .0)
 
-right-tested : (c : tie.After-tested-both) → let s = start (c .before .before) in Before s (rightHalf (s .args .b)) (c .tested-both .result .right)
+right-tested : (c : tie.After-tested-both)
+    → let s = start (c .before .before) in Before s (rightHalf (s .args .b)) (c .tested-both .result .right)
 right-tested c =
     let low = c .before .before in
     let here = ap (λ (h : Halves). h .right) (halves low) in

@@ -17,8 +17,11 @@ returns c = c .tried .ensures
 
 returns-2 : tie.Need-returns-2
 returns-2 c =
-    let s = c .before .before in
-    (s .pre .1 ∙ ap (λ (v : List ℤ). bestOf (cost (s .args .m) (pointsOf (s .args .store .now))) v) (sym (s .pre .3 (c .if1 .left))), s .pre .2)
+    let s = c .before .before in (
+      s .pre .1 ∙ ap (λ (v : List ℤ). bestOf (cost (s .args .m) (pointsOf (s .args .store .now))) v) (sym (s .pre .3 (c .if1 .left))),
+      s .pre
+          .2,
+    )
 
 pub tried-if-spec : {M : Type 1} → statement M
 tried-if-spec = tie.close (tie.spec tried-requires returns returns-2)

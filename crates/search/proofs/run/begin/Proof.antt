@@ -57,8 +57,10 @@ returns c =
     let child = tests .tested .result in
     let whole : Whole (child .half) = rw (tests .tested .ensures .half) (domain-whole start) in
     rw (adds .ensures .0, adds .ensures .1 .0, adds .ensures .1 .1)
-    (begun (cost (a .m) (pointsOf (a .store .now))) (bound (a .m) (pointsOf (a .store .now))) (a .t) (a .start) (a .domain) (a .late .now) (a .beside .now)
-    (costs .cost-in .result) child (exact costs) (fits costs) (rw (marks .mark-of .ensures) at (tests .tested .ensures)) (start .pre .1, start .pre .2) whole)
+    (begun (cost (a .m) (pointsOf (a .store .now))) (bound (a .m) (pointsOf (a .store .now))) (a .t) (a .start) (a .domain) (a .late .now)
+    (a .beside .now)
+    (costs .cost-in .result) child (exact costs) (fits costs) (rw (marks .mark-of .ensures) at (tests .tested .ensures))
+    (start .pre .1, start .pre .2) whole)
 
 pub begin-spec : {M : Type 1} → statement M
 begin-spec =

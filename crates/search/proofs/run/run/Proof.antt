@@ -29,28 +29,46 @@ answer-requires : tie.Need-answer-requires
 answer-requires c κs = search needs
 
 done : (c : tie.After-answer) →
-    let a = c .before .before .before .before .before .before .before .before .before .before .before .before .before .before .before .before .before .before .before .before .before .before .before .before .before .before .before .before .before .before .before .args in
-    Ran (bound (a .job .model) (pointsOf (a .store .now))) (searched (a .store .now) (a .job) (rowCount (a .table .now))) (a .table .now) (a .bounds .now)
+    let a =
+    c .before .before .before .before .before .before .before .before .before .before .before .before .before .before .before .before
+    .before .before .before .before .before .before .before .before .before .before .before .before .before .before .before .args in
+    Ran (bound (a .job .model) (pointsOf (a .store .now))) (searched (a .store .now) (a .job) (rowCount (a .table .now))) (a .table .now)
+    (a .bounds .now)
     (c .answer .result) (c .before .before .before .before .settle .last .0) (c .before .before .before .before .settle .last .1 .0)
 done c =
-    let a = c .before .before .before .before .before .before .before .before .before .before .before .before .before .before .before .before .before .before .before .before .before .before .before .before .before .before .before .before .before .before .before .args in
-    let t = c .before .before .before .before .before .before .before .before .before .before .before .before .before .before .before .before .before .before .before .before .before .steps in
+    let a =
+    c .before .before .before .before .before .before .before .before .before .before .before .before .before .before .before .before
+    .before .before .before .before .before .before .before .before .before .before .before .before .before .before .before .args in
+    let t =
+    c .before .before .before .before .before .before .before .before .before .before .before .before .before .before .before .before
+    .before .before .before .before .before .steps in
     let m = c .before .before .before .before .settle in
     let settled = rw (c .before .before .before .before .before .mark-of .ensures) at (m .ensures) in
-    ran (bound (a .job .model) (pointsOf (a .store .now))) (a .job .t) (searched (a .store .now) (a .job) (rowCount (a .table .now))) (a .table .now) (a .bounds .now)
-    (t .result) (t .last .1 .1 .1 .0) (t .last .1 .1 .1 .1 .0) (t .last .1 .1 .1 .1 .1 .0) (t .last .1 .1 .1 .1 .1 .1 .0) (t .last .1 .1 .1 .1 .1 .1 .1 .0) (t .last .1 .1 .1 .1 .1 .1 .1 .1 .0) (t .ensures)
+    ran (bound (a .job .model) (pointsOf (a .store .now))) (a .job .t) (searched (a .store .now) (a .job) (rowCount (a .table .now)))
+    (a .table .now) (a .bounds .now)
+    (t .result) (t .last .1 .1 .1 .0) (t .last .1 .1 .1 .1 .0) (t .last .1 .1 .1 .1 .1 .0) (t .last .1 .1 .1 .1 .1 .1 .0)
+    (t .last .1 .1 .1 .1 .1 .1 .1 .0) (t .last .1 .1 .1 .1 .1 .1 .1 .1 .0) (t .ensures)
     (m .result) (m .last .0) (m .last .1 .0) (m .last .1 .1 .0) (m .last .1 .1 .1 .0) settled (c .answer .result) (c .answer .ensures)
 
 same-late : (c : tie.After-answer) →
-    let a = c .before .before .before .before .before .before .before .before .before .before .before .before .before .before .before .before .before .before .before .before .before .before .before .before .before .before .before .before .before .before .before .args in
-    let t = c .before .before .before .before .before .before .before .before .before .before .before .before .before .before .before .before .before .before .before .before .before .steps in
-    (length (t .last .1 .1 .1 .1 .1 .1 .1 .0) ≡ length (a .late .now)) × (length (t .last .1 .1 .1 .1 .1 .1 .1 .1 .0) ≡ length (a .beside .now))
+    let a =
+    c .before .before .before .before .before .before .before .before .before .before .before .before .before .before .before .before
+    .before .before .before .before .before .before .before .before .before .before .before .before .before .before .before .args in
+    let t =
+    c .before .before .before .before .before .before .before .before .before .before .before .before .before .before .before .before
+    .before .before .before .before .before .steps in
+    (length (t .last .1 .1 .1 .1 .1 .1 .1 .0) ≡ length (a .late .now))
+    × (length (t .last .1 .1 .1 .1 .1 .1 .1 .1 .0) ≡ length (a .beside .now))
 same-late c =
-    let s = c .before .before .before .before .before .before .before .before .before .before .before .before .before .before .before .before .before .before .before .before .before .before .before .before .before .before .before .before .before .before .before in
+    let s =
+    c .before .before .before .before .before .before .before .before .before .before .before .before .before .before .before .before
+    .before .before .before .before .before .before .before .before .before .before .before .before .before .before .before in
     let zeros : List ℕ = replicate 64 0 in
     let long = length-replicate {A = ℕ} 64 0 in
     let first = s .pre .1 .stands (s .args .table .now) (s .args .bounds .now) zeros zeros long long .late in
-    let last = c .before .before .before .before .before .before .before .before .before .before .before .before .before .before .before .before .before .before .before .before .before .steps .ensures .late in
+    let last =
+    c .before .before .before .before .before .before .before .before .before .before .before .before .before .before .before .before
+    .before .before .before .before .before .steps .ensures .late in
     (last .0 ∙ sym (first .0), last .1 ∙ sym (first .1))
 
 same-length : tie.Need-same-length

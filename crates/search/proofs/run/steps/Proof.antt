@@ -16,7 +16,8 @@ use Rattle.listing.specs.declared.Found.{Found}
 use Rattle.search.specs.declared.step.State.{State}
 use Rattle.search.specs.Search.{searched}
 use Rattle.search.specs.Inside.{LateLong}
-use Rattle.search.proofs.Going.{Run, Ready, Going, going-begins, low-le, going-solved, going-spent, going-steppable, going-full, going-on, going-counts}
+use Rattle.search.proofs.Going.{Run, Ready, Going, going-begins, low-le, going-solved, going-spent, going-steppable, going-full}
+use Rattle.search.proofs.Going.{going-on, going-counts}
 use borrow.Author.Needs.{needs}
 use Rattle.search.proofs.run.steps.Statement.{statement}
 use Rattle.search.proofs.run.steps.Tie as tie
@@ -82,7 +83,8 @@ module _ (c : tie.After-lowest Inv-loop μ-loop) where
   abbrev gap : ℕ
   gap = s .best .cost - low .spot .bound
 
-  still-late : (length (turn .loop .late) ≡ length (begun .args .late .now)) × (length (turn .loop .beside) ≡ length (begun .args .beside .now))
+  still-late : (length (turn .loop .late) ≡ length (begun .args .late .now))
+      × (length (turn .loop .beside) ≡ length (begun .args .beside .now))
   still-late =
       let late = turn .loop .inv .stands .late in
       (late .0 ∙ sym (late-long begun .0), late .1 ∙ sym (late-long begun .1))
@@ -100,7 +102,10 @@ left : (c : tie.Else2 Inv-loop μ-loop) → s (lows (c .before)) .count ≡ j (l
 left c = eqb-false (s (lows (c .before)) .count) (j (lows (c .before)) .budget) (c .if2 .left)
 
 loop-holds : tie.Need-loop-holds Inv-loop μ-loop
-loop-holds c = let s = c .before .before .before .before in going-begins (run s) (s .args .first) (s .args .leasts .now) (s .args .places .now) (s .args .late .now) (s .args .beside .now) (s .pre .0 .4) (s .pre .0 .5) (s .pre .1)
+loop-holds c =
+    let s = c .before .before .before .before in
+    going-begins (run s) (s .args .first) (s .args .leasts .now) (s .args .places .now) (s .args .late .now) (s .args .beside .now)
+    (s .pre .0 .4) (s .pre .0 .5) (s .pre .1)
 
 lowest-requires : tie.Need-lowest-requires Inv-loop μ-loop
 lowest-requires c κs = search needs
@@ -109,7 +114,8 @@ sub-is-solved : tie.Need-sub-is-solved Inv-loop μ-loop
 sub-is-solved c =
     let o = c .before .before in
     let l = turn o in
-    low-le (run (begun o)) (ready (begun o)) (s o) (l .loop .table) (l .loop .bounds) (l .loop .leasts) (l .loop .places) (l .loop .late) (l .loop .beside) (l .loop .inv) (low o) (o .lowest .ensures)
+    low-le (run (begun o)) (ready (begun o)) (s o) (l .loop .table) (l .loop .bounds) (l .loop .leasts) (l .loop .places) (l .loop .late)
+    (l .loop .beside) (l .loop .inv) (low o) (o .lowest .ensures)
 
 is-solved-requires : tie.Need-is-solved-requires Inv-loop μ-loop
 is-solved-requires c κs = search needs
@@ -134,7 +140,9 @@ unfolding searched
 returns c =
     let o = c .before .before .before .before .before .before .before in
     let l = turn o in
-    rw (c .ended .ensures) (going-solved (run (begun o)) (ready (begun o)) (s o) (l .loop .table) (l .loop .bounds) (l .loop .leasts) (l .loop .places) (l .loop .late) (l .loop .beside) (l .loop .inv) (low o) (o .lowest .ensures) (sym (c .before .before .before .before .is-solved .ensures) ∙ c .before .if1 .taken))
+    rw (c .ended .ensures) (going-solved (run (begun o)) (ready (begun o)) (s o) (l .loop .table) (l .loop .bounds) (l .loop .leasts)
+    (l .loop .places) (l .loop .late) (l .loop .beside) (l .loop .inv) (low o) (o .lowest .ensures)
+    (sym (c .before .before .before .before .is-solved .ensures) ∙ c .before .if1 .taken))
 
 ended-requires-2 : tie.Need-ended-requires-2 Inv-loop μ-loop
 ended-requires-2 c κs = search needs
@@ -157,7 +165,8 @@ returns-2 c =
     let o = lows (c .before .before) in
     let l = turn o in
     rw (c .ended2 .ensures)
-    (going-spent (run (begun o)) (ready (begun o)) (s o) (l .loop .table) (l .loop .bounds) (l .loop .leasts) (l .loop .places) (l .loop .late) (l .loop .beside) (l .loop .inv) (low o) (o .lowest .ensures) (unsolved (c .before .before))
+    (going-spent (run (begun o)) (ready (begun o)) (s o) (l .loop .table) (l .loop .bounds) (l .loop .leasts) (l .loop .places)
+    (l .loop .late) (l .loop .beside) (l .loop .inv) (low o) (o .lowest .ensures) (unsolved (c .before .before))
     (eqb-true (s o .count) (j o .budget) (c .before .if2 .taken)))
 
 step-requires : tie.Need-step-requires Inv-loop μ-loop
@@ -166,23 +175,37 @@ step-requires c κs =
     let o = lows (two .before) in
     let l = turn o in (
       begun o .pre .0 .0,
-      going-steppable (run (begun o)) (ready (begun o)) (s o) (l .loop .table) (l .loop .bounds) (l .loop .leasts) (l .loop .places) (l .loop .late) (l .loop .beside) (l .loop .inv) (low o) (o .lowest .ensures) (unsolved (two .before)) (left two) (search (needs, begun o .good .1 .1 .0)),
+      going-steppable (run (begun o)) (ready (begun o)) (s o) (l .loop .table) (l .loop .bounds) (l .loop .leasts) (l .loop .places)
+          (l .loop .late) (l .loop .beside) (l .loop .inv) (low o) (o .lowest .ensures) (unsolved (two .before)) (left two)
+          (search (needs, begun o .good .1 .1 .0)),
     )
 
 ended-requires-3 : tie.Need-ended-requires-3 Inv-loop μ-loop
 ended-requires-3 c κs = search needs
 
 same-length-9 : tie.Need-same-length-9 Inv-loop μ-loop
-same-length-9 c = let q = c .before .before .before .before .before .before .before .before in ap length (q .step .ensures .kept (c .before .if3 .taken) .0) ∙ turn (lows (q .before .before .before .before .before .before .before .before)) .loop .inv .within .long
+same-length-9 c =
+    let q = c .before .before .before .before .before .before .before .before in
+    ap length (q .step .ensures .kept (c .before .if3 .taken) .0)
+    ∙ turn (lows (q .before .before .before .before .before .before .before .before)) .loop .inv .within .long
 
 same-length-10 : tie.Need-same-length-10 Inv-loop μ-loop
-same-length-10 c = let q = c .before .before .before .before .before .before .before .before in ap length (q .step .ensures .kept (c .before .if3 .taken) .1) ∙ turn (lows (q .before .before .before .before .before .before .before .before)) .loop .inv .within .long-entries
+same-length-10 c =
+    let q = c .before .before .before .before .before .before .before .before in
+    ap length (q .step .ensures .kept (c .before .if3 .taken) .1)
+    ∙ turn (lows (q .before .before .before .before .before .before .before .before)) .loop .inv .within .long-entries
 
 same-length-11 : tie.Need-same-length-11 Inv-loop μ-loop
-same-length-11 c = let q = c .before .before .before .before .before .before .before .before in ap length (q .step .ensures .kept (c .before .if3 .taken) .4) ∙ still-late (lows (q .before .before .before .before .before .before .before .before)) .0
+same-length-11 c =
+    let q = c .before .before .before .before .before .before .before .before in
+    ap length (q .step .ensures .kept (c .before .if3 .taken) .4)
+    ∙ still-late (lows (q .before .before .before .before .before .before .before .before)) .0
 
 same-length-12 : tie.Need-same-length-12 Inv-loop μ-loop
-same-length-12 c = let q = c .before .before .before .before .before .before .before .before in ap length (q .step .ensures .kept (c .before .if3 .taken) .5) ∙ still-late (lows (q .before .before .before .before .before .before .before .before)) .1
+same-length-12 c =
+    let q = c .before .before .before .before .before .before .before .before in
+    ap length (q .step .ensures .kept (c .before .if3 .taken) .5)
+    ∙ still-late (lows (q .before .before .before .before .before .before .before .before)) .1
 
 returns-3 : tie.Need-returns-3 Inv-loop μ-loop
 unfolding searched
@@ -192,7 +215,10 @@ returns-3 c =
     let o = lows (two .before) in
     let l = turn o in
     rw (c .ended3 .ensures)
-    (going-full (run (begun o)) (ready (begun o)) (s o) (l .loop .table) (l .loop .bounds) (l .loop .leasts) (l .loop .places) (l .loop .late) (l .loop .beside) (l .loop .inv) (low o) (o .lowest .ensures) (unsolved (two .before)) (left two) (q .step .result) (q .step .last .1 .1 .1 .1 .0) (q .step .last .1 .1 .1 .1 .1 .0) (q .step .last .1 .1 .1 .1 .1 .1 .0) (q .step .last .1 .1 .1 .1 .1 .1 .1 .0) (q .step .last .1 .1 .1 .1 .1 .1 .1 .1 .0) (q .step .last .1 .1 .1 .1 .1 .1 .1 .1 .1 .0)
+    (going-full (run (begun o)) (ready (begun o)) (s o) (l .loop .table) (l .loop .bounds) (l .loop .leasts) (l .loop .places)
+    (l .loop .late) (l .loop .beside) (l .loop .inv) (low o) (o .lowest .ensures) (unsolved (two .before)) (left two) (q .step .result)
+    (q .step .last .1 .1 .1 .1 .0) (q .step .last .1 .1 .1 .1 .1 .0) (q .step .last .1 .1 .1 .1 .1 .1 .0)
+    (q .step .last .1 .1 .1 .1 .1 .1 .1 .0) (q .step .last .1 .1 .1 .1 .1 .1 .1 .1 .0) (q .step .last .1 .1 .1 .1 .1 .1 .1 .1 .1 .0)
     (q .step .ensures) (c .before .if3 .taken))
 
 loop-less : tie.Need-loop-less Inv-loop μ-loop
@@ -201,7 +227,10 @@ loop-less c =
     let two = q .before .before .before .before .before .before .before in
     let o = lows (two .before) in
     let l = turn o in
-    going-counts (run (begun o)) (ready (begun o)) (s o) (l .loop .table) (l .loop .bounds) (l .loop .leasts) (l .loop .places) (l .loop .late) (l .loop .beside) (l .loop .inv) (low o) (o .lowest .ensures) (unsolved (two .before)) (left two) (q .step .result) (q .step .last .1 .1 .1 .1 .0) (q .step .last .1 .1 .1 .1 .1 .0) (q .step .last .1 .1 .1 .1 .1 .1 .0) (q .step .last .1 .1 .1 .1 .1 .1 .1 .0) (q .step .last .1 .1 .1 .1 .1 .1 .1 .1 .0) (q .step .last .1 .1 .1 .1 .1 .1 .1 .1 .1 .0)
+    going-counts (run (begun o)) (ready (begun o)) (s o) (l .loop .table) (l .loop .bounds) (l .loop .leasts) (l .loop .places)
+    (l .loop .late) (l .loop .beside) (l .loop .inv) (low o) (o .lowest .ensures) (unsolved (two .before)) (left two) (q .step .result)
+    (q .step .last .1 .1 .1 .1 .0) (q .step .last .1 .1 .1 .1 .1 .0) (q .step .last .1 .1 .1 .1 .1 .1 .0)
+    (q .step .last .1 .1 .1 .1 .1 .1 .1 .0) (q .step .last .1 .1 .1 .1 .1 .1 .1 .1 .0) (q .step .last .1 .1 .1 .1 .1 .1 .1 .1 .1 .0)
     (q .step .ensures) (c .before .if3 .left)
 
 loop-again : tie.Need-loop-again Inv-loop μ-loop
@@ -210,7 +239,10 @@ loop-again c =
     let two = q .before .before .before .before .before .before .before in
     let o = lows (two .before) in
     let l = turn o in
-    going-on (run (begun o)) (ready (begun o)) (s o) (l .loop .table) (l .loop .bounds) (l .loop .leasts) (l .loop .places) (l .loop .late) (l .loop .beside) (l .loop .inv) (low o) (o .lowest .ensures) (unsolved (two .before)) (left two) (q .step .result) (q .step .last .1 .1 .1 .1 .0) (q .step .last .1 .1 .1 .1 .1 .0) (q .step .last .1 .1 .1 .1 .1 .1 .0) (q .step .last .1 .1 .1 .1 .1 .1 .1 .0) (q .step .last .1 .1 .1 .1 .1 .1 .1 .1 .0) (q .step .last .1 .1 .1 .1 .1 .1 .1 .1 .1 .0)
+    going-on (run (begun o)) (ready (begun o)) (s o) (l .loop .table) (l .loop .bounds) (l .loop .leasts) (l .loop .places) (l .loop .late)
+    (l .loop .beside) (l .loop .inv) (low o) (o .lowest .ensures) (unsolved (two .before)) (left two) (q .step .result)
+    (q .step .last .1 .1 .1 .1 .0) (q .step .last .1 .1 .1 .1 .1 .0) (q .step .last .1 .1 .1 .1 .1 .1 .0)
+    (q .step .last .1 .1 .1 .1 .1 .1 .1 .0) (q .step .last .1 .1 .1 .1 .1 .1 .1 .1 .0) (q .step .last .1 .1 .1 .1 .1 .1 .1 .1 .1 .0)
     (q .step .ensures) (c .before .if3 .left)
 
 pub steps-spec : {M : Type 1} → statement M

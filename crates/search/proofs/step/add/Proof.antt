@@ -28,7 +28,8 @@ returns c =
     let then = c .before .before .before .before in
     let p = c .before .before .before .before .before .before .before .before .put .ensures in
     let fits = lt-ltb _ _ (c .before .before .before .before .before .before .before .before .before .before .before .before .pre .0) in
-    rw (then .if1 .taken, c .before .nearest .ensures) (refl, (rw (then .if1 .taken, fits) at (p .1 .0), rw (then .if1 .taken, fits) at (p .1 .1)))
+    rw (then .if1 .taken, c .before .nearest .ensures)
+    (refl, (rw (then .if1 .taken, fits) at (p .1 .0), rw (then .if1 .taken, fits) at (p .1 .1)))
 
 same-length-3 : tie.Need-same-length-3
 same-length-3 c = search needs

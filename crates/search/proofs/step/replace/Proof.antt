@@ -8,7 +8,8 @@ use lib.ListN.{length}
 use Rattle.rows.specs.Rows.{rowCount}
 use Rattle.rows.proofs.Rows.{Whole}
 use Rattle.search.specs.Inside.{LateLong}
-use Rattle.search.proofs.Replacing.{late-long, room-late, room-few, room-long, late-more, number-more, row-long, entry-long, replaced}
+use Rattle.search.proofs.Replacing.{late-long, room-late, room-few, room-long, late-more, number-more, row-long, entry-long}
+use Rattle.search.proofs.Replacing.{replaced}
 use borrow.Author.Needs.{needs}
 use Rattle.search.proofs.step.replace.Statement.{statement}
 use Rattle.search.proofs.step.replace.Tie as tie
@@ -19,7 +20,8 @@ module _ (s : tie.Start) where
   left-whole = let left = s .good .1 .1 .1 .1 .1 .1 .1 .1 .1 .1 .0 in record { low = search (needs, left); high = search (needs, left) }
 
   right-whole : Whole (s .args .right .half)
-  right-whole = let right = s .good .1 .1 .1 .1 .1 .1 .1 .1 .1 .1 .1 .0 in record { low = search (needs, right); high = search (needs, right) }
+  right-whole =
+      let right = s .good .1 .1 .1 .1 .1 .1 .1 .1 .1 .1 .1 .0 in record { low = search (needs, right); high = search (needs, right) }
 
 -- once there is room
 module _ (c : tie.After-make-room) where
@@ -33,7 +35,8 @@ module _ (c : tie.After-make-room) where
   long =
       let a = start .args in
       let t = took .take in
-      late-long (a .table .now) (a .bounds .now) (a .leasts .now) (a .places .now) (a .late .now) (a .beside .now) (a .list) (a .found) (a .mark) (a .all) (start .pre .1, start .pre .2) (t .result) (t .last .0) (t .last .1 .0) (t .last .1 .1 .0)
+      late-long (a .table .now) (a .bounds .now) (a .leasts .now) (a .places .now) (a .late .now) (a .beside .now) (a .list) (a .found)
+      (a .mark) (a .all) (start .pre .1, start .pre .2) (t .result) (t .last .0) (t .last .1 .0) (t .last .1 .1 .0)
       (t .last .1 .1 .1 .0) (t .last .1 .1 .1 .1 .0) (t .ensures)
 
   late-few : c .make-room .result .late ≤ 126
@@ -41,27 +44,34 @@ module _ (c : tie.After-make-room) where
       let a = start .args in
       let t = took .take in
       let m = c .make-room in
-      room-late (a .table .now) (a .bounds .now) (a .leasts .now) (a .places .now) (a .late .now) (a .beside .now) (a .list) (a .found) (a .mark) (a .all) (start .pre .1, start .pre .2) (t .result) (t .last .0) (t .last .1 .0) (t .last .1 .1 .0)
-      (t .last .1 .1 .1 .0) (t .last .1 .1 .1 .1 .0) (t .ensures) (m .result) (m .last .0) (m .last .1 .0) (m .last .1 .1 .0) (m .last .1 .1 .1 .0) (m .ensures)
+      room-late (a .table .now) (a .bounds .now) (a .leasts .now) (a .places .now) (a .late .now) (a .beside .now) (a .list) (a .found)
+      (a .mark) (a .all) (start .pre .1, start .pre .2) (t .result) (t .last .0) (t .last .1 .0) (t .last .1 .1 .0)
+      (t .last .1 .1 .1 .0) (t .last .1 .1 .1 .1 .0) (t .ensures) (m .result) (m .last .0) (m .last .1 .0) (m .last .1 .1 .0)
+      (m .last .1 .1 .1 .0) (m .ensures)
 
   few : (c .make-room .result .number ≤ rowCount (start .args .table .now)) × (length (start .args .table .now) < 18446744073709551616)
   few =
       let a = start .args in
       let t = took .take in
       let m = c .make-room in (
-        room-few (a .table .now) (a .bounds .now) (a .leasts .now) (a .places .now) (a .late .now) (a .beside .now) (a .list) (a .found) (a .mark) (a .all) (start .pre .1, start .pre .2) (t .result) (t .last .0) (t .last .1 .0) (t .last .1 .1 .0)
-            (t .last .1 .1 .1 .0) (t .last .1 .1 .1 .1 .0) (t .ensures) (m .result) (m .last .0) (m .last .1 .0) (m .last .1 .1 .0) (m .last .1 .1 .1 .0)
+        room-few (a .table .now) (a .bounds .now) (a .leasts .now) (a .places .now) (a .late .now) (a .beside .now) (a .list) (a .found)
+            (a .mark) (a .all) (start .pre .1, start .pre .2) (t .result) (t .last .0) (t .last .1 .0) (t .last .1 .1 .0)
+            (t .last .1 .1 .1 .0) (t .last .1 .1 .1 .1 .0) (t .ensures) (m .result) (m .last .0) (m .last .1 .0) (m .last .1 .1 .0)
+            (m .last .1 .1 .1 .0)
             (m .ensures) (start .pre .0),
         search (needs, start .good .0),
       )
 
-  made-long : (length (c .make-room .last .0) ≡ length (start .args .table .now)) × (length (c .make-room .last .1 .0) ≡ length (start .args .bounds .now))
+  made-long : (length (c .make-room .last .0) ≡ length (start .args .table .now))
+      × (length (c .make-room .last .1 .0) ≡ length (start .args .bounds .now))
   made-long =
       let a = start .args in
       let t = took .take in
       let m = c .make-room in
-      room-long (a .table .now) (a .bounds .now) (a .leasts .now) (a .places .now) (a .late .now) (a .beside .now) (a .list) (a .found) (a .mark) (a .all) (start .pre .1, start .pre .2) (t .result) (t .last .0) (t .last .1 .0) (t .last .1 .1 .0)
-      (t .last .1 .1 .1 .0) (t .last .1 .1 .1 .1 .0) (t .ensures) (m .result) (m .last .0) (m .last .1 .0) (m .last .1 .1 .0) (m .last .1 .1 .1 .0) (m .ensures)
+      room-long (a .table .now) (a .bounds .now) (a .leasts .now) (a .places .now) (a .late .now) (a .beside .now) (a .list) (a .found)
+      (a .mark) (a .all) (start .pre .1, start .pre .2) (t .result) (t .last .0) (t .last .1 .0) (t .last .1 .1 .0)
+      (t .last .1 .1 .1 .0) (t .last .1 .1 .1 .1 .0) (t .ensures) (m .result) (m .last .0) (m .last .1 .0) (m .last .1 .1 .0)
+      (m .last .1 .1 .1 .0) (m .ensures)
 
 take-requires : tie.Need-take-requires
 take-requires c κs = search needs
@@ -83,7 +93,8 @@ add-requires-2 c κs =
             arith,
             late-few r,
             late-more (r .make-room .result) (child .bound) (child .kept),
-            row-long (took r .take .last .1 .1 .1 .0) (r .make-room .result .late) (child .half) (child .kept) (left-whole (start r)) ∙ long r .0,
+            row-long (took r .take .last .1 .1 .1 .0) (r .make-room .result .late) (child .half) (child .kept) (left-whole (start r))
+                ∙ long r .0,
             entry-long (took r .take .last .1 .1 .1 .1 .0) (r .make-room .result .late) (child .bound) (child .kept) ∙ long r .1,
           )),
       rw (adds .0) (omega (arith, few r, number-more (r .make-room .result) (child .bound) (child .kept))),
@@ -117,13 +128,19 @@ same-length : tie.Need-same-length
 same-length c = search needs
 
 same-length-2 : tie.Need-same-length-2
-same-length-2 c = let r = c .before .before .before .before .before .before .before .before .before .before .before .before .before .before .before in made-long r .1
+same-length-2 c =
+    let r = c .before .before .before .before .before .before .before .before .before .before .before .before .before .before .before in
+    made-long r .1
 
 same-length-3 : tie.Need-same-length-3
-same-length-3 c = both-long c .0 ∙ sym (start (c .before .before .before .before .before .before .before .before .before .before .before .before .before .before .before) .pre .1)
+same-length-3 c =
+    both-long c .0 ∙ sym (start (c .before .before .before .before .before .before .before .before .before .before .before .before .before
+    .before .before) .pre .1)
 
 same-length-4 : tie.Need-same-length-4
-same-length-4 c = both-long c .1 ∙ sym (start (c .before .before .before .before .before .before .before .before .before .before .before .before .before .before .before) .pre .2)
+same-length-4 c =
+    both-long c .1 ∙ sym (start (c .before .before .before .before .before .before .before .before .before .before .before .before .before
+    .before .before) .pre .2)
 
 returns : tie.Need-returns
 returns c bound h =
@@ -134,8 +151,10 @@ returns c bound h =
     let one = c .before .before .before .before .before .before .before .before .before .add .ensures in
     let two = c .before .before .before .add2 .ensures in
     rw (two .0, two .1 .0, two .1 .1, one .0, one .1 .0, one .1 .1)
-    (replaced bound (a .table .now) (a .bounds .now) (a .leasts .now) (a .places .now) (a .late .now) (a .beside .now) (a .list) (a .found) (a .mark) (a .all) (a .left) (a .right) h (start r .pre .1, start r .pre .2) (t .result) (t .last .0)
-    (t .last .1 .0) (t .last .1 .1 .0) (t .last .1 .1 .1 .0) (t .last .1 .1 .1 .1 .0) (t .ensures) (m .result) (m .last .0) (m .last .1 .0) (m .last .1 .1 .0)
+    (replaced bound (a .table .now) (a .bounds .now) (a .leasts .now) (a .places .now) (a .late .now) (a .beside .now) (a .list) (a .found)
+    (a .mark) (a .all) (a .left) (a .right) h (start r .pre .1, start r .pre .2) (t .result) (t .last .0)
+    (t .last .1 .0) (t .last .1 .1 .0) (t .last .1 .1 .1 .0) (t .last .1 .1 .1 .1 .0) (t .ensures) (m .result) (m .last .0) (m .last .1 .0)
+    (m .last .1 .1 .0)
     (m .last .1 .1 .1 .0) (m .ensures) (left-whole (start r)) (right-whole (start r)))
 
 pub replace-spec : {M : Type 1} → statement M

@@ -61,8 +61,11 @@ module _ (c : tie.After-one-if2) where
 
   own-is :
       let a = start cuts .args in
-      c .before .before .kept-itself .result ≡ keptBy (B cuts) (markOf (a .t) (cuts .cut-box .result .best)) (boxIn (a .table .now) (a .late .now) (a .found))
-  own-is = own-kept (B cuts) _ _ _ _ (c .before .before .kept-itself .ensures) (c .before .before .before .before .mark-of .ensures) (cuts .before .before .box-found .ensures) (start cuts .pre .1 .chosen .exact)
+      c .before .before .kept-itself .result
+      ≡ keptBy (B cuts) (markOf (a .t) (cuts .cut-box .result .best)) (boxIn (a .table .now) (a .late .now) (a .found))
+  own-is =
+      own-kept (B cuts) _ _ _ _ (c .before .before .kept-itself .ensures) (c .before .before .before .before .mark-of .ensures)
+      (cuts .before .before .box-found .ensures) (start cuts .pre .1 .chosen .exact)
 
   few : c .before .one-if .result + c .one-if2 .result ≤ 2
   few =
@@ -72,11 +75,13 @@ module _ (c : tie.After-one-if2) where
 told : (c : tie.After-too-many) →
     let q = c .before .before .before .before .before in
     let a = start (cuts q) .args in
-    c .too-many .result ≡ ltb (rowCount (a .table .now)) (length ((split (C (cuts q)) (B (cuts q)) (a .t) (stateIn (a .table .now) (a .bounds .now) (a .late .now) (a .s))) .list))
+    c .too-many .result ≡ ltb (rowCount (a .table .now))
+    (length ((split (C (cuts q)) (B (cuts q)) (a .t) (stateIn (a .table .now) (a .bounds .now) (a .late .now) (a .s))) .list))
 told c =
     let q = c .before .before .before .before .before in
     let a = start (cuts q) .args in
-    step-told (C (cuts q)) (B (cuts q)) (a .t) (a .table .now) (a .bounds .now) (a .leasts .now) (a .places .now) (a .late .now) (a .beside .now) (a .s) (a .found) (start (cuts q) .pre .1)
+    step-told (C (cuts q)) (B (cuts q)) (a .t) (a .table .now) (a .bounds .now) (a .leasts .now) (a .places .now) (a .late .now)
+    (a .beside .now) (a .s) (a .found) (start (cuts q) .pre .1)
     (cuts q .cut-box .result) (made (cuts q)) (all q) (stay q) (q .before .before .kept-itself .result) (own-is q) (c .too-many .result)
     (rw (q .before .before .before .before .mark-of .ensures, q .before .one-if .ensures, q .one-if2 .ensures) at (c .too-many .ensures))
 
@@ -138,7 +143,12 @@ returns : tie.Need-returns
 returns c =
     let r = c .before .before in
     rw (c .no-room .ensures)
-    (record { kept = λ e. (refl, refl, refl, refl, refl, refl); told = sym (c .before .if1 .taken) ∙ told r; moved = λ e. absurd (one-answer e) })
+    (record {
+      kept = λ e. (refl, refl, refl, refl, refl, refl);
+      told = sym (c .before .if1 .taken)
+          ∙ told r;
+      moved = λ e. absurd (one-answer e);
+    })
 
 replace-requires : tie.Need-replace-requires
 replace-requires c κs =
@@ -146,7 +156,12 @@ replace-requires c κs =
     (h .room, h .stands .late .0, h .stands .late .1)
 
 add-t51 : tie.Need-add-t51
-add-t51 c = omega (arith, start (cuts (c .before .before .before .before .before .before .before .before .before .before .before .before .before .before .before .before .before .before .before .before)) .pre .1 .countable)
+add-t51 c =
+    omega (
+      arith,
+      start (cuts (c .before .before .before .before .before .before .before .before .before .before .before .before .before
+          .before .before .before .before .before .before .before)) .pre .1 .countable,
+    )
 
 larger-requires : tie.Need-larger-requires
 larger-requires c κs = search needs
@@ -166,19 +181,27 @@ same-length-8 c = search needs
 returns-2 : tie.Need-returns-2
 returns-2 c =
     let else = c .before .before .before .before .before .before .before .before .before .before .before .before .before .before .before in
-    let q = c .before .before .before .before .before .before .before .before .before .before .before .before .before .before .before .before .before .before .before .before .before in
+    let q =
+    c .before .before .before .before .before .before .before .before .before .before .before .before .before .before .before .before
+    .before .before .before .before .before in
     let r = c .before .before .before .before .before .before .before .before .replace in
     let a = start (cuts q) .args in
     let h = start (cuts q) .pre .1 in
     let br = cuts q .cut-box .result in
     let replaces = rw (q .before .before .before .before .mark-of .ensures) at (r .ensures) in
-    let out = replaces (B (cuts q)) (replaceable (C (cuts q)) (B (cuts q)) (a .t) (a .table .now) (a .bounds .now) (a .leasts .now) (a .places .now) (a .late .now) (a .beside .now) (a .s) (a .found) h br (made (cuts q)) (all q) (stay q)) in
+    let out =
+    replaces (B (cuts q)) (replaceable (C (cuts q)) (B (cuts q)) (a .t) (a .table .now) (a .bounds .now) (a .leasts .now) (a .places .now)
+    (a .late .now) (a .beside .now) (a .s) (a .found) h br (made (cuts q)) (all q) (stay q)) in
     record {
       kept = λ e. absurd (one-answer (sym e));
-      told = sym (else .if1 .left) ∙ told (c .before .before .before .before .before .before .before .before .before .before .before .before .before .before .before .before);
+      told =
+          sym (else .if1 .left) ∙ told (c .before .before .before .before .before .before .before .before .before .before .before .before
+          .before .before .before .before);
       moved = λ e.
-          step-moved (C (cuts q)) (B (cuts q)) (a .t) (a .table .now) (a .bounds .now) (a .leasts .now) (a .places .now) (a .late .now) (a .beside .now) (a .s) (a .found) h br (made (cuts q)) (all q) (stay q)
-          (r .result) (r .last .0) (r .last .1 .0) (r .last .1 .1 .0) (r .last .1 .1 .1 .0) (r .last .1 .1 .1 .1 .0) (r .last .1 .1 .1 .1 .1 .0)
+          step-moved (C (cuts q)) (B (cuts q)) (a .t) (a .table .now) (a .bounds .now) (a .leasts .now) (a .places .now) (a .late .now)
+          (a .beside .now) (a .s) (a .found) h br (made (cuts q)) (all q) (stay q)
+          (r .result) (r .last .0) (r .last .1 .0) (r .last .1 .1 .0) (r .last .1 .1 .1 .0) (r .last .1 .1 .1 .1 .0)
+          (r .last .1 .1 .1 .1 .1 .0)
           out _ (c .larger .result) (omega arith) (omega (arith, c .larger .ensures));
     }
 

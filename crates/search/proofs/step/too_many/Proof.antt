@@ -30,7 +30,8 @@ keeping-requires-2 c κs = search needs
 -- there are no more than rows and late rows
 few : (c : tie.After-keeping2) →
     let a = c .before .before .before .before .before .before .before .args in
-    (c .before .keeping .result + c .keeping2 .result ≤ length (a .table .now) / 16 + 128) × (length (a .table .now) < 18446744073709551616) × (a .more ≤ 2)
+    (c .before .keeping .result + c .keeping2 .result ≤ length (a .table .now) / 16 + 128) × (length (a .table .now) < 18446744073709551616)
+    × (a .more ≤ 2)
 few c =
     let s = c .before .before .before .before .before .before .before in
     let a = s .args in
@@ -54,14 +55,28 @@ one-if-requires : tie.Need-one-if-requires
 one-if-requires c κs = search needs
 
 add-result : tie.Need-add-result
-add-result c = omega (arith, few (c .before), c .one-if .ensures, one-at-most (c .before .before .before .before .before .before .before .before .args .own))
+add-result c =
+    omega (
+      arith,
+      few (c .before),
+      c .one-if .ensures,
+      one-at-most
+          (c .before .before .before .before .before .before .before .before .args .own),
+    )
 
 add-result-2 : tie.Need-add-result-2
 add-result-2 c = omega (arith, few (c .before))
 
 returns-3 : tie.Need-returns-3
 returns-3 c =
-    rw (lt-leb _ _ (c .before .before .before .before .if1 .left), c .before .before .before .if2 .left, c .one-if .ensures, c .before .before .keeping .ensures, c .before .keeping2 .ensures)
+    rw (
+      lt-leb _ _ (c .before .before .before .before .if1 .left),
+      c .before .before .before .if2 .left,
+      c .one-if .ensures,
+      c .before
+          .before .keeping .ensures,
+      c .before .keeping2 .ensures,
+    )
 
 pub too-many-spec : {M : Type 1} → statement M
 too-many-spec =

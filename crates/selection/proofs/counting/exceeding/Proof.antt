@@ -34,7 +34,13 @@ counted : (c : tie.After-exceeding-in Inv-loop μ-loop) → let p = c .before .b
 counted c =
     let p = c .before .before .before in
     let a = p .before .before .args in
-    omega (arith, p .loop .inv .2, c .exceeding-in .ensures .0, sum-more (counts (ofInt binary64 (pos (a .a))) (a .sizes .now)) (p .loop .t))
+    omega (
+      arith,
+      p .loop .inv .2,
+      c .exceeding-in .ensures .0,
+      sum-more (counts (ofInt binary64 (pos (a .a))) (a .sizes .now))
+          (p .loop .t),
+    )
 
 int-to-float-mark : tie.Need-int-to-float-mark Inv-loop μ-loop
 int-to-float-mark c = cast-asks (pos (c .before .args .a)) (omega (arith, c .before .pre))
@@ -53,7 +59,9 @@ exceeding-in-requires : tie.Need-exceeding-in-requires Inv-loop μ-loop
 exceeding-in-requires c κs = search needs
 
 add-count : tie.Need-add-count Inv-loop μ-loop
-add-count c = let p = c .before .before .before in record { fits = omega (arith, p .loop .inv .1, c .exceeding-in .ensures .1, p .before .before .fits .most) }
+add-count c =
+    let p = c .before .before .before in
+    record { fits = omega (arith, p .loop .inv .1, c .exceeding-in .ensures .1, p .before .before .fits .most) }
 
 returns : tie.Need-returns Inv-loop μ-loop
 unfolding exceedingAll

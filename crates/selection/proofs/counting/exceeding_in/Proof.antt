@@ -55,8 +55,11 @@ loop-again : tie.Need-loop-again Inv-loop μ-loop
 loop-again c =
     let p = c .before .before .before in
     let a = p .before .before .before .args in
-    let r = c .one .ensures in
-    (omega (arith, c .before .before .loop-test .taken), omega (arith, p .loop .inv .1, r .1), omega (arith, p .loop .inv .2, r .0, sum-more (ones (a .a) (a .sizes .now)) (p .loop .i)))
+    let r = c .one .ensures in (
+      omega (arith, c .before .before .loop-test .taken),
+      omega (arith, p .loop .inv .1, r .1),
+      omega (arith, p .loop .inv .2, r .0, sum-more (ones (a .a) (a .sizes .now)) (p .loop .i)),
+    )
 
 returns : tie.Need-returns Inv-loop μ-loop
 unfolding exceedingIn
