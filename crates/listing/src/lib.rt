@@ -8,8 +8,10 @@ use blocks::Spot;
 use first_smallest::Lowest;
 use first_smallest::lower_bound;
 use open_boxes::Mark;
+ghost use mathlib.Core.Bool.{cond};
 ghost use mathlib.Core.Path.{_≡_};
 ghost use Prim.Native.Nat.{_-_};
+ghost use lib.Dec.{eqb, leb};
 ghost use Rattle.listing.specs.Listing.{FoundBy, SettledBy, TakenBy};
 
 // How many rows of the table are in use, gone ones too, and in how many blocks; how many boxes are late, and the first smallest of their
@@ -58,6 +60,13 @@ pub fn lowest(leasts: &Leasts, places: &Places, list: Listing, cost: u64) -> Fou
         late: false,
         spot: far,
     }
+}
+
+// Whether a search is solved: where C − L is at most t, and for t = 0 where no box is open. No other code decides it.
+pub fn is_solved(t: u64, gap: u64, open: usize) -> bool
+    ensures { λ r. ⌜ r ≡ cond (eqb t 0) (eqb «open» 0) (leb gap t) ⌝ }
+{
+    if t == 0 { open == 0 } else { gap <= t }
 }
 
 // One less, if there is one.

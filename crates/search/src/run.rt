@@ -18,9 +18,7 @@ use lanes::Chunk;
 use listing::Listing;
 use model::NO_CAP;
 ghost use mathlib.Core.Path.{_≡_};
-ghost use mathlib.Core.Bool.{cond};
 ghost use Prim.Native.Nat.{_≤_};
-ghost use lib.Dec.{eqb, leb};
 ghost use lib.ListN.{length};
 ghost use Rattle.boxes.specs.Boxes.{InBox};
 ghost use Rattle.points.specs.Points.{pointsOf};
@@ -88,13 +86,6 @@ fn answer(kind: Kind, s: State, low: u64) -> Answer
     }
 }
 
-// Whether a search is solved: where C − L is at most t, and for t = 0 where no box is open. No other code decides it.
-fn is_solved(t: u64, gap: u64, open: usize) -> bool
-    ensures { λ r. ⌜ r ≡ cond (eqb t 0) (eqb «open» 0) (leb gap t) ⌝ }
-{
-    if t == 0 { open == 0 } else { gap <= t }
-}
-
 // What the steps come to: the answer's kind, L, and the state.
 pub struct End {
     pub kind: Kind,
@@ -140,7 +131,7 @@ fn steps(
         let found = listing::lowest(leasts, places, list, best.cost);
         let spot = found.spot;
         let low = spot.bound;
-        let solved = is_solved(job.t, best.cost - low, list.number);
+        let solved = listing::is_solved(job.t, best.cost - low, list.number);
         let spent = s.count == job.budget;
         if solved {
             return ended(Kind::Solved, low, s);

@@ -1,7 +1,7 @@
 -- By whether t is 0.
 use borrow.Author.Tests.{eq-eqb, ne-eqb}
-use Rattle.search.proofs.run.is_solved.Statement.{statement}
-use Rattle.search.proofs.run.is_solved.Tie as tie
+use Rattle.listing.proofs.is_solved.Statement.{statement}
+use Rattle.listing.proofs.is_solved.Tie as tie
 
 returns : tie.Need-returns
 returns c = rw (eq-eqb (c .before .args .t) 0 (c .if1 .taken))
