@@ -3,7 +3,7 @@
  *
  * Each call returns a code:
  *   0                  accepted
- *   1 to 12, 14 to 16  refused, by the papers' number of the refusal; 7 (an x after the d-th is not 0) comes with 256 times the number of
+ *   1 to 18            refused, by the papers' number of the refusal; 7 (an x after the d-th is not 0) comes with 256 times the number of
  *                      that record added, records counting from 0
  *   255                a buffer has the wrong length; looked at before everything else
  * VENGUTARI_NUMBER takes the number out of a code, and VENGUTARI_RECORD the record.
@@ -159,9 +159,12 @@ static inline const char *vengutari_message(uint32_t code)
     case 10: return "short: the output is too small";
     case 11: return "beacon: over 236 bytes";
     case 12: return "off grid: a single-precision number that no coefficient has";
+    case 13: return "rounds: a limit outside 1 to 4";
     case 14: return "bounds: fewer entries than rows";
     case 15: return "order: frame numbers that do not rise";
     case 16: return "clash: unequal records of one frame";
+    case 17: return "window: a length or hop of 0, or a window longer than the store";
+    case 18: return "jobs: not 1 to 8 jobs, or fewer job records or lengths than jobs";
     case 255: return "a buffer has the wrong length";
     default: return "no code of this library";
     }

@@ -55,9 +55,12 @@ MESSAGES = {
     10: "short: the output is too small",
     11: "beacon: over 236 bytes",
     12: "off grid: a single-precision number that no coefficient has",
+    13: "rounds: a limit outside 1 to 4",
     14: "bounds: fewer entries than rows",
     15: "order: frame numbers that do not rise",
     16: "clash: unequal records of one frame",
+    17: "window: a length or hop of 0, or a window longer than the store",
+    18: "jobs: not 1 to 8 jobs, or fewer job records or lengths than jobs",
     255: "a buffer has the wrong length",
 }
 

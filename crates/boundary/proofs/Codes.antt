@@ -14,7 +14,7 @@ use Rattle.codes.specs.declared.Outcome.{Outcome}
 use Rattle.codes.specs.declared.Outcome.the-variants.{Value, Refused}
 use Rattle.codes.specs.declared.Refusal.{Refusal}
 use Rattle.codes.specs.declared.Refusal.the-variants.{Length, Shape, Scale, Loss, Box, Start, Stray, Table, Answer, Short, Beacon, OffGrid}
-use Rattle.codes.specs.declared.Refusal.the-variants.{Bounds, Order, Clash}
+use Rattle.codes.specs.declared.Refusal.the-variants.{Rounds, Bounds, Order, Clash, Window, Jobs}
 use Rattle.codes.specs.Codes.{numberOf, within}
 use Rattle.codes.proofs.Checks.{passed}
 use Rattle.points.specs.declared.Point.{Point}
@@ -37,9 +37,12 @@ numbered Answer = (omega arith, omega arith)
 numbered Short = (omega arith, omega arith)
 numbered Beacon = (omega arith, omega arith)
 numbered OffGrid = (omega arith, omega arith)
+numbered Rounds = (omega arith, omega arith)
 numbered Bounds = (omega arith, omega arith)
 numbered Order = (omega arith, omega arith)
 numbered Clash = (omega arith, omega arith)
+numbered Window = (omega arith, omega arith)
+numbered Jobs = (omega arith, omega arith)
 
 -- no refusal has the code 0
 pub refusal-not-0 : (r : Refusal) → codeOf (answered (Refused r)) ≡ 0 → ⊥

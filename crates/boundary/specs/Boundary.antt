@@ -9,7 +9,7 @@ use Rattle.codes.specs.declared.Outcome.{Outcome}
 use Rattle.codes.specs.declared.Outcome.the-variants.{Value, Refused}
 use Rattle.codes.specs.declared.Refusal.{Refusal}
 use Rattle.codes.specs.declared.Refusal.the-variants.{Length, Shape, Scale, Loss, Box, Start, Stray, Table, Answer, Short, Beacon, OffGrid}
-use Rattle.codes.specs.declared.Refusal.the-variants.{Bounds, Order, Clash}
+use Rattle.codes.specs.declared.Refusal.the-variants.{Rounds, Bounds, Order, Clash, Window, Jobs}
 use Rattle.codes.specs.Codes.{numberOf, unlessRefused}
 use Rattle.jobs.specs.declared.Job.{Job}
 use Rattle.jobs.specs.declared.Model.{Model}
@@ -53,9 +53,12 @@ strayRecord Answer = 0
 strayRecord Short = 0
 strayRecord Beacon = 0
 strayRecord OffGrid = 0
+strayRecord Rounds = 0
 strayRecord Bounds = 0
 strayRecord Order = 0
 strayRecord Clash = 0
+strayRecord Window = 0
+strayRecord Jobs = 0
 
 -- The code: 0 for a value; of a refusal its number in the lowest 8 of 32 bits and the record's number in the other 24, where every record's
 -- number of a store fits (`Told` in Laws); or 255, which the paper's table does not have.

@@ -17,21 +17,8 @@ fn stray_record(r: Refusal) -> usize
     ensures { λ k. ⌜ k ≡ strayRecord r ⌝ }
 {
     match r {
-        Refusal::Length => 0,
-        Refusal::Shape => 0,
-        Refusal::Scale => 0,
-        Refusal::Loss => 0,
-        Refusal::Box => 0,
-        Refusal::Start => 0,
         Refusal::Stray(record) => record,
-        Refusal::Table => 0,
-        Refusal::Answer => 0,
-        Refusal::Short => 0,
-        Refusal::Beacon => 0,
-        Refusal::OffGrid => 0,
-        Refusal::Bounds => 0,
-        Refusal::Order => 0,
-        Refusal::Clash => 0,
+        _ => 0,
     }
 }
 
@@ -81,8 +68,8 @@ pub fn model_of(n: u8, d: u8, scale: u8, p: u8, eps: u32) -> Model
 pub fn job_of(m: Model, t: u64, budget: u32, rows: u32, corners: &[i16], start: &[i16]) -> Job
     ensures { λ j. ⌜ j ≡ jobFrom m t budget rows (now (corners .entry)) (now (start .entry)) ⌝ }
 {
-    let domain = rows::read_row(corners, 0);
-    let first = buffers::vector_of(start);
+    let domain = list_rows::read_row(corners, 0);
+    let first = c_buffers::vector_of(start);
     Job {
         model: m,
         t,

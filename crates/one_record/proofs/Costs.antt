@@ -15,7 +15,7 @@ use Rattle.residuals.specs.Cost.{least, sizeAt, unlessGap, totalLoss, cost}
 use Rattle.residuals.proofs.Bounds.{cost-sum}
 use Rattle.residuals.proofs.Least.{loss-of-point}
 use Rattle.one_record.specs.OneRecord.{DifferInOne, cap}
-use Rattle.one_record.proofs.Points.{points-append}
+use Rattle.points.proofs.Parts.{points-append}
 
 -- no loss is above the cap
 loss-capped : (p ε a : ℕ) → lossOf p ε a ≤ cap p ε

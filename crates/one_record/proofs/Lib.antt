@@ -1,4 +1,3 @@
-pub mod Points
 pub mod Costs
 pub mod OneRecord
 pub mod Reached

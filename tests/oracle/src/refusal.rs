@@ -15,9 +15,12 @@ pub enum Refusal {
     Short,
     Beacon,
     OffGrid,
+    Rounds,
     Bounds,
     Order,
     Clash,
+    Window,
+    Jobs,
 }
 
 impl Refusal {
@@ -36,9 +39,12 @@ impl Refusal {
             Refusal::Short => 10,
             Refusal::Beacon => 11,
             Refusal::OffGrid => 12,
+            Refusal::Rounds => 13,
             Refusal::Bounds => 14,
             Refusal::Order => 15,
             Refusal::Clash => 16,
+            Refusal::Window => 17,
+            Refusal::Jobs => 18,
         }
     }
 }
