@@ -29,8 +29,8 @@ use Rattle.fields.specs.Fields.{IsVector}
 use Rattle.jobs.specs.declared.Job.{Job}
 use Rattle.residuals.specs.Laws.{Small}
 use Rattle.model_checks.specs.Checks.{checkModel}
-use Rattle.model.proofs.Passed.{cost-limit}
-use Rattle.rows.specs.Rows.{rowCount}
+use Rattle.costs.proofs.Passed.{cost-limit}
+use Rattle.list_rows.specs.Rows.{rowCount}
 use Rattle.certificate.specs.Search as Search
 use Rattle.certificate.specs.Search.{solved, spent, full}
 use Rattle.certificate.proofs.Certified.{finished}

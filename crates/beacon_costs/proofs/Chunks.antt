@@ -18,12 +18,12 @@ use Rattle.residuals.specs.Cost.{least, unlessGap, totalLoss, sizeAt, cost}
 use Rattle.residuals.specs.Inside.{Ready, sumOf}
 use Rattle.residuals.proofs.Bounds.{cost-sum}
 use Rattle.residuals.proofs.Sums.{threshold-small, Summed, none-summed, one-summed}
-use Rattle.columns.specs.Columns.{slot, ChunkOf}
-use Rattle.losses.proofs.Exact.{sum-parts, groups-small}
-use Rattle.slots.proofs.Empty.{empty-slot}
-use Rattle.slots.proofs.Summing.{slotLoss, slots-summed}
-use Rattle.kernel.specs.Kernel.{groupLosses}
-use Rattle.kernel.proofs.Exact.{size-in, groups-in}
+use Rattle.eval_columns.specs.Columns.{slot, ChunkOf}
+use Rattle.eval_losses.proofs.Exact.{sum-parts, groups-small}
+use Rattle.eval_slots.proofs.Empty.{empty-slot}
+use Rattle.eval_slots.proofs.Summing.{slotLoss, slots-summed}
+use Rattle.eval_kernel.specs.Kernel.{groupLosses}
+use Rattle.eval_kernel.proofs.Exact.{size-in, groups-in}
 use Rattle.beacon_costs.specs.BeaconCosts.{groupCost}
 use Rattle.beacon_costs.specs.Inside.{ChunkSums}
 use Rattle.beacon_costs.proofs.Adding.{one-group}

@@ -7,7 +7,7 @@ use lib.ListN.{getD}
 use lib.Ieee.{Float}
 use Rattle.jobs.specs.declared.Model.{Model}
 use Rattle.points.specs.Points.{pointsOf}
-use Rattle.kernel.specs.Kernel.{Doubles}
+use Rattle.eval_kernel.specs.Kernel.{Doubles}
 use Rattle.beacon_costs.specs.BeaconCosts.{groupCost}
 
 -- the sums of the four groups of chunk t of a store, under the vector whose coordinates are the doubles w

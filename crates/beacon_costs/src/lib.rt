@@ -3,10 +3,10 @@ use codes::Check;
 use codes::Outcome;
 use codes::Refusal;
 use codes::in_order;
+use eval_kernel::Coordinates;
+use eval_lanes::Chunk;
+use eval_lanes::Lanes;
 use jobs::Model;
-use kernel::Coordinates;
-use lanes::Chunk;
-use lanes::Lanes;
 ghost use mathlib.Core.Path.{_≡_};
 ghost use Prim.Native.Nat.{_+_, _/_, _%_, _^_, _≤_, _<_};
 ghost use lib.Dec.{leb};
@@ -43,8 +43,8 @@ fn chunk_sums(
     if 0 < g % 4 {
         return before;
     }
-    columns::decode_chunk(chunk, store, (g / 4) as u8, m.d, power);
-    kernel::group_losses(chunk, w, w, m, false)
+    eval_columns::decode_chunk(chunk, store, (g / 4) as u8, m.d, power);
+    eval_kernel::group_losses(chunk, w, w, m, false)
 }
 
 // The sums into the front of the list, and their total.
@@ -55,7 +55,7 @@ fn write_sums(store: &[u8], m: Model, v: [i16; 8], sums: &mut [u64]) -> u64
         ≡ over (partialSums m (pointsOf (now (store .entry))) v (groups (pointsOf (now (store .entry))))) (now (sums .entry)) ⌝ }
 {
     let power = scale::power(m.scale);
-    let w = kernel::coordinates(v);
+    let w = eval_kernel::coordinates(v);
     // Not 0, so that the compiler lays the chunk at a multiple of 16 bytes.
     let column: Lanes = [1.0; 80];
     let mut chunk: Chunk = [column; 5];

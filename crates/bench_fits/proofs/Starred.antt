@@ -22,10 +22,10 @@ use Rattle.model_checks.specs.Checks.{checkModel}
 use Rattle.fields.specs.Fields.{bigEndian, fromBigEndian, vectorBytes, vectorOf}
 use Rattle.job_records.specs.Jobs.{jobBytes, jobOf}
 use Rattle.decimal.specs.Text.{digitsOf, decimal, signed, behindCommas, joined}
-use Rattle.text.specs.Line.{fields, line}
+use Rattle.answer_line.specs.Line.{fields, line}
 use Rattle.search_checks.specs.Checks.{checkJob}
 use Rattle.search.specs.Search.{searched}
-use Rattle.report.specs.Report.{checkFit, fitAnswer, fitLine}
+use Rattle.fit_line.specs.Report.{checkFit, fitAnswer, fitLine}
 use Rattle.bench_fits.specs.Starred.{StarredHold}
 use Rattle.bench_fits.specs.Gaps.{GapsHold}
 use Rattle.bench_fits.specs.Spoiled.{SpoiledHold}

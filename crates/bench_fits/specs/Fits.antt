@@ -18,7 +18,7 @@ use Rattle.coefficients.specs.Coefficient.{patternOf}
 use Rattle.fields.specs.Fields.{vectorBytes}
 use Rattle.job_records.specs.Jobs.{jobBytes}
 use Rattle.decimal.specs.Text.{ascii, byte}
-use Rattle.report.specs.Report.{fitLine}
+use Rattle.fit_line.specs.Report.{fitLine}
 
 -- What the paper says in a bench fit: a thing worked out, and behind it the value that it has.
 pub data Fit : Type 0 where

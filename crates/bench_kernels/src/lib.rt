@@ -1,18 +1,18 @@
 // A cost and a bound over a store that was decoded once, for bench/.
-use lanes::Chunk;
+use eval_lanes::Chunk;
 ghost use mathlib.Core.Path.{_≡_};
 ghost use Prim.Native.Nat.{_^_, _%_};
-ghost use Rattle.columns.specs.Columns.{DecodedInto};
-ghost use Rattle.model.specs.Calls.{costIn, boundIn};
-ghost use Rattle.rows.specs.Rows.{rowAt};
-ghost use Rattle.boundary.specs.Boundary.{modelOf};
+ghost use Rattle.eval_columns.specs.Columns.{DecodedInto};
+ghost use Rattle.costs.specs.Calls.{costIn, boundIn};
+ghost use Rattle.list_rows.specs.Rows.{rowAt};
+ghost use Rattle.c_boundary.specs.Boundary.{modelOf};
 
 // Decodes a store, as a search does at its beginning.
 #[no_mangle]
 pub extern "C" fn bench_decode(lanes: &mut [Chunk], store: &[u8], d: u8, scale: u8)
     ensures { λ _. ⌜ DecodedInto (now (store .entry)) d (2 ^ (scale % 16)) (now (lanes .entry)) (now (lanes .exit)) ⌝ }
 {
-    stores::decode(lanes, store, d, scale::power(scale))
+    eval_stores::decode(lanes, store, d, scale::power(scale))
 }
 
 // The cost of the low vector of a box, up to a cap.
@@ -31,10 +31,10 @@ pub extern "C" fn bench_cost_in(
     ensures { λ r. ⌜ r
         ≡ costIn (now (store .entry)) (now (lanes .entry)) (modelOf n d scale p eps) (rowAt (now (corners .entry)) 0 .low) cap ⌝ }
 {
-    let m = boundary::model_of(n, d, scale, p, eps);
-    let b = rows::read_row(corners, 0);
+    let m = c_boundary::model_of(n, d, scale, p, eps);
+    let b = list_rows::read_row(corners, 0);
     let low = b.low;
-    model::cost_in(store, lanes, m, low, cap)
+    costs::cost_in(store, lanes, m, low, cap)
 }
 
 // The bound of a box, up to a cap.
@@ -53,6 +53,6 @@ pub extern "C" fn bench_bound_in(
     ensures { λ r. ⌜ r
         ≡ boundIn (now (store .entry)) (now (lanes .entry)) (modelOf n d scale p eps) (rowAt (now (corners .entry)) 0) cap ⌝ }
 {
-    let m = boundary::model_of(n, d, scale, p, eps);
-    model::bound_in(store, lanes, m, rows::read_row(corners, 0), cap)
+    let m = c_boundary::model_of(n, d, scale, p, eps);
+    costs::bound_in(store, lanes, m, list_rows::read_row(corners, 0), cap)
 }

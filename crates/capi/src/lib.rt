@@ -3,18 +3,17 @@
 // a buffer of the wrong length. What it answers goes into lent memory, which a refusal leaves as it is.
 ghost use mathlib.Core.Path.{_≡_};
 ghost use Rattle.beacon.specs.Beacon.{storeAfter};
-ghost use Rattle.boundary.specs.Boundary.{modelOf, codeOf, valueAfter};
-ghost use Rattle.evaluation_calls.specs.Calls.{lossCall, costCall, boundCall};
-ghost use Rattle.split_calls.specs.Calls.{splitCall, halvesAfter};
-ghost use Rattle.label_calls.specs.Calls.{labelsCall, labelsAfter};
-ghost use Rattle.beacon_cost_calls.specs.Calls.{costByBeaconCall, sumsAfterCall};
-ghost use Rattle.search_calls.specs.Calls.{searchCall, vectorAfter, numbersAfter, TableAfterCall, BoundsAfterCall, CertifiedCall};
-ghost use Rattle.beacon_calls.specs.Calls.{takeInCall};
+ghost use Rattle.c_boundary.specs.Boundary.{modelOf, codeOf, valueAfter};
+ghost use Rattle.c_evaluation.specs.Calls.{lossCall, costCall, boundCall};
+ghost use Rattle.c_split.specs.Calls.{splitCall, halvesAfter};
+ghost use Rattle.c_labels.specs.Calls.{labelsCall, labelsAfter};
+ghost use Rattle.c_beacon_costs.specs.Calls.{costByBeaconCall, sumsAfterCall};
+ghost use Rattle.c_search.specs.Calls.{searchCall, vectorAfter, numbersAfter, TableAfterCall, BoundsAfterCall, CertifiedCall};
 ghost use Rattle.merge.specs.Merge.{outputAfter};
-ghost use Rattle.merge_calls.specs.Calls.{mergeCall};
-ghost use Rattle.job_calls.specs.Calls.{readJobCall, jobNumbersAfter, cornersAfter, startAfter, writeJobCall, jobRecordAfter};
-ghost use Rattle.answer_calls.specs.Calls.{readAnswerCall, answerVectorAfter, answerNumbersAfter, writeAnswerCall, answerRecordAfter};
-ghost use Rattle.line_calls.specs.Calls.{writeLineCall, patternsAfter, readLineCall, coordinatesAfter};
+ghost use Rattle.c_stores.specs.Calls.{mergeCall, takeInCall};
+ghost use Rattle.c_jobs.specs.Calls.{readJobCall, jobNumbersAfter, cornersAfter, startAfter, writeJobCall, jobRecordAfter};
+ghost use Rattle.c_answers.specs.Calls.{readAnswerCall, answerVectorAfter, answerNumbersAfter, writeAnswerCall, answerRecordAfter};
+ghost use Rattle.c_lines.specs.Calls.{writeLineCall, patternsAfter, readLineCall, coordinatesAfter};
 
 // The loss of a residual e.
 #[no_mangle]
@@ -22,7 +21,7 @@ pub extern "C" fn vengutari_loss(p: u8, eps: u32, e: i64, value: &mut u64) -> u3
     ensures code { λ k. ⌜ k ≡ codeOf (lossCall p eps e) ⌝ }
     ensures value { λ _. ⌜ now (value .exit) ≡ valueAfter (lossCall p eps e) (now (value .entry)) ⌝ }
 {
-    evaluation_calls::loss(p, eps, e, value)
+    c_evaluation::loss(p, eps, e, value)
 }
 
 // The cost of a vector.
@@ -41,7 +40,7 @@ pub extern "C" fn vengutari_cost(
     ensures value { λ _. ⌜ now (value .exit)
         ≡ valueAfter (costCall (now (store .entry)) (modelOf n d scale p eps) (now (vector .entry))) (now (value .entry)) ⌝ }
 {
-    evaluation_calls::cost(store, n, d, scale, p, eps, vector, value)
+    c_evaluation::cost(store, n, d, scale, p, eps, vector, value)
 }
 
 // The bound of a box.
@@ -60,7 +59,7 @@ pub extern "C" fn vengutari_bound(
     ensures value { λ _. ⌜ now (value .exit)
         ≡ valueAfter (boundCall (now (store .entry)) (modelOf n d scale p eps) (now (corners .entry))) (now (value .entry)) ⌝ }
 {
-    evaluation_calls::bound(store, n, d, scale, p, eps, corners, value)
+    c_evaluation::bound(store, n, d, scale, p, eps, corners, value)
 }
 
 // Splits one box; the left half goes into the first row of `halves`, the right one into the second.
@@ -69,7 +68,7 @@ pub extern "C" fn vengutari_split(n: u8, d: u8, corners: &[i16], halves: &mut [i
     ensures code { λ k. ⌜ k ≡ codeOf (splitCall n d (now (corners .entry)) (now (halves .entry))) ⌝ }
     ensures halves { λ _. ⌜ now (halves .exit) ≡ halvesAfter n d (now (corners .entry)) (now (halves .entry)) ⌝ }
 {
-    split_calls::split(n, d, corners, halves)
+    c_split::split(n, d, corners, halves)
 }
 
 // One label a point into the front of `labels`; the value is their number.
@@ -93,7 +92,7 @@ pub extern "C" fn vengutari_labels(
     ensures labels { λ _. ⌜ now (labels .exit)
         ≡ labelsAfter (now (store .entry)) (modelOf n d scale p eps) (now (vector .entry)) (now (labels .entry)) ⌝ }
 {
-    label_calls::labels(store, n, d, scale, p, eps, vector, labels, value)
+    c_labels::labels(store, n, d, scale, p, eps, vector, labels, value)
 }
 
 // The cost of each group of 19 records into the front of `sums`; the value is the total.
@@ -117,7 +116,7 @@ pub extern "C" fn vengutari_cost_by_beacon(
     ensures sums { λ _. ⌜ now (sums .exit)
         ≡ sumsAfterCall (now (store .entry)) (modelOf n d scale p eps) (now (vector .entry)) (now (sums .entry)) ⌝ }
 {
-    beacon_cost_calls::cost_by_beacon(store, n, d, scale, p, eps, vector, sums, value)
+    c_beacon_costs::cost_by_beacon(store, n, d, scale, p, eps, vector, sums, value)
 }
 
 // Searches a box with the rows of a lent table, with the bounds of open boxes in a lent list. The value is the kind of the answer; its
@@ -163,7 +162,7 @@ pub extern "C" fn vengutari_search(
         (now (table .entry)) (now (bounds .entry)) (now (vector .entry)) (now (numbers .entry)) (now (value .exit)) (now (vector .exit))
         (now (numbers .exit))) ⌝ }
 {
-    search_calls::search(
+    c_search::search(
         store,
         n,
         d,
@@ -195,7 +194,7 @@ pub extern "C" fn vengutari_take_in(
         ≡ valueAfter (takeInCall (now (store .entry)) mark (now (beacon .entry))) (now (value .entry)) ⌝ }
     ensures store { λ _. ⌜ now (store .exit) ≡ storeAfter (now (store .entry)) mark (now (beacon .entry)) ⌝ }
 {
-    beacon_calls::take_in(store, mark, beacon, value)
+    c_stores::take_in(store, mark, beacon, value)
 }
 
 // Makes one store of two: the union of their records into the front of `out`; the value is its length in bytes.
@@ -211,7 +210,7 @@ pub extern "C" fn vengutari_merge(
         ≡ valueAfter (mergeCall (now (first .entry)) (now (second .entry)) (now (out .entry))) (now (value .entry)) ⌝ }
     ensures output { λ _. ⌜ now (out .exit) ≡ outputAfter (now (first .entry)) (now (second .entry)) (now (out .entry)) ⌝ }
 {
-    merge_calls::merge(first, second, out, value)
+    c_stores::merge(first, second, out, value)
 }
 
 // Reads the job record in the first 72 bytes.
@@ -231,7 +230,7 @@ pub extern "C" fn vengutari_read_job(
     ensures start { λ _. ⌜ now (start .exit)
         ≡ startAfter (now (bytes .entry)) (now (numbers .entry)) (now (corners .entry)) (now (start .entry)) ⌝ }
 {
-    job_calls::read_job(bytes, numbers, corners, start)
+    c_jobs::read_job(bytes, numbers, corners, start)
 }
 
 // Writes a job record into the first 72 bytes.
@@ -253,7 +252,7 @@ pub extern "C" fn vengutari_write_job(
     ensures bytes { λ _. ⌜ now (bytes .exit)
         ≡ jobRecordAfter (modelOf n d scale p eps) t budget rows (now (corners .entry)) (now (start .entry)) (now (bytes .entry)) ⌝ }
 {
-    job_calls::write_job(n, d, scale, p, eps, t, budget, rows, corners, start, bytes)
+    c_jobs::write_job(n, d, scale, p, eps, t, budget, rows, corners, start, bytes)
 }
 
 // Reads an answer record of 40 bytes.
@@ -267,7 +266,7 @@ pub extern "C" fn vengutari_read_answer(
     ensures vector { λ _. ⌜ now (vector .exit) ≡ answerVectorAfter (now (bytes .entry)) (now (vector .entry)) (now (numbers .entry)) ⌝ }
     ensures numbers { λ _. ⌜ now (numbers .exit) ≡ answerNumbersAfter (now (bytes .entry)) (now (vector .entry)) (now (numbers .entry)) ⌝ }
 {
-    answer_calls::read_answer(bytes, vector, numbers)
+    c_answers::read_answer(bytes, vector, numbers)
 }
 
 // Writes an answer record into the first 40 bytes.
@@ -287,7 +286,7 @@ pub extern "C" fn vengutari_write_answer(
     ensures bytes { λ _. ⌜ now (bytes .exit)
         ≡ answerRecordAfter (now (vector .entry)) cost bound count kind n d scale (now (bytes .entry)) ⌝ }
 {
-    answer_calls::write_answer(vector, cost, bound, count, kind, n, d, scale, bytes)
+    c_answers::write_answer(vector, cost, bound, count, kind, n, d, scale, bytes)
 }
 
 // Writes a line: the patterns of its four coefficients.
@@ -301,7 +300,7 @@ pub extern "C" fn vengutari_write_line(
     ensures code { λ k. ⌜ k ≡ codeOf (writeLineCall d scale (now (coordinates .entry)) (now (patterns .entry))) ⌝ }
     ensures patterns { λ _. ⌜ now (patterns .exit) ≡ patternsAfter d scale (now (coordinates .entry)) (now (patterns .entry)) ⌝ }
 {
-    line_calls::write_line(d, scale, coordinates, patterns)
+    c_lines::write_line(d, scale, coordinates, patterns)
 }
 
 // Reads a line from the patterns of its four coefficients.
@@ -315,5 +314,5 @@ pub extern "C" fn vengutari_read_line(
     ensures code { λ k. ⌜ k ≡ codeOf (readLineCall d scale (now (coordinates .entry)) (now (patterns .entry))) ⌝ }
     ensures coordinates { λ _. ⌜ now (coordinates .exit) ≡ coordinatesAfter d scale (now (coordinates .entry)) (now (patterns .entry)) ⌝ }
 {
-    line_calls::read_line(d, scale, patterns, coordinates)
+    c_lines::read_line(d, scale, patterns, coordinates)
 }

@@ -57,6 +57,6 @@ fn main() {
     let mut bounds = bounds_space();
     let mut line = line_space();
     let n = io::read_full(0, &mut input);
-    let k = report::report(&input[..n], &mut table, &mut bounds, &mut line);
+    let k = fit_line::report(&input[..n], &mut table, &mut bounds, &mut line);
     put(&line[..k]);
 }

@@ -14,12 +14,12 @@ use Rattle.jobs.specs.declared.Job.{Job}
 use Rattle.points.specs.Points.{pointsOf}
 use Rattle.residuals.specs.Cost.{cost, bound}
 use Rattle.residuals.proofs.Bounds.{bound-laws}
-use Rattle.rows.specs.Rows.{rowCount, rowsOf}
-use Rattle.rows.proofs.Rows.{rows-take}
+use Rattle.list_rows.specs.Rows.{rowCount, rowsOf}
+use Rattle.list_rows.proofs.Rows.{rows-take}
 use Rattle.certificate.specs.Search as Search
 use Rattle.certificate.specs.Certificate.{stateOf}
 use Rattle.certificate.proofs.Reached.{reached-sound}
-use Rattle.made.proofs.Made.{fit-certified}
+use Rattle.certified_costs.proofs.Made.{fit-certified}
 use Rattle.search_checks.proofs.Passed.{runs-accepted, rows-accepted}
 use Rattle.search.specs.declared.Answer.{Answer}
 use Rattle.search.specs.Search.{searched, refused, CertifiedIn, checkLent, searchAnswer, TableSearched, BoundsSearched, Certified}

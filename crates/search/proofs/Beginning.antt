@@ -13,16 +13,16 @@ use Rattle.jobs.specs.declared.Model.{Model}
 use Rattle.points.specs.Points.{pointsOf}
 use Rattle.residuals.specs.Cost as model
 use Rattle.model_checks.specs.Checks.{checkModel}
-use Rattle.model.specs.Calls.{costUpTo}
-use Rattle.rows.specs.Rows.{rowsOf}
-use Rattle.rows.proofs.Rows.{Whole}
-use Rattle.blocks.specs.Blocks.{gone}
-use Rattle.blocks.proofs.Blocks.{blocked-none}
-use Rattle.open_boxes.specs.declared.Child.{Child}
-use Rattle.open_boxes.specs.OpenBoxes.{ifKept, picked}
-use Rattle.listing.specs.declared.Listing.{Listing}
-use Rattle.listing.specs.Listing.{listOf, Listed}
-use Rattle.listing.proofs.Adding.{added}
+use Rattle.costs.specs.Calls.{costUpTo}
+use Rattle.list_rows.specs.Rows.{rowsOf}
+use Rattle.list_rows.proofs.Rows.{Whole}
+use Rattle.list_blocks.specs.Blocks.{gone}
+use Rattle.list_blocks.proofs.Blocks.{blocked-none}
+use Rattle.list_open_boxes.specs.declared.Child.{Child}
+use Rattle.list_open_boxes.specs.OpenBoxes.{ifKept, picked}
+use Rattle.list_running.specs.declared.Listing.{Listing}
+use Rattle.list_running.specs.Listing.{listOf, Listed}
+use Rattle.list_running.proofs.Adding.{added}
 use Rattle.certificate.specs.Search.{begin, keeps, keepIf}
 use Rattle.certificate.proofs.Ahead.{ahead-le}
 use Rattle.search.specs.Inside.{keptBy, markOf, Tested, LateLong, Begun}

@@ -11,8 +11,8 @@ use Rattle.boxes.specs.Split.{rightHalf}
 use Rattle.boxes.specs.Laws.{Bounds}
 use Rattle.boxes.proofs.Volume.{low-in}
 use Rattle.boxes.proofs.Halving.{halved}
-use Rattle.open_boxes.specs.declared.Child.{Child}
-use Rattle.open_boxes.specs.declared.Mark.{Mark}
+use Rattle.list_open_boxes.specs.declared.Child.{Child}
+use Rattle.list_open_boxes.specs.declared.Mark.{Mark}
 use Rattle.certificate.specs.Search.{ahead, better}
 use Rattle.certificate.proofs.Dropped.{dropped}
 use Rattle.search.specs.Inside.{bestOf, keptBy, markOf, testedAgain, Tested}

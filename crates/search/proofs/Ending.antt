@@ -5,9 +5,9 @@ use Prim.Native.Nat.{ℕ}
 use native.Mathlib.Omega.{arith}
 use lib.IntN.{ℤ}
 use Rattle.boxes.specs.declared.Box.{Box}
-use Rattle.listing.specs.declared.Listing.{Listing}
-use Rattle.listing.specs.Listing.{SettledBy}
-use Rattle.listing.proofs.Settling.{Together, settled-together}
+use Rattle.list_running.specs.declared.Listing.{Listing}
+use Rattle.list_running.specs.Listing.{SettledBy}
+use Rattle.list_running.proofs.Settling.{Together, settled-together}
 use Rattle.certificate.specs.Search as Search
 use Rattle.search.specs.declared.Answer.{Answer}
 use Rattle.search.specs.declared.run.End.{End}

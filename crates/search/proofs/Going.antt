@@ -16,12 +16,12 @@ use Rattle.boxes.specs.declared.Box.{Box}
 use Rattle.boxes.specs.Boxes.{InBox}
 use Rattle.boxes.specs.Split.{zeroBox}
 use Rattle.boxes.specs.Laws.{Bounds}
-use Rattle.rows.specs.Rows.{rowCount}
-use Rattle.rows.proofs.Rows.{rest-later}
-use Rattle.blocks.specs.Blocks.{gone}
-use Rattle.listing.specs.declared.Found.{Found}
-use Rattle.listing.specs.Listing.{listOf, FoundBy, Chosen}
-use Rattle.listing.proofs.Finding.{Lowest-of, found}
+use Rattle.list_rows.specs.Rows.{rowCount}
+use Rattle.list_rows.proofs.Rows.{rest-later}
+use Rattle.list_blocks.specs.Blocks.{gone}
+use Rattle.list_running.specs.declared.Found.{Found}
+use Rattle.list_running.specs.Listing.{listOf, FoundBy, Chosen}
+use Rattle.list_running.proofs.Finding.{Lowest-of, found}
 use Rattle.certificate.specs.Search as Search
 use Rattle.certificate.specs.Search.{solved, spent, full, keeps, firstSmallest, lowerBound, isSolved, split, answer, search}
 use Rattle.certificate.specs.Laws.{Sound}

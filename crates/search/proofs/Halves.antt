@@ -22,7 +22,7 @@ use Rattle.residuals.specs.Inside.{Ready, boxOf}
 use Rattle.residuals.proofs.Bounds.{bound-sum}
 use Rattle.residuals.proofs.Lines.{size-agrees}
 use Rattle.model_checks.proofs.Passed.{ready}
-use Rattle.halves.specs.Halves.{halfSize, HalfSum}
+use Rattle.eval_halves.specs.Halves.{halfSize, HalfSum}
 use Rattle.search.specs.Inside.{Evaluable}
 
 -- ---- the line of a coordinate

@@ -12,18 +12,18 @@ use lib.Seq.{drop-set-lt}
 use Rattle.integers.specs.Lists.{All, none, also}
 use Rattle.boxes.specs.declared.Box.{Box}
 use Rattle.boxes.specs.Split.{zeroBox}
-use Rattle.rows.specs.Rows.{rowCount, withRow}
-use Rattle.rows.proofs.Rows.{Whole, length-with}
-use Rattle.blocks.specs.Blocks.{gone}
-use Rattle.open_boxes.specs.declared.Child.{Child}
-use Rattle.open_boxes.specs.declared.Mark.{Mark}
-use Rattle.open_boxes.specs.OpenBoxes.{roomIn, ifKept, keptBoxes}
-use Rattle.listing.specs.declared.Found.{Found}
-use Rattle.listing.specs.declared.Listing.{Listing}
-use Rattle.listing.specs.Listing.{listOf, withLate, TakenBy, SettledBy, Listed}
-use Rattle.listing.proofs.Taking.{taken}
-use Rattle.listing.proofs.Settling.{settled, settled-together}
-use Rattle.listing.proofs.Adding.{added}
+use Rattle.list_rows.specs.Rows.{rowCount, withRow}
+use Rattle.list_rows.proofs.Rows.{Whole, length-with}
+use Rattle.list_blocks.specs.Blocks.{gone}
+use Rattle.list_open_boxes.specs.declared.Child.{Child}
+use Rattle.list_open_boxes.specs.declared.Mark.{Mark}
+use Rattle.list_open_boxes.specs.OpenBoxes.{roomIn, ifKept, keptBoxes}
+use Rattle.list_running.specs.declared.Found.{Found}
+use Rattle.list_running.specs.declared.Listing.{Listing}
+use Rattle.list_running.specs.Listing.{listOf, withLate, TakenBy, SettledBy, Listed}
+use Rattle.list_running.proofs.Taking.{taken}
+use Rattle.list_running.proofs.Settling.{settled, settled-together}
+use Rattle.list_running.proofs.Adding.{added}
 use Rattle.certificate.specs.Search.{firstSmallest, keepIf, without}
 use Rattle.certificate.proofs.Ahead.{ahead-le}
 use Rattle.certificate.proofs.Lists.{append-kept, length-kept, takes-at, takes-all}

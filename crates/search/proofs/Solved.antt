@@ -7,7 +7,7 @@ use lib.IntN.{ℤ}
 use Rattle.codes.specs.declared.Check.{Check}
 use Rattle.codes.specs.declared.Check.the-variants.{Pass, Refuse}
 use Rattle.jobs.specs.declared.Job.{Job}
-use Rattle.rows.specs.Rows.{rowCount}
+use Rattle.list_rows.specs.Rows.{rowCount}
 use Rattle.certificate.specs.Search as Search
 use Rattle.certificate.specs.Search.{solved, spent, full}
 use Rattle.search.specs.declared.Kind.the-variants.{Solved}

@@ -15,15 +15,15 @@ use Rattle.integers.specs.Lists.{All}
 use Rattle.integers.proofs.Tests.{by-test, le-or-lt}
 use Rattle.boxes.specs.declared.Box.{Box}
 use Rattle.boxes.specs.Split.{leftHalf, rightHalf, zeroBox}
-use Rattle.rows.specs.Rows.{rowCount, rowAt}
-use Rattle.rows.proofs.Rows.{rest-later}
-use Rattle.open_boxes.specs.declared.Mark.{Mark}
-use Rattle.open_boxes.specs.OpenBoxes.{keptAt, number, picked, roomIn}
-use Rattle.open_boxes.proofs.Picking.{picked-length}
-use Rattle.listing.specs.declared.Found.{Found}
-use Rattle.listing.specs.declared.Listing.{Listing}
-use Rattle.listing.specs.Listing.{listOf, boxIn}
-use Rattle.listing.proofs.Settling.{boxes-are}
+use Rattle.list_rows.specs.Rows.{rowCount, rowAt}
+use Rattle.list_rows.proofs.Rows.{rest-later}
+use Rattle.list_open_boxes.specs.declared.Mark.{Mark}
+use Rattle.list_open_boxes.specs.OpenBoxes.{keptAt, number, picked, roomIn}
+use Rattle.list_open_boxes.proofs.Picking.{picked-length}
+use Rattle.list_running.specs.declared.Found.{Found}
+use Rattle.list_running.specs.declared.Listing.{Listing}
+use Rattle.list_running.specs.Listing.{listOf, boxIn}
+use Rattle.list_running.proofs.Settling.{boxes-are}
 use Rattle.certificate.specs.Search as Search
 use Rattle.certificate.specs.Search.{ahead, better, keepIf, firstSmallest, without, split}
 use Rattle.certificate.proofs.Ahead.{Settled, none-better}

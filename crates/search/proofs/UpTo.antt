@@ -12,10 +12,10 @@ use Rattle.points.specs.Points.{pointsOf}
 use Rattle.residuals.specs.Cost.{bound}
 use Rattle.residuals.specs.Cost as model
 use Rattle.model_checks.specs.Checks.{checkModel}
-use Rattle.model.specs.Calls.{costUpTo, boundUpTo}
+use Rattle.costs.specs.Calls.{costUpTo, boundUpTo}
 use Rattle.certificate.specs.Search.{ahead, better}
 use Rattle.certificate.proofs.Ahead.{ahead-capped, ahead-le}
-use Rattle.open_boxes.specs.declared.Mark.{Mark}
+use Rattle.list_open_boxes.specs.declared.Mark.{Mark}
 use Rattle.search.specs.declared.branch.Best.{Best}
 use Rattle.search.specs.Inside.{keptBy, childOf, Tested, bestOf}
 

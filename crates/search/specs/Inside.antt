@@ -1,4 +1,4 @@
--- What the functions behind a search say to each other of its state, and of how its open boxes are held (listing/Listing).
+-- What the functions behind a search say to each other of its state, and of how its open boxes are held (list_running/Listing).
 use mathlib.Core.Path.{_≡_}
 use mathlib.Core.Bool.{Bool, true, false, cond, _&&_}
 use mathlib.Core.List.{List, [], _∷_, _++_, map}
@@ -15,15 +15,15 @@ use Rattle.boxes.specs.Boxes.{volume}
 use Rattle.boxes.specs.Split.{leftHalf, rightHalf}
 use Rattle.jobs.specs.declared.Model.{Model}
 use Rattle.model_checks.specs.Checks.{checkModel}
-use Rattle.model.specs.Calls.{DecodedFor}
-use Rattle.rows.specs.Rows.{rowCount, rowsOf}
-use Rattle.blocks.specs.Blocks.{gone}
-use Rattle.open_boxes.specs.declared.Child.{Child}
-use Rattle.open_boxes.specs.declared.Mark.{Mark}
-use Rattle.open_boxes.specs.OpenBoxes.{keptAt, number, roomIn}
-use Rattle.listing.specs.declared.Found.{Found}
-use Rattle.listing.specs.declared.Listing.{Listing}
-use Rattle.listing.specs.Listing.{listOf, boxIn, SettledBy, Listed, Chosen}
+use Rattle.costs.specs.Calls.{DecodedFor}
+use Rattle.list_rows.specs.Rows.{rowCount, rowsOf}
+use Rattle.list_blocks.specs.Blocks.{gone}
+use Rattle.list_open_boxes.specs.declared.Child.{Child}
+use Rattle.list_open_boxes.specs.declared.Mark.{Mark}
+use Rattle.list_open_boxes.specs.OpenBoxes.{keptAt, number, roomIn}
+use Rattle.list_running.specs.declared.Found.{Found}
+use Rattle.list_running.specs.declared.Listing.{Listing}
+use Rattle.list_running.specs.Listing.{listOf, boxIn, SettledBy, Listed, Chosen}
 use Rattle.certificate.specs.Search as Search
 use Rattle.certificate.specs.Search.{ahead, keepIf, keeps, firstSmallest, without, better, begin, split}
 use Rattle.search.specs.declared.Kind.{Kind}

@@ -11,7 +11,7 @@ use Rattle.boxes.specs.declared.Box.{Box}
 use Rattle.jobs.specs.declared.Job.{Job}
 use Rattle.points.specs.Points.{pointsOf}
 use Rattle.residuals.specs.Cost.{cost, bound}
-use Rattle.rows.specs.Rows.{rowCount, rowsOf}
+use Rattle.list_rows.specs.Rows.{rowCount, rowsOf}
 use Rattle.certificate.specs.Search as Search
 use Rattle.certificate.specs.Search.{solved, spent, full, search}
 use Rattle.certificate.specs.Certificate.{Certificate}

@@ -1,10 +1,10 @@
 // A box is cut: the best vector after it, and the halves with their bounds.
 use boxes::Box;
+use eval_lanes::Chunk;
 use jobs::Model;
-use lanes::Chunk;
-use open_boxes::Child;
-use open_boxes::Mark;
-use open_boxes::ahead;
+use list_open_boxes::Child;
+use list_open_boxes::Mark;
+use list_open_boxes::ahead;
 ghost use mathlib.Core.Path.{_≡_};
 ghost use mathlib.Core.Bool.{false};
 ghost use Prim.Native.Nat.{_≤_, _<_};
@@ -53,7 +53,7 @@ fn tried(store: &[u8], lanes: &[Chunk], m: Model, t: u64, best: Best, v: [i16; 8
         ≡ bestOf (cost m (pointsOf (now (store .entry)))) (better (cost m (pointsOf (now (store .entry)))) t (best .vector) v) ⌝ }
     ensures fits { λ r. ⌜ NextFits r ⌝ }
 {
-    let c = model::cost_in(store, lanes, m, v, best.cost + 1);
+    let c = costs::cost_in(store, lanes, m, v, best.cost + 1);
     if ahead(mark_of(t, best), c, v) {
         Best { vector: v, cost: c }
     } else {
@@ -105,7 +105,7 @@ pub fn tested(store: &[u8], lanes: &[Chunk], m: Model, half: Box, mark: Mark) ->
 {
     child_of(
         half,
-        model::bound_in(store, lanes, m, half, mark.cost + 1),
+        costs::bound_in(store, lanes, m, half, mark.cost + 1),
         mark,
     )
 }
@@ -133,7 +133,7 @@ fn tested_both(
     let high = b.high;
     let line = boxes::longest(low, high) / (m.d as usize);
     if m.p < 3 && 1 < m.n && line < (m.n as usize) {
-        let sums = halves::sums_up_to(store, lanes, m, left, right, line as u8, mark.cost + 1);
+        let sums = eval_halves::sums_up_to(store, lanes, m, left, right, line as u8, mark.cost + 1);
         return Children {
             left: child_of(left, sums.left, mark),
             right: child_of(right, sums.right, mark),

@@ -7,9 +7,9 @@ use crate::run::begin;
 use crate::run::run;
 use codes::Check;
 use codes::Refusal;
+use eval_lanes::Chunk;
+use eval_lanes::Lanes;
 use jobs::Job;
-use lanes::Chunk;
-use lanes::Lanes;
 use search_checks::check_search;
 ghost use mathlib.Core.Path.{_≡_};
 ghost use Rattle.search.specs.Search.{refused, searchAnswer, TableSearched, BoundsSearched, Certified};
@@ -64,7 +64,7 @@ pub fn search(store: &[u8], job: Job, table: &mut [i16], bounds: &mut [u64]) -> 
             let column: Lanes = [0.0; 80];
             let chunk: Chunk = [column; 5];
             let mut lanes = [chunk; 54];
-            stores::decode(&mut lanes, store, m.d, scale::power(m.scale));
+            eval_stores::decode(&mut lanes, store, m.d, scale::power(m.scale));
             let mut late = [0i16; 2048];
             let mut beside = [0u64; 128];
             let first = begin(

@@ -7,23 +7,23 @@ use crate::branch::tested;
 use crate::step::State;
 use crate::step::add;
 use crate::step::step;
-use blocks::GONE;
-use blocks::Leasts;
-use blocks::Places;
 use boxes::Box;
-use first_smallest::Lowest;
+use costs::NO_CAP;
+use eval_lanes::Chunk;
 use jobs::Job;
 use jobs::Model;
-use lanes::Chunk;
-use listing::Listing;
-use model::NO_CAP;
+use list_blocks::GONE;
+use list_blocks::Leasts;
+use list_blocks::Places;
+use list_first_smallest::Lowest;
+use list_running::Listing;
 ghost use mathlib.Core.Path.{_≡_};
 ghost use Prim.Native.Nat.{_≤_};
 ghost use lib.ListN.{length};
 ghost use Rattle.boxes.specs.Boxes.{InBox};
 ghost use Rattle.points.specs.Points.{pointsOf};
 ghost use Rattle.residuals.specs.Cost.{cost, bound};
-ghost use Rattle.rows.specs.Rows.{rowCount};
+ghost use Rattle.list_rows.specs.Rows.{rowCount};
 ghost use Rattle.search.specs.Inside.{Evaluable, Begun, Ended, answerWith, Ran};
 ghost use Rattle.search.specs.Search.{searched};
 
@@ -43,7 +43,7 @@ pub fn begin(
         Begun (cost m (pointsOf (now (store .entry)))) (bound m (pointsOf (now (store .entry)))) t start domain
         r (now (late .exit)) (now (beside .exit)) ⌝ }
 {
-    let c = model::cost_in(store, lanes, m, start, NO_CAP);
+    let c = costs::cost_in(store, lanes, m, start, NO_CAP);
     let best = Best {
         vector: start,
         cost: c,
@@ -128,10 +128,10 @@ fn steps(
     loop {
         let best = s.best;
         let list = s.list;
-        let found = listing::lowest(leasts, places, list, best.cost);
+        let found = list_running::lowest(leasts, places, list, best.cost);
         let spot = found.spot;
         let low = spot.bound;
-        let solved = listing::is_solved(job.t, best.cost - low, list.number);
+        let solved = list_running::is_solved(job.t, best.cost - low, list.number);
         let spent = s.count == job.budget;
         if solved {
             return ended(Kind::Solved, low, s);
@@ -199,7 +199,7 @@ pub fn run(
     let s = end.state;
     let best = s.best;
     let list = s.list;
-    listing::settle(
+    list_running::settle(
         table,
         bounds,
         &mut leasts,

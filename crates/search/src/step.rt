@@ -2,25 +2,26 @@
 use crate::branch::Best;
 use crate::branch::cut_box;
 use crate::branch::mark_of;
-use blocks::Leasts;
-use blocks::Places;
 use boxes::Box;
-use first_smallest::Lowest;
+use eval_lanes::Chunk;
 use jobs::Model;
-use lanes::Chunk;
-use listing::Found;
-use listing::Listing;
-use open_boxes::Child;
-use open_boxes::Mark;
-use open_boxes::ahead;
-use open_boxes::keeping;
+use list_blocks::Leasts;
+use list_blocks::Places;
+use list_first_smallest::Lowest;
+use list_open_boxes::Child;
+use list_open_boxes::Mark;
+use list_open_boxes::ahead;
+use list_open_boxes::keeping;
+use list_running::Found;
+use list_running::Listing;
+use numbers::larger;
 ghost use mathlib.Core.Path.{_≡_};
 ghost use mathlib.Core.Bool.{cond, not, true};
-ghost use Prim.Native.Nat.{_≤_, _<_, max};
+ghost use Prim.Native.Nat.{_≤_, _<_};
 ghost use lib.ListN.{length, set};
-ghost use Rattle.rows.specs.Rows.{rowCount, withRow};
-ghost use Rattle.open_boxes.specs.OpenBoxes.{roomIn};
-ghost use Rattle.listing.specs.Listing.{boxIn, nearer, withLate};
+ghost use Rattle.list_rows.specs.Rows.{rowCount, withRow};
+ghost use Rattle.list_open_boxes.specs.OpenBoxes.{roomIn};
+ghost use Rattle.list_running.specs.Listing.{boxIn, nearer, withLate};
 ghost use Rattle.points.specs.Points.{pointsOf};
 ghost use Rattle.residuals.specs.Cost.{bound, cost};
 ghost use Rattle.certificate.specs.Search.{ahead};
@@ -37,12 +38,6 @@ fn stayed(t: u64, best: Best, new: Best) -> bool
     !ahead(mark_of(t, best), new.cost, vector)
 }
 
-fn larger(a: usize, b: usize) -> usize
-    ensures { λ r. ⌜ r ≡ max a b ⌝ }
-{
-    if a < b { b } else { a }
-}
-
 fn one_if(kept: bool) -> usize
     ensures { λ r. ⌜ r ≡ cond kept 1 0 ⌝ }
 {
@@ -55,9 +50,9 @@ fn box_found(table: &[i16], late: &[i16], found: Found) -> Box
 {
     let spot = found.spot;
     if found.late {
-        return rows::read_row(late, spot.at);
+        return list_rows::read_row(late, spot.at);
     }
-    rows::read_row(table, spot.at)
+    list_rows::read_row(table, spot.at)
 }
 
 // Whether it would be kept itself.
@@ -88,7 +83,7 @@ pub fn add(late: &mut [i16], beside: &mut [u64], list: Listing, child: Child) ->
     ensures beside { λ _. ⌜ now (beside .exit)
         ≡ cond (child .kept) (set (now (beside .entry)) (list .late) (child .bound)) (now (beside .entry)) ⌝ }
 {
-    open_boxes::put(late, beside, list.late, child);
+    list_open_boxes::put(late, beside, list.late, child);
     if child.kept {
         let near = list.near;
         return Listing {
@@ -149,7 +144,7 @@ fn make_room(
     if all && list.late <= LATE {
         return list;
     }
-    listing::settle(table, bounds, leasts, places, late, beside, list, mark)
+    list_running::settle(table, bounds, leasts, places, late, beside, list, mark)
 }
 
 // Takes out the box that was found and those that are not kept, and puts its halves behind the others.
@@ -173,7 +168,7 @@ fn replace(
         (now (beside .entry)) list found mark all left right r (now (table .exit)) (now (bounds .exit)) (now (leasts .exit))
         (now (places .exit)) (now (late .exit)) (now (beside .exit)) ⌝ }
 {
-    let taken = listing::take(bounds, leasts, places, late, beside, list, found);
+    let taken = list_running::take(bounds, leasts, places, late, beside, list, found);
     let ready = make_room(
         table,
         bounds,

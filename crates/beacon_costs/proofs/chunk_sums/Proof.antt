@@ -7,8 +7,8 @@ use Rattle.beacon_costs.proofs.chunk_sums.Statement.{statement}
 use Rattle.beacon_costs.proofs.chunk_sums.Tie as tie
 use Rattle.beacon_costs.proofs.chunk_sums.Reads as reads
 use Rattle.beacon_costs.proofs.chunk_sums.Lts as lts
-use Rattle.columns.proofs.decode_chunk.Reads as decode-chunk-reads
-use Rattle.kernel.proofs.group_losses.Reads as group-losses-reads
+use Rattle.eval_columns.proofs.decode_chunk.Reads as decode-chunk-reads
+use Rattle.eval_kernel.proofs.group_losses.Reads as group-losses-reads
 
 returns : tie.Need-returns
 returns c = let h : 1 ≤ c .before .before .args .g % 4 = omega (arith, c .if1 .taken) in c .before .before .pre .1 h

@@ -8,7 +8,7 @@ use lib.IntN.{ℤ}
 use lib.ListN.{length, getD, length-set}
 use Rattle.points.specs.Points.{pointsOf}
 use Rattle.residuals.proofs.Sizes.{power-of}
-use Rattle.kernel.specs.Kernel.{Doubles}
+use Rattle.eval_kernel.specs.Kernel.{Doubles}
 use Rattle.beacon_costs.specs.BeaconCosts.{groups, groupCost}
 use Rattle.beacon_costs.specs.Inside.{ChunkSums}
 use Rattle.beacon_costs.proofs.Writing.{group-number, Written, none-written, one-written, all-written, all-added}
@@ -19,7 +19,7 @@ use Rattle.beacon_costs.proofs.write_sums.Reads as reads
 use Rattle.beacon_costs.proofs.write_sums.Lts as lts
 use Rattle.beacon_costs.proofs.chunk_sums.Reads as chunk-sums-reads
 use Rattle.beacon_costs.proofs.group_count.Reads as group-count-reads
-use Rattle.kernel.proofs.coordinates.Reads as coordinates-reads
+use Rattle.eval_kernel.proofs.coordinates.Reads as coordinates-reads
 use Rattle.scale.proofs.power.Reads as power-reads
 
 abbrev Inv-loop : tie.InvT-loop

@@ -4,7 +4,7 @@ use Prim.Native.Nat.{_/_, _≤_}
 use native.Mathlib.Omega.{arith}
 use lib.ListN.{length}
 use Rattle.codes.specs.declared.Check.the-variants.{Pass}
-use Rattle.model.proofs.Passed.{decoded-for}
+use Rattle.costs.proofs.Passed.{decoded-for}
 use Rattle.search_checks.proofs.Passed.{Runs, runs-accepted, rows-accepted, entries-accepted}
 use Rattle.search.specs.Search.{checkLent}
 use Rattle.search.specs.Inside.{Evaluable}

@@ -13,7 +13,7 @@ use Rattle.boxes.specs.declared.Halves.{Halves}
 use Rattle.boxes.specs.Split.{leftHalf, rightHalf, halvesUnlessRefused}
 use Rattle.boxes.specs.Laws.{Bounds}
 use Rattle.boxes.proofs.Splitting.{cut-passes}
-use Rattle.open_boxes.specs.declared.Child.{Child}
+use Rattle.list_open_boxes.specs.declared.Child.{Child}
 use Rattle.search.specs.declared.branch.Best.{Best}
 use Rattle.search.specs.Inside.{bestOf, keptBy, markOf, Tested}
 use Rattle.search.proofs.Cutting.{same-tested, right-dropped, again-tested}

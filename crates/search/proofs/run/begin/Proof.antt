@@ -4,7 +4,7 @@ use Prim.Native.Nat.{_<_}
 use native.Mathlib.Omega.{arith}
 use Rattle.points.specs.Points.{pointsOf}
 use Rattle.residuals.specs.Cost.{cost, bound}
-use Rattle.rows.proofs.Rows.{Whole}
+use Rattle.list_rows.proofs.Rows.{Whole}
 use Rattle.search.proofs.Beginning.{whole-cost, begun}
 use borrow.Author.Needs.{needs}
 use Rattle.search.proofs.run.begin.Statement.{statement}

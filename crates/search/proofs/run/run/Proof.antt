@@ -5,7 +5,7 @@ use Prim.Native.Nat.{ℕ}
 use lib.ListN.{length, replicate, length-replicate}
 use Rattle.points.specs.Points.{pointsOf}
 use Rattle.residuals.specs.Cost.{bound}
-use Rattle.rows.specs.Rows.{rowCount}
+use Rattle.list_rows.specs.Rows.{rowCount}
 use Rattle.search.specs.Inside.{Ran}
 use Rattle.search.specs.Search.{searched}
 use Rattle.search.proofs.Ending.{ran}

@@ -12,7 +12,7 @@ use Rattle.jobs.specs.declared.Job.{Job}
 use Rattle.points.specs.Points.{pointsOf}
 use Rattle.residuals.specs.Cost.{cost, bound}
 use Rattle.residuals.proofs.Bounds.{bound-laws}
-use Rattle.listing.specs.declared.Found.{Found}
+use Rattle.list_running.specs.declared.Found.{Found}
 use Rattle.search.specs.declared.step.State.{State}
 use Rattle.search.specs.Search.{searched}
 use Rattle.search.specs.Inside.{LateLong}

@@ -5,8 +5,8 @@ use mathlib.Core.List.{List}
 use native.Mathlib.Omega.{arith}
 use lib.IntN.{ℤ}
 use lib.ListN.{length}
-use Rattle.rows.specs.Rows.{rowCount}
-use Rattle.rows.proofs.Rows.{Whole}
+use Rattle.list_rows.specs.Rows.{rowCount}
+use Rattle.list_rows.proofs.Rows.{Whole}
 use Rattle.search.specs.Inside.{LateLong}
 use Rattle.search.proofs.Replacing.{late-long, room-late, room-few, room-long, late-more, number-more, row-long, entry-long}
 use Rattle.search.proofs.Replacing.{replaced}

@@ -11,11 +11,11 @@ use borrow.Author.Tests.{eqb-false}
 use Rattle.boxes.specs.declared.Box.{Box}
 use Rattle.points.specs.Points.{pointsOf}
 use Rattle.residuals.specs.Cost.{cost, bound}
-use Rattle.rows.specs.Rows.{rowCount}
-use Rattle.open_boxes.specs.declared.Mark.{Mark}
-use Rattle.open_boxes.proofs.Picking.{one-at-most}
-use Rattle.listing.specs.Listing.{boxIn}
-use Rattle.listing.proofs.Entries.{one-answer}
+use Rattle.list_rows.specs.Rows.{rowCount}
+use Rattle.list_open_boxes.specs.declared.Mark.{Mark}
+use Rattle.list_open_boxes.proofs.Picking.{one-at-most}
+use Rattle.list_running.specs.Listing.{boxIn}
+use Rattle.list_running.proofs.Entries.{one-answer}
 use Rattle.certificate.specs.Search.{ahead, split}
 use Rattle.search.specs.Inside.{markOf, keptBy, Cut, stateIn}
 use Rattle.search.proofs.Stepping.{best-stays, replaceable, step-told, step-moved}

@@ -3,8 +3,8 @@ use Prim.Native.Nat.{_+_, _/_, _≤_, _<_, min}
 use native.Mathlib.Omega.{arith}
 use lib.ListN.{length}
 use borrow.Author.Tests.{le-leb, lt-leb}
-use Rattle.open_boxes.specs.OpenBoxes.{keptAt, roomIn}
-use Rattle.open_boxes.proofs.Picking.{number-few, one-at-most}
+use Rattle.list_open_boxes.specs.OpenBoxes.{keptAt, roomIn}
+use Rattle.list_open_boxes.proofs.Picking.{number-few, one-at-most}
 use borrow.Author.Needs.{needs}
 use Rattle.search.proofs.step.too_many.Statement.{statement}
 use Rattle.search.proofs.step.too_many.Tie as tie

@@ -1,0 +1,77 @@
+-- The invariant: the entries up to place k have moved, and all others are as they were. The measure is the places left.
+use mathlib.Core.Path.{_≡_, refl}
+use Prim.Native.Nat.{_-_, _≤_}
+use native.Mathlib.Omega.{arith}
+use lib.ListN.{length, length-set}
+use Rattle.list_rows.proofs.Parts.{down, down-turn}
+use Rattle.list_open_boxes.proofs.slide_entries.Statement.{statement}
+use Rattle.list_open_boxes.proofs.slide_entries.Tie as tie
+
+abbrev Inv-loop : tie.InvT-loop
+Inv-loop part₀ end k₀ part k = (k ≤ end) × (length part ≡ length part₀) × (part ≡ down part₀ 0 1 (k - 0))
+
+abbrev μ-loop : tie.MeasureT-loop
+μ-loop part₀ end k₀ part k = end - k
+
+sub-end : tie.Need-sub-end Inv-loop μ-loop
+sub-end c = omega arith
+
+loop-holds : tie.Need-loop-holds Inv-loop μ-loop
+loop-holds c = (omega arith, refl, refl)
+
+add-part : tie.Need-add-part Inv-loop μ-loop
+add-part c = omega arith
+
+mul-part : tie.Need-mul-part Inv-loop μ-loop
+mul-part c = omega arith
+
+slice-read-part : tie.Need-slice-read-part Inv-loop μ-loop
+slice-read-part c = omega arith
+
+mul-part-2 : tie.Need-mul-part-2 Inv-loop μ-loop
+mul-part-2 c = omega arith
+
+slice-write-part : tie.Need-slice-write-part Inv-loop μ-loop
+slice-write-part c = omega arith
+
+add-k : tie.Need-add-k Inv-loop μ-loop
+add-k c = omega arith
+
+loop-less : tie.Need-loop-less Inv-loop μ-loop
+loop-less c = omega arith
+
+loop-again : tie.Need-loop-again Inv-loop μ-loop
+loop-again c =
+    let l = c .before .before in (
+      omega arith,
+      simp length-set (l .loop .inv .1),
+      rw (l .loop .inv .2) (down-turn (l .before .args .part .now) 0 1 (l .loop .k) 0 (omega arith) (omega arith)),
+    )
+
+same-length : tie.Need-same-length Inv-loop μ-loop
+same-length c = c .before .loop .inv .1
+
+returns : tie.Need-returns Inv-loop μ-loop
+returns c =
+    let l = c .before in
+    let all : l .loop .k - 0 ≡ length (l .before .args .part .now) - 1 = omega arith in
+    rw all at (l .loop .inv .2)
+
+pub slide-entries-spec : {M : Type 1} → statement M
+slide-entries-spec =
+    tie.close
+    (tie.spec
+    Inv-loop
+    μ-loop
+    sub-end
+    loop-holds
+    add-part
+    mul-part
+    slice-read-part
+    mul-part-2
+    slice-write-part
+    add-k
+    loop-less
+    loop-again
+    same-length
+    returns)
