@@ -33,7 +33,8 @@ fn loss(p: u8, eps: f64, size: f64) -> f64
         0 => over(eps, size),
         1 => smaller(eps, size),
         2 => cut_square(eps, size),
-        _ => 0.0,
+        // p = 3 goes by rank, and check 4 refuses the others
+        3..=255 => 0.0,
     }
 }
 
