@@ -13,18 +13,17 @@ use mir.Facts.{toZ-ofZ}
 use Rattle.integers.proofs.Parts.{abs-fits}
 use Rattle.integers.proofs.Tests.{le-or-lt}
 use Rattle.points.specs.Points.{signedAt, pointAt}
-use Rattle.eval_whole.specs.Whole.{Within, zeroth}
-use Rattle.eval_whole.proofs.Laws.{zero-whole}
-use Rattle.eval_whole.proofs.Picks.{cast-within}
+use Rattle.eval_whole.specs.Whole.{zeroth}
 use Rattle.eval_lanes.specs.Inside.{Filled}
 use Rattle.eval_lanes.proofs.Filling.{also-filled, told-filled}
-use Rattle.eval_columns.specs.Columns.{nowhere, number, recordIn, field}
+use Rattle.eval_columns.specs.Columns.{nowhere, number, recordIn, field, Cast}
 use Rattle.eval_columns.specs.Inside.{FieldOfRecords, FieldOfSlots}
+use Rattle.eval_columns.proofs.Casts.{cast-zero}
 use Rattle.eval_columns.proofs.Places.{record-found, record-full, record-past}
 
 -- a field as the machine has it, cast
-pub field-cast : {z y : ℤ} → SFits w16 z → z ≡ y → Within (ofInt binary64 (toZ w16 (ofZ w16 z))) y 32768
-field-cast {z} f e = rw (← e) (rw (toZ-ofZ f) (cast-within z (abs-fits w16 f) (omega arith)))
+pub field-cast : {z y : ℤ} → SFits w16 z → z ≡ y → Cast (ofInt binary64 (toZ w16 (ofZ w16 z))) y
+field-cast {z} f e = rw (← e) (record { is = ap (ofInt binary64) (toZ-ofZ f); small = abs-fits w16 f })
 
 -- ---- slots
 field-at : (store : List ℕ) (i c : ℕ) → c < 5 → signedAt store (i * 12 + c * 2) ≡ field c (pointAt store i)
@@ -53,7 +52,7 @@ module _ (store : List ℕ) (t g c n : ℕ) (groups : g < 4) (five : c < 5) (ful
       let f : signedAt store ((t * 76 + g * 19 + (k - g * 20)) * 12 + c * 2) ≡ field c (recordIn store t k) =
       ap (λ (i : ℕ). signedAt store (i * 12 + c * 2)) e ∙ field-at store (number t k) c five
       ∙ ap (field c) (sym (record-found store t k (omega arith) (omega arith))) in
-      subst (λ (z : ℤ). Within b z 32768) f w
+      subst (λ (z : ℤ). Cast b z) f w
 
   empty : (k : ℕ) → g * 20 + n ≤ k → k < g * 20 + 20 → recordIn store t k ≡ nowhere
   empty k l h =
@@ -65,7 +64,7 @@ module _ (store : List ℕ) (t g c n : ℕ) (groups : g < 4) (five : c < 5) (ful
   cleared : (k : ℕ) → g * 20 + n ≤ k → k < g * 20 + 20 → (a b : Float) → b ≡ zeroth → FieldOfSlots store t c k a b
   cleared k l h a b e =
       let z : field c (recordIn store t k) ≡ pos 0 = ap (field c) (empty k l h) ∙ no-field c five in
-      rw e (rw z (record { whole = zero-whole; small = omega arith }))
+      rw e (rw z cast-zero)
 
   pub group-filled : {old mid xs : List Float}
       → Filled (g * 20) (FieldOfRecords store (g * 20) (t * 76 + g * 19) (c * 2)) old (g * 20 + n) mid

@@ -10,12 +10,11 @@ use lib.Seq.{getD-set-same, getD-set-other}
 use lib.Ieee.{Float}
 use Rattle.eval_lanes.specs.Lanes.{lane, cell}
 use Rattle.points.specs.declared.Point.{Point}
-use Rattle.eval_whole.specs.Whole.{Within}
-use Rattle.eval_columns.specs.Columns.{field}
+use Rattle.eval_columns.specs.Columns.{field, Cast}
 
 -- the columns of a chunk have these points, and their y as Target says
 pub record ColumnsOf (point : ℕ → Point) (d : ℕ) (Target : ℕ → Float → Type 0) (s : List (List Float)) : Type 0 where
-  pub column : (c k : ℕ) → c < d → c < 4 → k < 80 → Within (cell s c k) (field c (point k)) 32768
+  pub column : (c k : ℕ) → c < d → c < 4 → k < 80 → Cast (cell s c k) (field c (point k))
   pub target : (k : ℕ) → k < 80 → Target k (cell s 4 k)
 
 -- columns given new numbers, one after the other, of which P says each number's column, place and value
@@ -50,7 +49,7 @@ module _ (P : ℕ → ℕ → Float → Type 0) (old : List (List Float)) where
   -- with y behind them they are the chunk
   module _ {d n : ℕ} {s : List (List Float)} (ys : List Float) (few : n ≡ min d 4) (g : Laid n s) where
     pub all-laid : (point : ℕ → Point) (Target : ℕ → Float → Type 0)
-        → ((c k : ℕ) (x : Float) → c < n → k < 80 → P c k x → Within x (field c (point k)) 32768)
+        → ((c k : ℕ) (x : Float) → c < n → k < 80 → P c k x → Cast x (field c (point k)))
         → ((k : ℕ) → k < 80 → Target k (lane ys k)) → ColumnsOf point d Target (set s 4 ys)
     all-laid point Target told new =
         let five = g .long in

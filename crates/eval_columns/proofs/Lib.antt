@@ -1,4 +1,5 @@
 pub mod Places
+pub mod Casts
 pub mod Decoding
 pub mod Laying
 pub mod Marks

@@ -8,19 +8,19 @@ use native.Mathlib.Nat.{eq-or-lt-of-le}
 use native.Mathlib.Omega.{arith}
 use borrow.Author.Tests.{eqb-true, eqb-false, not-true, lt-ltb, le-ltb}
 use lib.Dec.{eqb, ltb}
-use lib.IntN.{ℤ, pos, negsuc, natAbs, _*ℤ_}
+use lib.IntN.{ℤ, pos, negsuc, natAbs}
 use lib.ListN.{length, set}
 use lib.Seq.{getD-set-same, getD-set-other}
 use lib.Ieee.{Float, binary64, lt, mul, ofInt}
 use lib.Signed.{ltZ}
 use Rattle.points.specs.declared.Point.{Point}
 use Rattle.points.specs.Points.{skipped, isGap}
-use Rattle.eval_whole.specs.Whole.{Whole, Within, zeroth}
-use Rattle.eval_whole.proofs.Laws.{lt-whole, zero-whole}
-use Rattle.eval_whole.proofs.Picks.{cast-within, mul-within}
+use Rattle.eval_whole.specs.Whole.{Whole, zeroth}
+use Rattle.eval_whole.proofs.Laws.{lt-whole}
 use Rattle.eval_lanes.specs.Lanes.{lane, cell}
-use Rattle.eval_columns.specs.Columns.{nowhere, recordIn, placed, slot, field, ChunkOf}
+use Rattle.eval_columns.specs.Columns.{nowhere, recordIn, placed, slot, field, Cast, Scaled, ChunkOf}
 use Rattle.eval_columns.specs.Inside.{RecordsOf, ScaledOf}
+use Rattle.eval_columns.proofs.Casts.{within-cast}
 
 -- −32,768
 abbrev pub mark : ℤ
@@ -39,38 +39,35 @@ above-mark (negsuc n) h = by (eqb n 32767) refl
         lt-ltb n 32767 (⊎-elim (λ (q : n ≡ 32767). absurd (eqb-false n 32767 e q)) (λ (q : n < 32767). q) (eq-or-lt-of-le l))
 
 -- what lies above it is no gap's
-none-skipped : (y : ℤ) {m x : Float} → Whole m mark → Within x y 32768 → lt m x ≡ true → skipped y ≡ false
-none-skipped y wm w e = not-true (skipped y) (sym (lt-whole wm (w .whole) ∙ above-mark y (w .small)) ∙ e)
+none-skipped : (y : ℤ) {m x : Float} → Whole m mark → Cast x y → lt m x ≡ true → skipped y ≡ false
+none-skipped y wm w e = not-true (skipped y) (sym (lt-whole wm (within-cast w .whole) ∙ above-mark y (w .small)) ∙ e)
 
 pub placed-sample : (q : Point) → isGap q ≡ false → placed q ≡ q
 unfolding placed
 placed-sample q e = ap (λ (gap : Bool). cond gap nowhere q) e
 
--- a number of a point, kept where its y lies above the mark, is that of what is placed in its slot
-pub kept-within : (q : Point) (z : Point → ℤ) {m x y : Float} {B : ℕ} → z nowhere ≡ pos 0 → natAbs (q .y) ≤ 32768 → Whole m mark
-    → Whole y (q .y)
-    → Within x (z q) B → Within (cond (lt m y) x zeroth) (z (placed q)) B
+-- what holds of a number of a point, kept where its y lies above the mark, holds of what is placed in its slot
+kept : (P : Float → Point → Type 0) (q : Point) {m x y : Float} → P zeroth nowhere → natAbs (q .y) ≤ 32768 → Whole m mark → Whole y (q .y)
+    → P x q → P (cond (lt m y) x zeroth) (placed q)
 unfolding placed
-kept-within q z {m} {x} {y} {B} none small wm wy w =
-    subst (λ (t : Bool). Within (cond t x zeroth) (z (cond (isGap q) nowhere q)) B) (sym (lt-whole wm wy ∙ above-mark (q .y) small))
-    (by (isGap q))
+kept P q {m} {x} {y} none small wm wy w =
+    subst (λ (t : Bool). P (cond t x zeroth) (cond (isGap q) nowhere q)) (sym (lt-whole wm wy ∙ above-mark (q .y) small)) (by (isGap q))
   where
-    by : (gap : Bool) → Within (cond (not gap) x zeroth) (z (cond gap nowhere q)) B
-    by true = subst (λ (n : ℤ). Within zeroth n B) (sym none) (record { whole = zero-whole; small = omega arith })
+    by : (gap : Bool) → P (cond (not gap) x zeroth) (cond gap nowhere q)
+    by true = none
     by false = w
 
 -- ---- columns
 -- a number of a column that d uses is that of its slot
 abbrev pub Emptied : List ℕ → ℕ → ℕ → ℕ → ℕ → Float → Type 0
-Emptied store t d c k x = c < d → Within x (field c (slot store t k)) 32768
+Emptied store t d c k x = c < d → Cast x (field c (slot store t k))
 
 -- a number of slot k, kept by the y of its record
-module _ (store : List ℕ) (t k : ℕ) {m y : Float} (wm : Whole m mark) (wy : Within y (field 4 (recordIn store t k)) 32768) where
-  pub kept-in : (z : Point → ℤ) {x new : Float} {B : ℕ} → z nowhere ≡ pos 0 → new ≡ cond (lt m y) x zeroth
-      → Within x (z (recordIn store t k)) B
-      → Within new (z (slot store t k)) B
+module _ (store : List ℕ) (t k : ℕ) {m y : Float} (wm : Whole m mark) (wy : Cast y (field 4 (recordIn store t k))) where
+  pub kept-in : (P : Float → Point → Type 0) {x new : Float} → P zeroth nowhere → new ≡ cond (lt m y) x zeroth → P x (recordIn store t k)
+      → P new (slot store t k)
   unfolding slot
-  kept-in z none e w = rw e (kept-within (recordIn store t k) z none (wy .small) wm (wy .whole) w)
+  kept-in P none e w = rw e (kept P (recordIn store t k) none (wy .small) wm (within-cast wy .whole) w)
 
 module _ {store : List ℕ} {t d : ℕ} {s : List (List Float)} (records : RecordsOf store t d s) (power : ℕ) (small : power < 65536)
     (ys : List Float)
@@ -81,9 +78,8 @@ module _ {store : List ℕ} {t d : ℕ} {s : List (List Float)} (records : Recor
       record {
         column = λ c k u l h. rw (getD-set-other s 4 c ys [] (λ q. omega arith)) (records .column c k u l h);
         target = λ k h.
-            rw (getD-set-same s 4 ys [] (omega arith))
-            (rw (times k h) (mul-within (records .target k h) (cast-within (pos power) {B = 65536} (omega arith) (omega arith))
-            (omega arith)));
+            let y = records .target k h in
+            rw (getD-set-same s 4 ys [] (omega arith)) (rw (times k h) (rw (y .is) (record { is = refl; small = y .small; factor = small })));
       }
 
   -- where all y lie above the mark, the records are the slots' points
@@ -96,6 +92,6 @@ module _ {store : List ℕ} {t d : ℕ} {s : List (List Float)} (records : Recor
     all-samples =
         let new = set s 4 ys in
         record {
-          column = λ c k u l h. subst (λ (q : Point). Within (cell new c k) (field c q) 32768) (slot-is k h) (scaled .column c k u l h);
-          target = λ k h. subst (λ (q : Point). Within (cell new 4 k) (q .y *ℤ pos power) 2147483648) (slot-is k h) (scaled .target k h);
+          column = λ c k u l h. subst (λ (q : Point). Cast (cell new c k) (field c q)) (slot-is k h) (scaled .column c k u l h);
+          target = λ k h. subst (λ (q : Point). Scaled (cell new 4 k) (q .y) power) (slot-is k h) (scaled .target k h);
         }

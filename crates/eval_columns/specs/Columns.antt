@@ -5,12 +5,11 @@ use mathlib.Core.List.{List, [], _∷_}
 use mathlib.Core.Path.{_≡_}
 use Prim.Native.Nat.{ℕ, _+_, _*_, _/_, _%_, _≤_, _<_, min}
 use lib.Dec.{ltb}
-use lib.IntN.{ℤ, pos, _*ℤ_}
+use lib.IntN.{ℤ, pos, natAbs}
 use lib.ListN.{length, getD}
-use lib.Ieee.{Float}
+use lib.Ieee.{Float, binary64, mul, ofInt}
 use Rattle.points.specs.declared.Point.{Point}
 use Rattle.points.specs.Points.{pointAt, isGap}
-use Rattle.eval_whole.specs.Whole.{Within}
 use Rattle.eval_lanes.specs.Lanes.{cell}
 
 -- what stands in an empty slot
@@ -41,10 +40,21 @@ chunks store = (length store / 12 + 75) / 76
 abbrev pub field : ℕ → Point → ℤ
 field c q = getD (q .x1 ∷ q .x2 ∷ q .x3 ∷ q .x4 ∷ q .y ∷ []) c (pos 0)
 
+-- x is the 16-bit number z in double precision; where z is 0, x is +0
+pub record Cast (x : Float) (z : ℤ) : Type 0 where
+  pub is : x ≡ ofInt binary64 z
+  pub small : natAbs z ≤ 32768
+
+-- x is such a number times a power of two, multiplied in double precision
+pub record Scaled (x : Float) (y : ℤ) (power : ℕ) : Type 0 where
+  pub is : x ≡ mul binary64 (ofInt binary64 y) (ofInt binary64 (pos power))
+  pub small : natAbs y ≤ 32768
+  pub factor : power < 65536
+
 -- The columns of a chunk are chunk t of a store: the first d of the x, and y times a power of two.
 pub record ChunkOf (store : List ℕ) (t d power : ℕ) (s : List (List Float)) : Type 0 where
-  pub column : (c k : ℕ) → c < d → c < 4 → k < 80 → Within (cell s c k) (field c (slot store t k)) 32768
-  pub target : (k : ℕ) → k < 80 → Within (cell s 4 k) (slot store t k .y *ℤ pos power) 2147483648
+  pub column : (c k : ℕ) → c < d → c < 4 → k < 80 → Cast (cell s c k) (field c (slot store t k))
+  pub target : (k : ℕ) → k < 80 → Scaled (cell s 4 k) (slot store t k .y) power
 
 -- how many of them are decoded: all, where there is room, since check 1 lets no more than 54 through
 abbrev pub decodedChunks : List ℕ → List (List (List Float)) → ℕ

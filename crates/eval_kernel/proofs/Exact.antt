@@ -21,6 +21,7 @@ use Rattle.eval_whole.proofs.Laws.{most, cast-whole, lt-whole}
 use Rattle.eval_whole.proofs.Picks.{least-whole}
 use Rattle.eval_lanes.specs.Lanes.{lane, xsAt, taken}
 use Rattle.eval_columns.specs.Columns.{slot, ChunkOf}
+use Rattle.eval_columns.proofs.Casts.{within-cast, within-scaled}
 use Rattle.eval_sizes.proofs.Exact.{size-exact}
 use Rattle.eval_box_ends.proofs.Exact.{least-exact}
 use Rattle.eval_losses.proofs.Exact.{loss-exact, groups-exact, chunk-exact}
@@ -38,10 +39,10 @@ line-within v u b d w few room (suc (suc (suc (suc k)))) h = absurd (omega arith
 
 module _ {store : List ℕ} {t d power : ℕ} {s : List (List Float)} (chunk : ChunkOf store t d power s) (k : ℕ) (h : k < 80) where
   point-within : d ≤ 4 → (c : ℕ) → c < d → Within (xsAt s k c) (at (xs (slot store t k)) c) 32768
-  point-within few zero i = chunk .column 0 k i (omega arith) h
-  point-within few (suc zero) i = chunk .column 1 k i (omega arith) h
-  point-within few (suc (suc zero)) i = chunk .column 2 k i (omega arith) h
-  point-within few (suc (suc (suc zero))) i = chunk .column 3 k i (omega arith) h
+  point-within few zero i = within-cast (chunk .column 0 k i (omega arith) h)
+  point-within few (suc zero) i = within-cast (chunk .column 1 k i (omega arith) h)
+  point-within few (suc (suc zero)) i = within-cast (chunk .column 2 k i (omega arith) h)
+  point-within few (suc (suc (suc zero))) i = within-cast (chunk .column 3 k i (omega arith) h)
   point-within few (suc (suc (suc (suc c)))) i = absurd (omega arith)
 
 -- ---- the size of one point and line
@@ -62,7 +63,7 @@ module _ {bytes : ℕ} {m : Model} (ready : Ready bytes m) {store : List ℕ} {t
   unfolding sizeAt residual
   size-in v w =
       rw (begins, uses)
-      (size-exact v (j * m .d) (xs (slot store t k)) (chunk .target k h) (m .d) (ready .used)
+      (size-exact v (j * m .d) (xs (slot store t k)) (within-scaled (chunk .target k h)) (m .d) (ready .used)
       (line-within v low (j * m .d) (m .d) w (ready .used) room) (point-within chunk k h (ready .used)))
 
   pub least-in : (l u : List ℤ) → Doubles l low → Doubles u high
@@ -70,7 +71,7 @@ module _ {bytes : ℕ} {m : Model} (ready : Ready bytes m) {store : List ℕ} {t
   unfolding leastSize eMin eMax
   least-in l u w x =
       rw (begins, uses)
-      (least-exact (boxOf l u) (j * m .d) (xs (slot store t k)) (chunk .target k h) (m .d) (ready .used)
+      (least-exact (boxOf l u) (j * m .d) (xs (slot store t k)) (within-scaled (chunk .target k h)) (m .d) (ready .used)
       (line-within l low (j * m .d) (m .d) w (ready .used) room) (line-within u high (j * m .d) (m .d) x (ready .used) room)
       (point-within chunk k h (ready .used)))
 

@@ -298,3 +298,14 @@ one-whole = record { sign = false; size = 1; value = (refl, refl); is = refl }
 pub half-whole : Whole half (pos 4503599627370496)
 unfolding ofBits
 half-whole = record { sign = false; size = 4503599627370496; value = (refl, refl); is = refl }
+
+-- 0 is +0 when it is cast, and so is 0 times what is not negative
+pub zero-cast : ofInt binary64 (pos 0) ≡ zeroth
+unfolding ofInt ofBits
+zero-cast = refl
+
+pub zero-times : (n : ℕ) → n ≤ most → mul binary64 (ofInt binary64 (pos 0)) (ofInt binary64 (pos n)) ≡ zeroth
+unfolding ofInt ofBits negative
+zero-times n h =
+    multiplied (ofInt binary64 (pos 0)) (ofInt binary64 (pos n)) false false 0 n (int-value (pos 0) (omega arith)) (int-value (pos n) h)
+    ∙ ap (λ (k : ℕ). round binary64 false k 1) (zero-mul n)

@@ -4,8 +4,7 @@ use Prim.Native.Nat.{ℕ, _-_, _≤_, min}
 use native.Mathlib.Omega.{arith}
 use Rattle.eval_columns.proofs.Laying.{Laid, none-laid, one-laid, all-laid, others-laid}
 use lib.Ieee.{Float}
-use Rattle.eval_whole.specs.Whole.{Within}
-use Rattle.eval_columns.specs.Columns.{recordIn, field}
+use Rattle.eval_columns.specs.Columns.{recordIn, field, Cast}
 use borrow.Author.Needs.{needs}
 use Rattle.eval_columns.proofs.decode_records.Statement.{statement}
 use Rattle.eval_columns.proofs.decode_records.Tie as tie
@@ -17,7 +16,7 @@ use Rattle.eval_lanes.proofs.known_columns.Reads as known-columns-reads
 
 abbrev Inv-loop : tie.InvT-loop
 Inv-loop chunk₀ store t d c₀ c-end chunk c =
-    Laid (λ c k x. Within x (field c (recordIn store t k)) 32768) chunk₀ c chunk × (c ≤ c-end) × (c-end ≡ min d 4)
+    Laid (λ c k x. Cast x (field c (recordIn store t k))) chunk₀ c chunk × (c ≤ c-end) × (c-end ≡ min d 4)
 
 abbrev μ-loop : tie.MeasureT-loop
 μ-loop chunk₀ store t d c₀ c-end chunk c = c-end - c
@@ -68,7 +67,7 @@ returns c =
     let ys = c .decode-column2 .last .0 in
     let store = s .args .store .now in
     let t = s .args .t in
-    let Target : ℕ → Float → Type 0 = λ k x. Within x (recordIn store t k .y) 32768 in
+    let Target : ℕ → Float → Type 0 = λ k x. Cast x (recordIn store t k .y) in
     let r = all-laid _ _ ys few (v .0) (recordIn store t) Target (λ c k x l i w. w) (c .decode-column2 .ensures) in
     (record { column = r .column; target = r .target }, others-laid _ _ ys few (v .0))
 

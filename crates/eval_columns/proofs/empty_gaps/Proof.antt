@@ -3,17 +3,16 @@
 use mathlib.Core.Path.{_≡_, sym, ap, subst}
 use mathlib.Core.List.{List, []}
 use Prim.Native.Nat.{ℕ, _-_, _≤_, _<_, min}
-use native.Mathlib.Nat.{zero-mul}
 use native.Mathlib.Omega.{arith}
-use lib.IntN.{ℤ, pos, _*ℤ_}
+use lib.IntN.{ℤ}
 use lib.ListN.{getD}
 use lib.Ieee.{Float, nan}
 use Rattle.points.specs.declared.Point.{Point}
-use Rattle.eval_whole.specs.Whole.{Within}
 use Rattle.eval_whole.proofs.Laws.{cast-whole}
 use Rattle.eval_lanes.specs.Lanes.{lane}
-use Rattle.eval_columns.specs.Columns.{recordIn, slot, field}
+use Rattle.eval_columns.specs.Columns.{recordIn, slot, field, Cast, Scaled}
 use Rattle.eval_columns.specs.Inside.{FieldOfSlots}
+use Rattle.eval_columns.proofs.Casts.{cast-zero, scaled-zero}
 use Rattle.eval_columns.proofs.Decoding.{no-field}
 use Rattle.eval_columns.proofs.Laying.{Laid, none-laid, one-laid, all-laid, others-laid}
 use Rattle.eval_columns.proofs.Marks.{mark, Emptied, kept-in}
@@ -77,9 +76,10 @@ loop-again c =
     let same : getD (p .loop .chunk) n [] ≡ getD (a .chunk .now) n [] = v .0 .rest n (omega arith) in
     let new : (k : ℕ) → k < 80 → Emptied (a .store .now) (a .t) (a .d) n k (lane (c .keep-above .last .0) k) =
     λ k h u.
-    kept-in (a .store .now) (a .t) k (cast-whole mark (omega arith)) (v .3 k h) (field n) (no-field n (omega (arith, v .2)))
+    kept-in (a .store .now) (a .t) k (cast-whole mark (omega arith)) (v .3 k h) (λ (x : Float) (q : Point). Cast x (field n q))
+    (rw (no-field n (omega (arith, v .2))) cast-zero)
     (c .keep-above .ensures k h)
-    (subst (λ (xs : List Float). Within (lane xs k) (field n (recordIn (a .store .now) (a .t) k)) 32768) (sym same)
+    (subst (λ (xs : List Float). Cast (lane xs k) (field n (recordIn (a .store .now) (a .t) k))) (sym same)
     (s .pre .1 .column n k u (omega (arith, v .2)) h)) in
     (one-laid _ _ (c .keep-above .last .0) (omega (arith, v .2)) new (v .0), omega arith, v .2, v .3)
 
@@ -101,14 +101,14 @@ returns c =
     let few : p .loop .c ≡ min (a .d) 4 = omega (arith, v .2, c .before .before .before .loop-test .left) in
     let same : getD (p .loop .chunk) 4 [] ≡ getD (a .chunk .now) 4 [] = v .0 .rest 4 (omega arith) in
     let ys = c .keep-above2 .last .0 in
-    let new : (k : ℕ) → k < 80 → Within (lane ys k) ((slot (a .store .now) (a .t) k) .y *ℤ pos (a .power)) 2147483648 =
+    let new : (k : ℕ) → k < 80 → Scaled (lane ys k) ((slot (a .store .now) (a .t) k) .y) (a .power) =
     λ k h.
-    kept-in (a .store .now) (a .t) k (cast-whole mark (omega arith)) (v .3 k h) (λ (q : Point). q .y *ℤ pos (a .power))
-    (ap pos (zero-mul (a .power)))
+    kept-in (a .store .now) (a .t) k (cast-whole mark (omega arith)) (v .3 k h) (λ (x : Float) (q : Point). Scaled x (q .y) (a .power))
+    (scaled-zero (a .power) (s .fits .power .fits))
     (c .keep-above2 .ensures k h)
-    (subst (λ (xs : List Float). Within (lane xs k) ((recordIn (a .store .now) (a .t) k) .y *ℤ pos (a .power)) 2147483648) (sym same)
+    (subst (λ (xs : List Float). Scaled (lane xs k) ((recordIn (a .store .now) (a .t) k) .y) (a .power)) (sym same)
     (s .pre .1 .target k h)) in
-    let Target : ℕ → Float → Type 0 = λ k x. Within x (slot (a .store .now) (a .t) k .y *ℤ pos (a .power)) 2147483648 in
+    let Target : ℕ → Float → Type 0 = λ k x. Scaled x (slot (a .store .now) (a .t) k .y) (a .power) in
     let r = all-laid _ _ ys few (v .0) (slot (a .store .now) (a .t)) Target (λ c k x l h w. w (omega arith)) new in
     (record { column = r .column; target = r .target }, others-laid _ _ ys few (v .0))
 
