@@ -1,4 +1,5 @@
 //! One evaluation of a cost and of a bound on 4,096 points, proved code against the same loops in plain Rust.
+use crate::checked;
 use crate::plain::{self, Model};
 use crate::random::Random;
 use crate::rattle;
@@ -95,6 +96,11 @@ fn compare(c: &Case) {
         rattle::bound(&c.store, &c.lanes, c.model, &c.corners, NO_CAP),
         bound
     );
+    assert_eq!(checked::cost(&c.store, c.model, &c.domain.low), Ok(cost));
+    assert_eq!(
+        checked::bound(&c.store, c.model, &c.domain.low, &c.domain.high),
+        Ok(bound)
+    );
     assert_eq!(
         rattle::cost_call(&c.store, c.model, &c.domain.low),
         (0, cost)
@@ -124,9 +130,10 @@ pub fn compare_all() -> usize {
     cases.len()
 }
 
-/// The least times over so many interleaved rounds, in nanoseconds: of the cost in Rust, over lanes, and by the whole call; then of the bound.
-fn least_times(c: &Case, rounds: usize) -> [f64; 6] {
-    let mut least = [f64::INFINITY; 6];
+/// The least times over so many interleaved rounds, in nanoseconds: of the cost in Rust, over lanes, in Rust with the checks of a call, and by the
+/// whole call; then of the bound.
+fn least_times(c: &Case, rounds: usize) -> [f64; 8] {
+    let mut least = [f64::INFINITY; 8];
     for _ in 0..rounds {
         let m = black_box(c.model);
         let (low, high) = (&c.domain.low, &c.domain.high);
@@ -134,34 +141,42 @@ fn least_times(c: &Case, rounds: usize) -> [f64; 6] {
         least[1] = timed(least[1], || {
             rattle::cost(&c.store, &c.lanes, m, &c.corners, NO_CAP)
         });
-        least[2] = timed(least[2], || rattle::cost_call(&c.store, m, low).1);
-        least[3] = timed(least[3], || plain::bound(&c.store, m, low, high));
-        least[4] = timed(least[4], || {
+        least[2] = timed(least[2], || checked::cost(&c.store, m, low).unwrap_or(0));
+        least[3] = timed(least[3], || rattle::cost_call(&c.store, m, low).1);
+        least[4] = timed(least[4], || plain::bound(&c.store, m, low, high));
+        least[5] = timed(least[5], || {
             rattle::bound(&c.store, &c.lanes, m, &c.corners, NO_CAP)
         });
-        least[5] = timed(least[5], || rattle::bound_call(&c.store, m, &c.corners).1);
+        least[6] = timed(least[6], || {
+            checked::bound(&c.store, m, low, high).unwrap_or(0)
+        });
+        least[7] = timed(least[7], || rattle::bound_call(&c.store, m, &c.corners).1);
     }
     least
 }
 
-/// Prints times and ratios.
+/// Prints times and ratios: of lanes to Rust, and of the whole call to Rust that makes its checks.
 pub fn table(rounds: usize) {
-    println!("{POINTS} points, least of {rounds} rounds, microseconds for one evaluation: over lanes, and the whole call, which decodes");
-    println!("                        cost                                    bound");
+    println!("{POINTS} points, least of {rounds} rounds, microseconds for one evaluation: over lanes, and the whole call, which decodes, with its checks on both sides");
     println!(
-        "n d p      Rust    lanes ratio     call ratio        Rust    lanes ratio     call ratio"
+        "                              cost                                              bound"
+    );
+    println!(
+        "n d p      Rust    lanes ratio   checked     call ratio        Rust    lanes ratio   checked     call ratio"
     );
     let mut worst = [0f64; 4];
     for c in cases() {
         compare(&c);
         let Model { n, d, p, .. } = c.model;
-        let [a, b, c, e, f, g] = least_times(&c, rounds).map(|t| t / 1000.0);
-        let ratios = [b / a, c / a, f / e, g / e];
-        println!(
-            "{n} {d} {p}  {a:8.1} {b:8.1} {:5.2} {c:8.1} {:5.2}    {e:8.1} {f:8.1} {:5.2} {g:8.1} {:5.2}",
-            ratios[0], ratios[1], ratios[2], ratios[3]
-        );
-        (0..4).for_each(|k| worst[k] = worst[k].max(ratios[k]));
+        let times = least_times(&c, rounds).map(|t| t / 1000.0);
+        let mut row = format!("{n} {d} {p}");
+        for (k, pair) in times.chunks_exact(2).enumerate() {
+            let ratio = pair[1] / pair[0];
+            worst[k] = worst[k].max(ratio);
+            let gap = if k == 2 { 12 } else { 10 };
+            row += &format!("{:gap$.1} {:8.1} {ratio:5.2}", pair[0], pair[1]);
+        }
+        println!("{row}");
     }
     println!(
         "largest ratio: cost {:.2}, call {:.2}; bound {:.2}, call {:.2}",

@@ -8,6 +8,7 @@
 //!     bench once N D P               one evaluation of each, for counting instructions
 //!     bench once-search NUMBER       one search of each kind on the job of that number, for the same
 //!     bench once-growth SPLITS       one proved search in which nearly every one of so many splits leaves one more box open, for the same
+mod checked;
 mod clock;
 mod evaluations;
 mod jobs;
