@@ -18,7 +18,7 @@ use Rattle.points.specs.declared.Point.{Point}
 use Rattle.points.specs.Points.{pointsOf, checkStore}
 use Rattle.points.proofs.Laws.{points-length}
 use Rattle.residuals.specs.Cost.{sizeAt, totalLoss, cost}
-use Rattle.residuals.specs.Inside.{sumOf}
+use Rattle.integers.specs.Sums.{sumOf}
 use Rattle.residuals.proofs.Bounds.{cost-sum}
 use Rattle.beacon_costs.specs.BeaconCosts.{group, groups, groupCost, total}
 use Rattle.beacon_costs.specs.Laws.{AllGrouped}

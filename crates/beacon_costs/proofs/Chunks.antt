@@ -15,7 +15,8 @@ use Rattle.loss.specs.Loss.{lossOf}
 use Rattle.points.specs.Points.{pointAt, firstPoints, pointsOf}
 use Rattle.points.proofs.Laws.{points-length}
 use Rattle.residuals.specs.Cost.{least, unlessGap, totalLoss, sizeAt, cost}
-use Rattle.residuals.specs.Inside.{Ready, sumOf}
+use Rattle.integers.specs.Sums.{sumOf}
+use Rattle.residuals.specs.Inside.{Ready}
 use Rattle.residuals.proofs.Bounds.{cost-sum}
 use Rattle.residuals.proofs.Sums.{threshold-small, Summed, none-summed, one-summed}
 use Rattle.eval_columns.specs.Columns.{slot, ChunkOf}

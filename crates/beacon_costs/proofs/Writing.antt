@@ -12,7 +12,7 @@ use Rattle.jobs.specs.declared.Model.{Model}
 use Rattle.points.specs.declared.Point.{Point}
 use Rattle.points.specs.Points.{pointsOf}
 use Rattle.points.proofs.Laws.{points-length}
-use Rattle.residuals.specs.Inside.{sumOf}
+use Rattle.integers.specs.Sums.{sumOf}
 use Rattle.beacon_costs.specs.BeaconCosts.{groups, groupCost, partialSums, total}
 
 -- the number of groups, by the bytes of a store

@@ -13,7 +13,7 @@ use Rattle.jobs.specs.declared.Model.{Model}
 use Rattle.points.specs.declared.Point.{Point}
 use Rattle.points.specs.Points.{pointsOf}
 use Rattle.residuals.specs.Cost.{cost}
-use Rattle.residuals.specs.Inside.{sumOf}
+use Rattle.integers.specs.Sums.{sumOf}
 use Rattle.model_checks.specs.Checks.{checkThreshold}
 
 -- "groups of 19 records, as a full beacon holds": records 19 g to 19 g + 18

@@ -8,7 +8,8 @@ use Rattle.boxes.specs.Shape.{checkShape}
 use Rattle.boxes.specs.Boxes.{atMost, before, sideSize, sides, product, checkBox}
 use Rattle.boxes.specs.Split.{firstLargest, leftHalf, rightHalf, splitChecks, splitAnswer}
 use Rattle.loss.specs.Loss.{lossOf}
-use Rattle.residuals.specs.Cost.{dot, residual, sizeAt, dotMax, dotMin, eMin, eMax, nearestTo0, leastSize, least, unlessGap, totalLoss}
+use Rattle.residuals.specs.Cost.{residual, sizeAt, eMin, eMax, nearestTo0, leastSize, least, unlessGap, totalLoss}
+use Rattle.integers.specs.Sums.{Σ}
 use Rattle.residuals.specs.Cost.{cost, bound, leastAt, leastOver}
 use Rattle.labels.specs.Labels.{firstLeast, nearestLabel, fitting, sampleLabel, label}
 use Rattle.certificate.specs.Search.{ahead, lowerBound, firstSmallest, better, begin, split, isSolved, answer, ifRoom, step, follow, run}
@@ -33,7 +34,7 @@ use Rattle.ranks.specs.Largest.{insertDown, sortDown, nthLargest}
 
 pub starred-hold : StarredHold
 unfolding maxZ minZ floorHalf allZero inOrder checkShape atMost before sideSize sides product checkBox firstLargest leftHalf rightHalf
-    splitChecks splitAnswer lossOf dot residual sizeAt dotMax dotMin eMin eMax nearestTo0 leastSize least firstLeast nearestLabel fitting
+    splitChecks splitAnswer lossOf Σ residual sizeAt eMin eMax nearestTo0 leastSize least firstLeast nearestLabel fitting
     sampleLabel label unlessGap totalLoss cost bound ahead lowerBound firstSmallest better begin split isSolved answer ifRoom step follow
     run search exponentOf fractionOf fieldsOf patternOf size checkScale checkLoss checkLossFor checkStart unsignedAt signedAt pointAt
     skipped firstPoints pointsOf checkStore strayFrom checkStray checkModel bigEndian fromBigEndian vectorBytes vectorOf jobBytes jobOf
@@ -46,7 +47,7 @@ starred-hold =
 
 pub gaps-hold : GapsHold
 unfolding maxZ minZ floorHalf allZero inOrder checkShape atMost before sideSize sides product checkBox firstLargest leftHalf rightHalf
-    splitChecks splitAnswer lossOf dot residual sizeAt dotMax dotMin eMin eMax nearestTo0 leastSize least firstLeast nearestLabel fitting
+    splitChecks splitAnswer lossOf Σ residual sizeAt eMin eMax nearestTo0 leastSize least firstLeast nearestLabel fitting
     sampleLabel label unlessGap totalLoss cost bound ahead lowerBound firstSmallest better begin split isSolved answer ifRoom step follow
     run search exponentOf fractionOf fieldsOf patternOf size checkScale checkLoss checkLossFor checkStart unsignedAt signedAt pointAt
     skipped firstPoints pointsOf checkStore strayFrom checkStray checkModel bigEndian fromBigEndian vectorBytes vectorOf jobBytes jobOf
@@ -55,7 +56,7 @@ gaps-hold = also refl (also refl (also refl (also refl none)))
 
 pub spoiled-hold : SpoiledHold
 unfolding insertDown sortDown nthLargest leastAt leastOver maxZ minZ floorHalf allZero inOrder checkShape atMost before sideSize sides
-    product checkBox firstLargest leftHalf rightHalf splitChecks splitAnswer lossOf dot residual sizeAt dotMax dotMin eMin eMax nearestTo0
+    product checkBox firstLargest leftHalf rightHalf splitChecks splitAnswer lossOf Σ residual sizeAt eMin eMax nearestTo0
     leastSize least firstLeast nearestLabel fitting sampleLabel label unlessGap totalLoss cost bound ahead lowerBound firstSmallest better
     begin split isSolved answer ifRoom step follow run search exponentOf fractionOf fieldsOf patternOf size checkScale checkLoss
     checkLossFor checkStart unsignedAt signedAt pointAt skipped firstPoints pointsOf checkStore strayFrom checkStray checkModel bigEndian

@@ -1,11 +1,11 @@
 -- "Bench fits": the starred ones, as the paper writes them. "One line, d = 1, x = 1 and S = 0 unless said."
 use mathlib.Core.List.{List, [], _∷_}
-use lib.IntN.{pos, negsuc}
+use lib.IntN.{pos}
+use Rattle.integers.specs.Integers.{minus}
 use Rattle.integers.specs.Lists.{All}
 use Rattle.bench_fits.specs.Fits.{Fit, residual-is, loss-is, label-is, least-size-is, splits-into, fit-writes, pattern-is, Holds}
 use Rattle.bench_fits.specs.Fits.{vector, box, point, lines, job}
 
--- `negsuc n` is −(n + 1).
 abbrev pub starred : List Fit
 starred =
     -- A: S = 1, x = 2, y = 3, w = 2: e = 2; p = 0 gives 0 for ε = 2, 1 for ε = 1.
@@ -13,18 +13,18 @@ starred =
     ∷ loss-is 0 2 (pos 2) 0
     ∷ loss-is 0 1 (pos 2) 1
     -- B: p = 2, e = −5: 16 for ε = 4; 25 for ε = 5 and 6.
-    ∷ loss-is 2 4 (negsuc 4) 16
-    ∷ loss-is 2 5 (negsuc 4) 25
-    ∷ loss-is 2 6 (negsuc 4) 25
+    ∷ loss-is 2 4 (minus 5) 16
+    ∷ loss-is 2 5 (minus 5) 25
+    ∷ loss-is 2 6 (minus 5) 25
     -- C: two lines 2 and 6, y = 4: label 5 with ε = 2, label 0 with ε = 1. ("so fit C gives 5 with ε = 2", document 02; 1 before it)
     ∷ label-is (lines 2 0 0 2) (vector (pos 2 ∷ pos 6 ∷ [])) (point (pos 1) (pos 4)) 5
     ∷ label-is (lines 2 0 0 1) (vector (pos 2 ∷ pos 6 ∷ [])) (point (pos 1) (pos 4)) 0
     -- D: x = −2, y = 1: least size 0 on −1..3, 3 on 1..3, 3 on −3..−2.
-    ∷ least-size-is (lines 1 0 0 0) (box (negsuc 0 ∷ []) (pos 3 ∷ [])) (point (negsuc 1) (pos 1)) 0
-    ∷ least-size-is (lines 1 0 0 0) (box (pos 1 ∷ []) (pos 3 ∷ [])) (point (negsuc 1) (pos 1)) 3
-    ∷ least-size-is (lines 1 0 0 0) (box (negsuc 2 ∷ []) (negsuc 1 ∷ [])) (point (negsuc 1) (pos 1)) 3
+    ∷ least-size-is (lines 1 0 0 0) (box (minus 1 ∷ []) (pos 3 ∷ [])) (point (minus 2) (pos 1)) 0
+    ∷ least-size-is (lines 1 0 0 0) (box (pos 1 ∷ []) (pos 3 ∷ [])) (point (minus 2) (pos 1)) 3
+    ∷ least-size-is (lines 1 0 0 0) (box (minus 3 ∷ []) (minus 2 ∷ [])) (point (minus 2) (pos 1)) 3
     -- E: −3..−2 splits into −3 and −2.
-    ∷ splits-into 1 1 (box (negsuc 2 ∷ []) (negsuc 1 ∷ [])) (box (negsuc 2 ∷ []) (negsuc 2 ∷ [])) (box (negsuc 1 ∷ []) (negsuc 1 ∷ []))
+    ∷ splits-into 1 1 (box (minus 3 ∷ []) (minus 2 ∷ [])) (box (minus 3 ∷ []) (minus 3 ∷ [])) (box (minus 2 ∷ []) (minus 2 ∷ []))
     -- F: with d = 2, sides 0..4 and 0..4 split first into 0..2 and 3..4 of coordinate 1.
     ∷ splits-into 1 2
     (box (pos 0 ∷ pos 0 ∷ []) (pos 4 ∷ pos 4 ∷ []))
@@ -39,7 +39,7 @@ starred =
     -- J: with r = 4.
     ∷ fit-writes (job 0 0 7 10 4) (pos 1 ∷ pos 6 ∷ pos 6 ∷ []) "solved cost=1 bound=1 splits=2 open=0 peak=2 w=6"
     -- K: w = −3, S = 1 is 0xBFC00000; w = 1, S = 15 is 0x38000000.
-    ∷ pattern-is 1 (negsuc 2) 0xBFC0_0000
+    ∷ pattern-is 1 (minus 3) 0xBFC0_0000
     ∷ pattern-is 15 (pos 1) 0x3800_0000
     ∷ []
 

@@ -7,7 +7,7 @@ use lib.IntN.{ℤ}
 use lib.ListN.{length}
 use Rattle.jobs.specs.declared.Model.{Model}
 use Rattle.loss.specs.Loss.{lossAnswer}
-use Rattle.costs.specs.Calls.{costAnswer, boundAnswer}
+use Rattle.costs.specs.Answers.{costAnswer, boundAnswer}
 use Rattle.list_rows.specs.Rows.{rowAt}
 use Rattle.c_boundary.specs.Boundary.{Call, ifLengths, answered}
 

@@ -15,7 +15,8 @@ use Rattle.ranks.specs.Largest.{nthLargest}
 use Rattle.ranks.specs.Laws.{exceeding}
 use Rattle.ranks.proofs.Largest.{largest}
 use Rattle.residuals.specs.Cost.{least}
-use Rattle.residuals.specs.Inside.{Ready, sumOf}
+use Rattle.integers.specs.Sums.{sumOf}
+use Rattle.residuals.specs.Inside.{Ready}
 use Rattle.residuals.proofs.Sums.{sum-same, sum-more, Summed, count-small, all-total}
 use Rattle.residuals.proofs.Ranks.{counting, exceeding-total}
 use Rattle.eval_lanes.specs.Lanes.{lane}

@@ -15,7 +15,8 @@ use Rattle.points.specs.declared.Point.{Point}
 use Rattle.points.specs.Points.{pointsOf}
 use Rattle.ranks.specs.Largest.{nthLargest}
 use Rattle.residuals.specs.Cost.{totalLoss}
-use Rattle.residuals.specs.Inside.{Ready, boxOf, sumOf}
+use Rattle.integers.specs.Sums.{sumOf}
+use Rattle.residuals.specs.Inside.{Ready, boxOf}
 use Rattle.residuals.proofs.Bounds.{cost-sum, bound-sum}
 use Rattle.residuals.proofs.Ranks.{cost-rank, bound-rank}
 use Rattle.residuals.proofs.Sums.{total-most}

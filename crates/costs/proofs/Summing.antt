@@ -7,7 +7,8 @@ use lib.IntN.{ℤ}
 use lib.ListN.{length, getD}
 use lib.Ieee.{Float}
 use Rattle.jobs.specs.declared.Model.{Model}
-use Rattle.residuals.specs.Inside.{Ready, boxOf, sumOf}
+use Rattle.integers.specs.Sums.{sumOf}
+use Rattle.residuals.specs.Inside.{Ready, boxOf}
 use Rattle.residuals.proofs.Sums.{threshold-small, Summed}
 use Rattle.eval_columns.specs.Columns.{nowhere, slot, decodedChunks, ChunkOf}
 use Rattle.eval_slots.proofs.Empty.{empty-slot}

@@ -1,4 +1,4 @@
--- What the calls on a store and a model answer.
+-- What a search asks of a cost and a bound, by points and by the lanes of a store that it decoded. What the calls answer is in Answers.antt.
 use mathlib.Core.Bool.{Bool, true, false, cond}
 use mathlib.Core.List.{List, []}
 use Prim.Native.Nat.{ℕ, _^_, min}
@@ -6,28 +6,18 @@ use lib.Dec.{eqb}
 use lib.IntN.{ℤ, pos}
 use lib.ListN.{getD}
 use lib.Ieee.{Float, binary64, ofInt, lt}
-use Rattle.codes.specs.declared.Outcome.{Outcome}
-use Rattle.codes.specs.Codes.{unlessRefused, ifPassed}
+use Rattle.codes.specs.Codes.{ifPassed}
 use Rattle.boxes.specs.declared.Box.{Box}
 use Rattle.jobs.specs.declared.Model.{Model}
 use Rattle.points.specs.Points.{pointsOf}
 use Rattle.residuals.specs.Cost.{cost, bound}
-use Rattle.residuals.specs.Inside.{sumOf}
-use Rattle.model_checks.specs.Checks.{checkModel, checkCost, checkBound}
+use Rattle.integers.specs.Sums.{sumOf}
+use Rattle.model_checks.specs.Checks.{checkModel}
 use Rattle.eval_columns.specs.Columns.{decodedChunks, Decoded}
 use Rattle.eval_selection.specs.Selection.{selected}
 use Rattle.eval_kernel.specs.Kernel.{doubles, chunkLoss, chunkSize}
 
--- what a cost answers
-unfoldable pub costAnswer : List ℕ → Model → List ℤ → Outcome
-costAnswer store m v = unlessRefused (checkCost store m v) (cost m (pointsOf store) v)
-
--- what a bound answers
-unfoldable pub boundAnswer : List ℕ → Model → Box → Outcome
-boundAnswer store m B = unlessRefused (checkBound store m B) (bound m (pointsOf store) B)
-
--- What a search asks of a cost or a bound, again and again, under a model and a store that it has checked: its value, or `cap` if
--- that is less. Where checks 1 to 4 refuse, 0.
+-- asked again and again, under a model and a store that were checked: the value, or `cap` if that is less; where checks 1 to 4 refuse, 0
 unfoldable pub costUpTo : List ℕ → Model → List ℤ → ℕ → ℕ
 costUpTo store m v cap = ifPassed (checkModel store m) (min (cost m (pointsOf store) v) cap) 0
 

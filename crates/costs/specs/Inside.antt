@@ -10,7 +10,8 @@ use Rattle.points.specs.declared.Point.{Point}
 use Rattle.points.specs.Points.{pointsOf}
 use Rattle.ranks.specs.Largest.{nthLargest}
 use Rattle.residuals.specs.Cost.{least, unlessGap, sizeAt, leastSize, totalLoss, cost, bound}
-use Rattle.residuals.specs.Inside.{boxOf, sumOf}
+use Rattle.integers.specs.Sums.{sumOf}
+use Rattle.residuals.specs.Inside.{boxOf}
 use Rattle.eval_columns.specs.Columns.{decodedChunks}
 use Rattle.eval_selection.specs.Selection.{selected}
 use Rattle.eval_kernel.specs.Kernel.{doubles}

@@ -13,7 +13,8 @@ use model_checks::check_cost;
 use model_checks::check_model;
 ghost use mathlib.Core.Path.{_≡_};
 ghost use Prim.Native.Nat.{_≤_};
-ghost use Rattle.costs.specs.Calls.{costAnswer, boundAnswer, costUpTo, boundUpTo, DecodedFor, costIn, boundIn};
+ghost use Rattle.costs.specs.Answers.{costAnswer, boundAnswer};
+ghost use Rattle.costs.specs.Calls.{costUpTo, boundUpTo, DecodedFor, costIn, boundIn};
 
 // A cap that no cost and no bound reaches.
 pub const NO_CAP: u64 = 18446744073709551615;

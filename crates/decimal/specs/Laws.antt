@@ -3,8 +3,8 @@ use mathlib.Core.List as List
 use mathlib.Core.List.{List}
 use mathlib.Core.Path.{_≡_}
 use Prim.Native.Nat.{ℕ, _+_, _-_, _*_, _≤_}
-use lib.IntN.{negsuc}
 use lib.ListN.{getD}
+use Rattle.integers.specs.Integers.{minus}
 use Rattle.integers.specs.Lists.{All}
 use Rattle.decimal.specs.Text.{ascii, decimal, signed}
 
@@ -23,4 +23,4 @@ pub record DecimalLaws : Type 0 where
   pub leading : (n : ℕ) → 1 ≤ n → 49 ≤ getD (decimal n) 0 0
   pub nought : decimal 0 ≡ ascii "0"
   -- "a negative one with - before it"
-  pub lowest : signed (negsuc 32767) ≡ ascii "-32768"
+  pub lowest : signed (minus 32768) ≡ ascii "-32768"

@@ -12,7 +12,9 @@ use Rattle.integers.specs.Integers.{maxZ}
 use Rattle.integers.proofs.Tests.{by-cond}
 use Rattle.integers.proofs.Parts.{up, from-parts, sum-parts, sub-parts, neg-up, neg-dn, pos-up, pos-dn, abs-neg}
 use Rattle.boxes.specs.declared.Box.{Box}
-use Rattle.residuals.specs.Cost.{at, dotMax, dotMin, nearestTo0}
+use Rattle.residuals.specs.Cost.{at, nearestTo0}
+use Rattle.residuals.specs.Inside.{dotMax, dotMin}
+use Rattle.integers.specs.Sums.{Σ}
 use Rattle.residuals.proofs.Spans.{above, positive-max, min-le-max}
 use Rattle.eval_whole.specs.Whole.{Whole, Within}
 use Rattle.eval_whole.proofs.Laws.{neg-whole, zero-whole}
@@ -55,14 +57,14 @@ module _ (B : Box) (b : ℕ) (x : List ℤ) {low high u : ℕ → Float} {y : Fl
   high-product k h = mul-within (highs k h) (point k h) (omega arith)
 
   low-end : Within (leastEnd low high u y d) (z -ℤ dotMax B b x d) 6442450944
-  unfolding dotMax
+  unfolding Σ
   low-end =
       wider (omega arith) (lessened-within (dotMax B b x) _ refl (λ k. refl) target d few
       (λ k h. max-within (low-product k h) (high-product k h)))
 
   -- −emax by the first n coordinates
   raised-within : (n : ℕ) → n ≤ d → Within (oppositeEnd low high u y n) (dotMin B b x n -ℤ z) (2147483648 + n * 1073741824)
-  unfolding dotMin oppositeEnd
+  unfolding Σ oppositeEnd
   raised-within zero h =
       let s = target .small in
       renamed (sub-none z) (record { whole = neg-whole (target .whole); small = omega (arith, abs-neg z) })

@@ -15,7 +15,8 @@ use Rattle.boxes.specs.declared.Box.{Box}
 use Rattle.jobs.specs.declared.Model.{Model}
 use Rattle.loss.specs.Loss.{lossOf}
 use Rattle.residuals.specs.Cost.{least, leastSize}
-use Rattle.residuals.specs.Inside.{Ready, leastFrom, sumOf}
+use Rattle.integers.specs.Sums.{sumOf}
+use Rattle.residuals.specs.Inside.{Ready, leastFrom}
 use Rattle.residuals.proofs.Least.{from-large}
 use Rattle.residuals.proofs.Sums.{threshold-small}
 use Rattle.eval_whole.specs.Whole.{Whole, Within}

@@ -13,7 +13,8 @@ use Rattle.jobs.specs.declared.Model.{Model}
 use Rattle.points.specs.declared.Point.{Point}
 use Rattle.points.specs.Points.{pointsOf}
 use Rattle.residuals.specs.Cost.{leastSize, totalLoss}
-use Rattle.residuals.specs.Inside.{Ready, sumOf}
+use Rattle.integers.specs.Sums.{sumOf}
+use Rattle.residuals.specs.Inside.{Ready}
 use Rattle.eval_whole.specs.Whole.{smallerOf}
 use Rattle.eval_columns.specs.Columns.{decodedChunks, Decoded}
 use Rattle.eval_losses.specs.Losses.{lossIn, chunkSum}

@@ -13,7 +13,8 @@ use Rattle.loss.specs.Loss.{lossOf}
 use Rattle.points.specs.declared.Point.{Point}
 use Rattle.points.specs.Points.{xs}
 use Rattle.residuals.specs.Cost.{at, residual, least, sizeAt, eMin, eMax, leastSize}
-use Rattle.residuals.specs.Inside.{Ready, boxOf, leastFrom, sumOf}
+use Rattle.integers.specs.Sums.{sumOf}
+use Rattle.residuals.specs.Inside.{Ready, boxOf, leastFrom}
 use Rattle.residuals.proofs.Least.{line-room, from-le, from-large}
 use Rattle.residuals.proofs.Sums.{sum-same}
 use Rattle.eval_whole.specs.Whole.{Whole, Within}

@@ -11,7 +11,7 @@ use lib.ListN.{getD}
 use lib.Ieee.{Float, binary64, add, ofInt}
 use Rattle.loss.specs.Loss.{lossOf}
 use Rattle.loss.proofs.Laws.{min-square, loss-le}
-use Rattle.residuals.specs.Inside.{sumOf}
+use Rattle.integers.specs.Sums.{sumOf}
 use Rattle.residuals.proofs.Sums.{sum-same}
 use Rattle.eval_whole.specs.Whole.{Whole, Within, counted}
 use Rattle.eval_whole.proofs.Laws.{pick-whole, mul-whole, cast-whole, zero-whole, one-whole}

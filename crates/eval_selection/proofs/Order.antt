@@ -15,7 +15,7 @@ use lib.Ieee.Fits.{down-pos}
 use lib.Ieee.Back.{round-whole}
 use Rattle.integers.proofs.Tests.{by-cond, le-or-lt}
 use Rattle.eval_whole.proofs.Laws.{most}
-use Rattle.residuals.specs.Inside.{sumOf}
+use Rattle.integers.specs.Sums.{sumOf}
 use Rattle.eval_lanes.specs.Lanes.{lane}
 use Rattle.eval_selection.specs.Selection.{exceedingIn, exceedingAll, selected}
 use Rattle.eval_selection.proofs.Exact.{selected-is}

@@ -15,7 +15,9 @@ use Rattle.boxes.specs.declared.Box.{Box}
 use Rattle.jobs.specs.declared.Model.{Model}
 use Rattle.points.specs.declared.Point.{Point}
 use Rattle.points.specs.Points.{isGap, xs}
-use Rattle.residuals.specs.Cost.{at, dot, dotMax, dotMin, residual, least, unlessGap, sizeAt, leastAt, eMin, eMax, leastSize, leastOver}
+use Rattle.residuals.specs.Cost.{at, residual, least, unlessGap, sizeAt, leastAt, eMin, eMax, leastSize, leastOver}
+use Rattle.residuals.specs.Inside.{dot, dotMax, dotMin}
+use Rattle.integers.specs.Sums.{Σ}
 use Rattle.residuals.specs.Cost.{nearestTo0}
 use Rattle.eval_columns.specs.Columns.{nowhere, placed}
 use Rattle.eval_slots.specs.Laws.{EmptySlot, PlacedPoint}
@@ -37,14 +39,14 @@ no-difference : (a b : ℤ) → natAbs a ≡ 0 → natAbs b ≡ 0 → natAbs (a 
 no-difference a b h k = omega (arith, abs-sub a b)
 
 no-dot : (v : List ℤ) (b d : ℕ) → natAbs (dot v b (xs nowhere) d) ≡ 0
-unfolding dot
+unfolding Σ
 no-dot v b zero = refl
 no-dot v b (suc d) =
     omega (arith, abs-add (dot v b (xs nowhere) d) (at v (b + d) *ℤ at (xs nowhere) d), no-dot v b d, no-product (at v (b + d)) d)
 
 module _ (B : Box) (b : ℕ) where
   no-max : (d : ℕ) → natAbs (dotMax B b (xs nowhere) d) ≡ 0
-  unfolding dotMax
+  unfolding Σ
   no-max zero = refl
   no-max (suc d) =
       let l = at (B .low) (b + d) *ℤ at (xs nowhere) d in
@@ -58,7 +60,7 @@ module _ (B : Box) (b : ℕ) where
       )
 
   no-min : (d : ℕ) → natAbs (dotMin B b (xs nowhere) d) ≡ 0
-  unfolding dotMin
+  unfolding Σ
   no-min zero = refl
   no-min (suc d) =
       let l = at (B .low) (b + d) *ℤ at (xs nowhere) d in

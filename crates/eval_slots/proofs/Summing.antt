@@ -11,7 +11,7 @@ use Rattle.loss.specs.Loss.{lossOf}
 use Rattle.points.specs.declared.Point.{Point}
 use Rattle.points.specs.Points.{pointAt, pointsOf}
 use Rattle.residuals.specs.Cost.{least, unlessGap, totalLoss}
-use Rattle.residuals.specs.Inside.{sumOf}
+use Rattle.integers.specs.Sums.{sumOf}
 use Rattle.residuals.proofs.Least.{loss-zero}
 use Rattle.residuals.proofs.Sums.{LossSmall, Summed, none-summed, one-summed, all-total}
 use Rattle.eval_columns.specs.Columns.{nowhere, number, placed, slot, chunks}

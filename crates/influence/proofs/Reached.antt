@@ -16,7 +16,8 @@ use Rattle.scale.specs.Scale.{checkScale}
 use Rattle.loss.specs.Loss.{lossOf, checkLoss, checkLossFor}
 use Rattle.fields.specs.Fields.{fromBigEndian}
 use Rattle.points.specs.Points.{unsignedAt, signedAt, pointAt, skipped, firstPoints, pointsOf, checkStore, strayFrom, checkStray}
-use Rattle.residuals.specs.Cost.{dot, residual, sizeAt, dotMax, dotMin, eMin, eMax, nearestTo0, leastSize}
+use Rattle.residuals.specs.Cost.{residual, sizeAt, eMin, eMax, nearestTo0, leastSize}
+use Rattle.integers.specs.Sums.{Σ}
 use Rattle.residuals.specs.Cost.{least, unlessGap, totalLoss, cost, bound}
 use Rattle.model_checks.specs.Checks.{checkModel}
 use Rattle.certificate.specs.Search.{ahead, lowerBound, firstSmallest, better, begin, split}
@@ -101,7 +102,7 @@ reached p ε is is′ most =
 pub all-reached : AllReached
 unfolding maxZ minZ floorHalf allZero inOrder checkShape atMost before sideSize sides product checkBox checkStart firstLargest leftHalf
     rightHalf checkScale lossOf checkLoss checkLossFor fromBigEndian unsignedAt signedAt pointAt skipped firstPoints pointsOf checkStore
-    strayFrom checkStray dot residual sizeAt dotMax dotMin eMin eMax nearestTo0 leastSize least unlessGap totalLoss cost bound checkModel
+    strayFrom checkStray Σ residual sizeAt eMin eMax nearestTo0 leastSize least unlessGap totalLoss cost bound checkModel
     ahead lowerBound firstSmallest better begin split isSolved answer ifRoom step follow run search searched checkJob checkSearch
     searchAnswer cap
 all-reached = record { outliers = reached 0 0 refl refl refl; sizes = reached 1 3 refl refl refl; squares = reached 2 3 refl refl refl }

@@ -9,8 +9,8 @@ ghost use lib.Dec.{leb};
 ghost use lib.IntN.{pos, natAbs, _-ℤ_, _*ℤ_};
 ghost use lib.ListN.{length};
 ghost use Rattle.points.specs.Points.{pointAt, xs};
-ghost use Rattle.residuals.specs.Cost.{at, dot, least};
-ghost use Rattle.residuals.specs.Inside.{Ready, sizeOf};
+ghost use Rattle.residuals.specs.Cost.{at, least};
+ghost use Rattle.residuals.specs.Inside.{Ready, sizeOf, dot};
 ghost use Rattle.labels.specs.Labels.{firstLeast, fitting, sampleLabel, label};
 
 // x1 to x4, from 0.

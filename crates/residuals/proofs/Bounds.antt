@@ -21,13 +21,14 @@ use Rattle.boxes.proofs.Volume.{between-at, high-low}
 use Rattle.jobs.specs.declared.Model.{Model}
 use Rattle.points.specs.declared.Point.{Point}
 use Rattle.points.specs.Points.{xs}
-use Rattle.residuals.specs.Cost.{at, dot, dotMax, dotMin, least, residual, sizeAt, eMin, eMax, nearestTo0, leastSize, unlessGap}
+use Rattle.residuals.specs.Cost.{at, least, residual, sizeAt, eMin, eMax, nearestTo0, leastSize, unlessGap}
 use Rattle.residuals.specs.Cost.{totalLoss, leastAt, cost, leastOver, bound}
 use Rattle.ranks.specs.Largest.{nthLargest}
 use Rattle.ranks.specs.Laws.{Rises}
 use Rattle.ranks.proofs.Largest.{nth-largest-rises}
 use Rattle.residuals.specs.Laws.{AllBounds, PointBounds, AllMade, lossSum, makeOf, Made, Small, SmallResidual}
-use Rattle.residuals.specs.Inside.{boxOf}
+use Rattle.integers.specs.Sums.{Σ}
+use Rattle.residuals.specs.Inside.{boxOf, dot, dotMax, dotMin}
 use Rattle.residuals.proofs.Least.{least-mono, loss-of-point, unless-mono}
 use Rattle.residuals.proofs.Rising.{made-mono, losses-rise}
 
@@ -52,14 +53,14 @@ nearest-same (negsuc n) = refl
 -- Σ w × x lies between its ends over a box
 module _ (B : Box) (v : List ℤ) (inside : InBox v B) (b : ℕ) (x : List ℤ) where
   dot-le-max : (k : ℕ) → dot v b x k ≤ℤ dotMax B b x k
-  unfolding dot dotMax
+  unfolding Σ
   dot-le-max zero = ≤ℤ-refl (pos 0)
   dot-le-max (suc k) =
       let w = between-at (inside .between) (b + k) in
       add-mono (dot-le-max k) (product-le-max (at (B .low) (b + k)) (at (B .high) (b + k)) (at v (b + k)) (at x k) (w .0) (w .1))
 
   min-le-dot : (k : ℕ) → dotMin B b x k ≤ℤ dot v b x k
-  unfolding dot dotMin
+  unfolding Σ
   min-le-dot zero = ≤ℤ-refl (pos 0)
   min-le-dot (suc k) =
       let w = between-at (inside .between) (b + k) in
@@ -68,12 +69,12 @@ module _ (B : Box) (v : List ℤ) (inside : InBox v B) (b : ℕ) (x : List ℤ) 
 -- and is both of them over a box of one vector
 module _ (v : List ℤ) (b : ℕ) (x : List ℤ) where
   dot-max-same : (k : ℕ) → dotMax (boxOf v v) b x k ≡ dot v b x k
-  unfolding dot dotMax
+  unfolding Σ
   dot-max-same zero = refl
   dot-max-same (suc k) = λ i. dot-max-same k i +ℤ max-same (at v (b + k) *ℤ at x k) i
 
   dot-min-same : (k : ℕ) → dotMin (boxOf v v) b x k ≡ dot v b x k
-  unfolding dot dotMin
+  unfolding Σ
   dot-min-same zero = refl
   dot-min-same (suc k) = λ i. dot-min-same k i +ℤ min-same (at v (b + k) *ℤ at x k) i
 
@@ -155,7 +156,7 @@ module _ (m : Model) (qs : List Point) (h : m .p ≤ 2) where
   bound-sum B = ap (λ (t : Bool). cond t (nthLargest (m .eps) (map (leastOver m B) qs)) (totalLoss m (leastSize m B) qs)) no-rank
 
 dot-small : (v : List ℤ) (b : ℕ) (x : List ℤ) → Small v → Small x → (k : ℕ) → natAbs (dot v b x k) ≤ k * 1073741824
-unfolding dot
+unfolding Σ
 dot-small v b x hv hx zero = omega arith
 dot-small v b x hv hx (suc k) =
     let w = at v (b + k) in

@@ -11,8 +11,9 @@ use Rattle.integers.proofs.Order.{≤ℤ-trans, add-mono, max-left, min-left}
 use Rattle.integers.proofs.Parts.{up, apart, abs-parts, sub-parts, le-parts, leZ-true, leZ-false, ltZ-true, ltZ-false, pos-up, pos-dn}
 use Rattle.integers.proofs.Tests.{by-test}
 use Rattle.boxes.specs.declared.Box.{Box}
-use Rattle.residuals.specs.Cost.{at, dotMax, dotMin, nearestTo0}
-use Rattle.residuals.specs.Inside.{positive}
+use Rattle.residuals.specs.Cost.{at, nearestTo0}
+use Rattle.integers.specs.Sums.{Σ}
+use Rattle.residuals.specs.Inside.{positive, dotMax, dotMin}
 
 -- what lies above 0 of a number is the larger of its parts' difference and 0
 pub above : (z : ℤ) → positive z ≡ up z
@@ -51,7 +52,7 @@ positive-max y lo hi h =
 
 module _ (B : Box) (b : ℕ) (x : List ℤ) where
   pub min-le-max : (k : ℕ) → dotMin B b x k ≤ℤ dotMax B b x k
-  unfolding dotMin dotMax
+  unfolding Σ
   min-le-max zero = ≤ℤ-refl (pos 0)
   min-le-max (suc k) =
       let l = at (B .low) (b + k) *ℤ at x k in

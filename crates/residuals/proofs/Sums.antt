@@ -15,7 +15,7 @@ use Rattle.points.specs.declared.Point.{Point}
 use Rattle.points.specs.Points.{pointAt, firstPoints, pointsOf}
 use Rattle.points.proofs.Laws.{points-more, points-length}
 use Rattle.residuals.specs.Cost.{least, unlessGap, totalLoss}
-use Rattle.residuals.specs.Inside.{sumOf}
+use Rattle.integers.specs.Sums.{sumOf}
 use Rattle.residuals.proofs.Least.{loss-of-point}
 
 pub sum-more : (f : ℕ → ℕ) (n : ℕ) → sumOf f (n + 1) ≡ sumOf f n + f n

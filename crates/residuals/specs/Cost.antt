@@ -3,10 +3,11 @@ use mathlib.Core.Bool.{cond}
 use mathlib.Core.List.{List, [], _∷_, map}
 use Prim.Native.Nat.{ℕ, zero, suc, _+_, _*_, _^_, min}
 use lib.Dec.{eqb}
-use lib.IntN.{ℤ, pos, natAbs, _+ℤ_, _-ℤ_, _*ℤ_}
+use lib.IntN.{ℤ, pos, natAbs, _-ℤ_, _*ℤ_}
 use lib.ListN.{getD}
 use lib.Signed.{ltZ}
 use Rattle.integers.specs.Integers.{maxZ, minZ}
+use Rattle.integers.specs.Sums.{Σ}
 use Rattle.boxes.specs.declared.Box.{Box}
 use Rattle.jobs.specs.declared.Model.{Model}
 use Rattle.points.specs.declared.Point.{Point}
@@ -18,14 +19,14 @@ use Rattle.ranks.specs.Largest.{nthLargest}
 abbrev pub at : List ℤ → ℕ → ℤ
 at v k = getD v k (pos 0)
 
--- Σ w_k × x_k, over the first k of a line's coordinates, which begin at place b of the vector
-unfoldable pub dot : List ℤ → ℕ → List ℤ → ℕ → ℤ
-dot v b x zero = pos 0
-dot v b x (suc k) = dot v b x k +ℤ at v (b + k) *ℤ at x k
+-- y × 2^S
+abbrev pub scaledY : Model → Point → ℤ
+scaledY m q = q .y *ℤ pos (2 ^ m .scale)
 
--- "For point i and line j, e = y × 2^S − Σ w_k × x_k". "A vector has 8 signed 16-bit coordinates, line after line, d each."
+-- "For point i and line j, e = y × 2^S − Σ w_k × x_k". "A vector has 8 signed 16-bit coordinates, line after line, d each": those of line
+-- j begin at place j × d.
 unfoldable pub residual : Model → List ℤ → Point → ℕ → ℤ
-residual m v q j = q .y *ℤ pos (2 ^ m .scale) -ℤ dot v (j * m .d) (xs q) (m .d)
+residual m v q j = scaledY m q -ℤ Σ (λ k. at v (j * m .d + k) *ℤ at (xs q) k) (m .d)
 
 -- the least of f 0, …, f (n − 1)
 unfoldable pub least : (ℕ → ℕ) → ℕ → ℕ
@@ -55,23 +56,17 @@ leastAt m v q = unlessGap q (least (sizeAt m v q) (m .n))
 unfoldable pub cost : Model → List Point → List ℤ → ℕ
 cost m qs v = cond (eqb (m .p) 3) (nthLargest (m .eps) (map (leastAt m v) qs)) (totalLoss m (sizeAt m v) qs)
 
--- "Σ max(low × x, high × x)", over the first k of a line's coordinates, which begin at place b
-unfoldable pub dotMax : Box → ℕ → List ℤ → ℕ → ℤ
-dotMax B b x zero = pos 0
-dotMax B b x (suc k) = dotMax B b x k +ℤ maxZ (at (B .low) (b + k) *ℤ at x k) (at (B .high) (b + k) *ℤ at x k)
-
--- the same with min
-unfoldable pub dotMin : Box → ℕ → List ℤ → ℕ → ℤ
-dotMin B b x zero = pos 0
-dotMin B b x (suc k) = dotMin B b x k +ℤ minZ (at (B .low) (b + k) *ℤ at x k) (at (B .high) (b + k) *ℤ at x k)
-
 -- "emin = y × 2^S − Σ max(low × x, high × x)"
 unfoldable pub eMin : Model → Box → Point → ℕ → ℤ
-eMin m B q j = q .y *ℤ pos (2 ^ m .scale) -ℤ dotMax B (j * m .d) (xs q) (m .d)
+eMin m B q j =
+    let b = j * m .d in
+    scaledY m q -ℤ Σ (λ k. maxZ (at (B .low) (b + k) *ℤ at (xs q) k) (at (B .high) (b + k) *ℤ at (xs q) k)) (m .d)
 
 -- "emax the same with min"
 unfoldable pub eMax : Model → Box → Point → ℕ → ℤ
-eMax m B q j = q .y *ℤ pos (2 ^ m .scale) -ℤ dotMin B (j * m .d) (xs q) (m .d)
+eMax m B q j =
+    let b = j * m .d in
+    scaledY m q -ℤ Σ (λ k. minZ (at (B .low) (b + k) *ℤ at (xs q) k) (at (B .high) (b + k) *ℤ at (xs q) k)) (m .d)
 
 -- "emin if emin > 0, −emax if emax < 0, else 0"
 unfoldable pub nearestTo0 : ℤ → ℤ → ℕ

@@ -6,7 +6,7 @@ use Rattle.codes.specs.declared.Check.the-variants.{Pass, Refuse}
 use Rattle.codes.specs.declared.Outcome.the-variants.{Value}
 use Rattle.residuals.specs.Inside.{Ready}
 use Rattle.model_checks.specs.Checks.{checkBound}
-use Rattle.costs.specs.Calls.{boundAnswer}
+use Rattle.costs.specs.Answers.{boundAnswer}
 use Rattle.model_checks.proofs.Passed.{ready, bound-model}
 use Rattle.costs.proofs.bound.Statement.{statement}
 use Rattle.costs.proofs.bound.Tie as tie

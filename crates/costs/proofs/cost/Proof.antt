@@ -6,7 +6,7 @@ use Rattle.codes.specs.declared.Check.the-variants.{Pass, Refuse}
 use Rattle.codes.specs.declared.Outcome.the-variants.{Value}
 use Rattle.residuals.specs.Inside.{Ready}
 use Rattle.model_checks.specs.Checks.{checkCost}
-use Rattle.costs.specs.Calls.{costAnswer}
+use Rattle.costs.specs.Answers.{costAnswer}
 use Rattle.model_checks.proofs.Passed.{ready, cost-model}
 use Rattle.costs.proofs.cost.Statement.{statement}
 use Rattle.costs.proofs.cost.Tie as tie

@@ -7,7 +7,8 @@ use borrow.Author.Tests.{leb-true}
 use lib.ListN.{getD}
 use lib.Ieee.{Float}
 use Rattle.boxes.specs.declared.Box.{Box}
-use Rattle.residuals.specs.Inside.{boxOf, sumOf}
+use Rattle.integers.specs.Sums.{sumOf}
+use Rattle.residuals.specs.Inside.{boxOf}
 use Rattle.residuals.proofs.Sums.{sum-more, cap-stays}
 use Rattle.eval_columns.specs.Columns.{decodedChunks}
 use Rattle.eval_halves.specs.Halves.{halfLoss, HalfSum}

@@ -10,7 +10,7 @@ use lib.Seq.{length-take-le, getD-set-other}
 use lib.Ieee.{Float}
 use Rattle.eval_kernel.specs.Kernel.{noSizes, chunkSize}
 use Rattle.costs.specs.Calls.{exceedingBy}
-use Rattle.residuals.specs.Inside.{sumOf}
+use Rattle.integers.specs.Sums.{sumOf}
 use Rattle.costs.proofs.Counting.{chunk-counted, cap-reached, kept-selected}
 use Rattle.costs.proofs.Kept.{Sized, none-sized, one-sized}
 use borrow.Author.Needs.{needs}

@@ -2,7 +2,7 @@
 use mathlib.Core.Path.{_≡_, refl, ap, _∙_}
 use Prim.Native.Nat.{ℕ, _*_, _-_, _≤_, min}
 use native.Mathlib.Omega.{arith}
-use Rattle.residuals.specs.Inside.{sumOf}
+use Rattle.integers.specs.Sums.{sumOf}
 use Rattle.residuals.proofs.Sums.{sum-more, cap-stays}
 use Rattle.eval_columns.specs.Columns.{decodedChunks}
 use Rattle.costs.specs.Inside.{SumIn}

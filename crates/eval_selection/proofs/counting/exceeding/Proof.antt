@@ -7,7 +7,7 @@ use borrow.Author.Needs.{needs}
 use lib.IntN.{pos}
 use lib.ListN.{length, getD}
 use lib.Ieee.{Float, binary64, ofInt}
-use Rattle.residuals.specs.Inside.{sumOf}
+use Rattle.integers.specs.Sums.{sumOf}
 use Rattle.residuals.proofs.Sums.{sum-more}
 use Rattle.eval_whole.proofs.Laws.{cast-asks}
 use Rattle.eval_selection.specs.Selection.{exceedingIn, exceedingAll}

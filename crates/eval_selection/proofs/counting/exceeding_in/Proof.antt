@@ -5,7 +5,7 @@ use mathlib.Core.List.{List}
 use Prim.Native.Nat.{ℕ, _-_, _≤_}
 use native.Mathlib.Omega.{arith}
 use lib.Ieee.{Float, lt}
-use Rattle.residuals.specs.Inside.{sumOf}
+use Rattle.integers.specs.Sums.{sumOf}
 use Rattle.residuals.proofs.Sums.{sum-more}
 use Rattle.eval_lanes.specs.Lanes.{lane}
 use Rattle.eval_selection.specs.Selection.{exceedingIn}

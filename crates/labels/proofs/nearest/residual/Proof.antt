@@ -11,18 +11,20 @@ use mir.Val.{toZ, ofZ}
 use mir.Facts.{toZ-ofZ}
 use Rattle.integers.proofs.Parts.{sum-parts, sub-parts, from-parts, pos-up, pos-dn}
 use Rattle.points.specs.Points.{xs}
-use Rattle.residuals.specs.Cost.{at, dot}
+use Rattle.residuals.specs.Cost.{at}
+use Rattle.residuals.specs.Inside.{dot}
+use Rattle.integers.specs.Sums.{Σ}
 use Rattle.labels.proofs.nearest.residual.Statement.{statement}
 use Rattle.labels.proofs.nearest.residual.Tie as tie
 
 -- what is left of a number, one product after the other
 module _ (z : ℤ) (v : List ℤ) (b : ℕ) (x : List ℤ) where
   no-product : z ≡ z -ℤ dot v b x 0
-  unfolding dot
+  unfolding Σ
   no-product = from-parts z (z -ℤ pos 0) (omega (arith, sub-parts z (pos 0), pos-up 0, pos-dn 0))
 
   one-product : (k : ℕ) → z -ℤ dot v b x k -ℤ at v (b + k) *ℤ at x k ≡ z -ℤ dot v b x (k + 1)
-  unfolding dot
+  unfolding Σ
   one-product k =
       let s = dot v b x k in
       let p = at v (b + k) *ℤ at x k in
