@@ -1,5 +1,5 @@
 -- For p of 0, 1 or 2 the costs of groups add up to the plain cost, and a store has at most 216 groups. Assumes nothing.
-use mathlib.Core.Path.{_≡_, sym, ap, _∙_}
+use mathlib.Core.Path.{_≡_, refl, sym, ap, _∙_}
 use mathlib.Core.Bool.{_&&_}
 use mathlib.Core.List.{List, [], _∷_, _++_}
 use Prim.Native.Nat.{ℕ, zero, suc, _+_, _*_, _/_, _%_, _≤_}
@@ -20,37 +20,52 @@ use Rattle.points.proofs.Laws.{points-length}
 use Rattle.residuals.specs.Cost.{sizeAt, totalLoss, cost}
 use Rattle.integers.specs.Sums.{sumOf}
 use Rattle.residuals.proofs.Bounds.{cost-sum}
+use Rattle.residuals.proofs.Sums.{sum-same}
 use Rattle.beacon_costs.specs.BeaconCosts.{group, groups, groupCost, total}
 use Rattle.beacon_costs.specs.Laws.{AllGrouped}
 
-module _ (m : Model) (v : List ℤ) where
-  total-append : (ps qs : List Point) → totalLoss m (sizeAt m v) (ps ++ qs) ≡ totalLoss m (sizeAt m v) ps + totalLoss m (sizeAt m v) qs
+-- losses add up by groups, whatever size a point has for a line
+module _ (m : Model) (size : Point → ℕ → ℕ) where
+  total-append : (ps qs : List Point) → totalLoss m size (ps ++ qs) ≡ totalLoss m size ps + totalLoss m size qs
   unfolding totalLoss
   total-append [] qs = omega arith
   total-append (p ∷ ps) qs = omega (arith, total-append ps qs)
 
-  cost-append : m .p ≤ 2 → (ps qs : List Point) → cost m (ps ++ qs) v ≡ cost m ps v + cost m qs v
-  cost-append picked ps qs =
-      omega (arith, total-append ps qs, cost-sum m (ps ++ qs) picked v, cost-sum m ps picked v, cost-sum m qs picked v)
+  module _ (qs : List Point) where
+    one-more : (n : ℕ) → totalLoss m size (take (n * 19 + 19) qs) ≡ totalLoss m size (take (n * 19) qs) + totalLoss m size (group qs n)
+    unfolding group
+    one-more n = ap (totalLoss m size) (take-add (n * 19) 19 qs) ∙ total-append (take (n * 19) qs) (take 19 (drop (n * 19) qs))
+
+    first-groups : (n : ℕ) → sumOf (λ g. totalLoss m size (group qs g)) n ≡ totalLoss m size (take (n * 19) qs)
+    unfolding sumOf totalLoss
+    first-groups zero = refl
+    first-groups (suc n) =
+        let e : suc n * 19 ≡ n * 19 + 19 = omega arith in
+        omega (arith, first-groups n, one-more n, ap (λ (k : ℕ). totalLoss m size (take k qs)) e)
+
+    pub losses-grouped : sumOf (λ g. totalLoss m size (group qs g)) (groups qs) ≡ totalLoss m size qs
+    unfolding groups
+    losses-grouped = first-groups (groups qs) ∙ ap (totalLoss m size) (take-all (groups qs * 19) qs (omega arith))
 
 module _ (m : Model) (picked : m .p ≤ 2) (qs : List Point) (v : List ℤ) where
   -- one group more
   pub one-group : (n : ℕ) → cost m (take (n * 19 + 19) qs) v ≡ cost m (take (n * 19) qs) v + groupCost m qs v n
-  unfolding groupCost group
+  unfolding groupCost
   one-group n =
-      ap (λ (ps : List Point). cost m ps v) (take-add (n * 19) 19 qs)
-      ∙ cost-append m v picked (take (n * 19) qs) (take 19 (drop (n * 19) qs))
-
-  first-groups : (n : ℕ) → sumOf (groupCost m qs v) n ≡ cost m (take (n * 19) qs) v
-  unfolding sumOf totalLoss
-  first-groups zero = sym (cost-sum m [] picked v)
-  first-groups (suc n) =
-      let e : suc n * 19 ≡ n * 19 + 19 = omega arith in
-      omega (arith, first-groups n, one-group n, ap (λ (k : ℕ). cost m (take k qs) v) e)
+      omega (
+        arith,
+        one-more m (sizeAt m v) qs n,
+        cost-sum m (take (n * 19 + 19) qs) picked v,
+        cost-sum m (take (n * 19) qs) picked v,
+        cost-sum m (group qs n) picked v,
+      )
 
   all-groups : total m qs v ≡ cost m qs v
-  unfolding total groups
-  all-groups = first-groups (groups qs) ∙ ap (λ (ps : List Point). cost m ps v) (take-all (groups qs * 19) qs (omega arith))
+  unfolding total groupCost
+  all-groups =
+      sum-same (groupCost m qs v) (λ g. totalLoss m (sizeAt m v) (group qs g)) (groups qs) (λ g h. cost-sum m (group qs g) picked v)
+      ∙ losses-grouped m (sizeAt m v) qs
+      ∙ sym (cost-sum m qs picked v)
 
 few-groups : (store : List ℕ) → checkStore (length store) ≡ Pass → groups (pointsOf store) ≤ 216
 unfolding checkStore groups pointsOf

@@ -20,13 +20,14 @@ use Rattle.residuals.specs.Inside.{Ready}
 use Rattle.residuals.proofs.Bounds.{cost-sum}
 use Rattle.residuals.proofs.Sums.{threshold-small, Summed, none-summed, one-summed}
 use Rattle.eval_columns.specs.Columns.{slot, ChunkOf}
-use Rattle.eval_losses.proofs.Exact.{sum-parts, groups-small}
+use Rattle.eval_losses.proofs.Exact.{sum-parts, groups-small, groups-added}
 use Rattle.eval_slots.proofs.Empty.{empty-slot}
 use Rattle.eval_slots.proofs.Summing.{slotLoss, slots-summed}
-use Rattle.eval_kernel.specs.Kernel.{groupLosses}
+use Rattle.eval_kernel.specs.Kernel.{groupLosses, chunkLoss}
 use Rattle.eval_kernel.proofs.Exact.{size-in, groups-in}
 use Rattle.beacon_costs.specs.BeaconCosts.{groupCost}
 use Rattle.beacon_costs.specs.Inside.{ChunkSums}
+use Rattle.beacon_costs.specs.Chunks.{AllChunksGrouped}
 use Rattle.beacon_costs.proofs.Adding.{one-group}
 
 -- the first points of a store, and of fewer
@@ -111,4 +112,12 @@ chunk-sums {m} store ready picked {t} {s = s} {w} p chunk e =
           g h
           ∙ group-slots store ready picked v t g;
       small = λ g h. subst (λ (l : List ℕ). getD l g 0 < 9007199254740992) (sym e) (groups-small _ g);
+    }
+
+pub all-chunks-grouped : AllChunksGrouped
+unfolding groupLosses chunkLoss
+all-chunks-grouped store m t s w ready picked chunk =
+    record {
+      each = λ v d k h. chunk-sums store ready picked {t = t} {s = s} {w = w} refl chunk refl .costs v d k h;
+      added = sym (groups-added _);
     }

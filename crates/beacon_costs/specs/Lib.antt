@@ -1,3 +1,4 @@
 pub mod BeaconCosts
 pub mod Laws
+pub mod Chunks
 pub mod Inside
