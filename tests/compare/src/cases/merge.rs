@@ -1,8 +1,9 @@
-//! Two stores made one.
+//! Two stores made one, and what is then made of it.
 
-use super::{hex, same_answer, with_case, Outcome};
+use super::{hex, same_answer, search, with_case, Outcome};
 use crate::calls::Calls;
-use crate::lent::Lent;
+use crate::inputs::{self, Input};
+use crate::lent::{same, Lent};
 use crate::random::Random;
 use oracle::points::RECORD;
 
@@ -29,10 +30,15 @@ fn record(random: &mut Random, frame: u16) -> Record {
 }
 
 /// Each frame's record goes into the first store, the second one or both; `common` of 4 go into both.
-fn deal(random: &mut Random, frames: &[u16], common: u64) -> [Vec<Record>; 2] {
+fn deal(
+    random: &mut Random,
+    frames: &[u16],
+    common: u64,
+    mut record_of: impl FnMut(&mut Random, u16) -> Record,
+) -> [Vec<Record>; 2] {
     let mut stores = [vec![], vec![]];
     for &frame in frames {
-        let record = record(random, frame);
+        let record = record_of(random, frame);
         if random.below(4) < common {
             stores.iter_mut().for_each(|store| store.push(record));
         } else {
@@ -107,7 +113,7 @@ pub fn small(calls: &dyn Calls, random: &mut Random) -> Outcome {
     let count = random.pick(&[0, 1, 2, 5, 30]);
     let frames = frames(random, count);
     let common = random.pick(&[0, 1, 2, 3, 4]);
-    let mut stores = deal(random, &frames, common);
+    let mut stores = deal(random, &frames, common, record);
     if random.once_in(10) {
         stores[random.below(2) as usize].clear();
     }
@@ -123,9 +129,47 @@ pub fn large(calls: &dyn Calls, random: &mut Random) -> Outcome {
     let from = random.pick(&[0, 30_000, 65_535 - count + 1, 61_000]);
     let frames: Vec<u16> = (0..count).map(|k| from + k).collect();
     let common = random.pick(&[0, 1, 4]);
-    let mut stores = deal(random, &frames, common);
+    let mut stores = deal(random, &frames, common, record);
     if random.once_in(4) {
         damage(random, &mut stores);
     }
     compared(calls, random, stores)
+}
+
+/// The records of a small job's store, with rising frame numbers, dealt to two stores and made one by the product. What it wrote is then
+/// searched, with all that is promised of a search over all vectors of the box, and labelled under the vector found.
+pub fn fitted(calls: &dyn Calls, random: &mut Random) -> Outcome {
+    let limit = random.pick(&[2, 8, 30, 100]);
+    let mut input = inputs::small_with_threshold(random, limit);
+    let frames = frames(random, input.store.len() / RECORD);
+    input.keep(frames.len());
+    for (record, frame) in input.store.chunks_exact_mut(RECORD).zip(&frames) {
+        record[10..].copy_from_slice(&frame.to_be_bytes());
+    }
+    let common = random.pick(&[0, 1, 2, 4]);
+    let mut records = input.store.chunks_exact(RECORD).map(|record| Record::try_from(record).unwrap());
+    let stores = deal(random, &frames, common, |_, _| records.next().unwrap());
+    let [first, second] = stores.map(|records| records.concat());
+    let mut out = Lent::new(input.store.len() + random.size(0, 30), |count| random.bytes(count));
+    let mut value = 0;
+    let code = calls.merge(&first, &second, out.part(), &mut value);
+    let merged = out.now()[..input.store.len()].to_vec();
+    let outcome =
+        same_answer(code, value, 0, Ok(merged.len() as u64)).and(same("merged store", &merged, &input.store));
+    with_case(outcome, || format!("  first: {}\n  second: {}", hex(&first), hex(&second)))?;
+    input.store = merged;
+    let vector = search::over_all_vectors(calls, random, input.clone())?;
+    labelled(calls, random, &input, vector)
+}
+
+fn labelled(calls: &dyn Calls, random: &mut Random, input: &Input, vector: [i16; 8]) -> Outcome {
+    let model = &input.job.model;
+    let length = input.store.len() / RECORD + random.size(0, 5);
+    let mut lent = Lent::new(length, |count| random.bytes(count));
+    let mut value = 0;
+    let code = calls.labels(&input.store, model, &vector, lent.part(), &mut value);
+    let mut after = lent.was().to_vec();
+    let expected = oracle::labels(model, &input.store, &vector, &mut after).map(|count| count as u64);
+    let outcome = same_answer(code, value, 0, expected).and(lent.holds("labels", &after));
+    with_case(outcome, || format!("{input}\n  labelled under {vector:?}"))
 }

@@ -77,6 +77,7 @@ pub const GROUPS: &[Group] = &[
     group("take_in", "take_in", 3000, beacon::take_in),
     group("merge", "merge", 3000, merge::small),
     group("merge-large", "merge", 60, merge::large),
+    group("merge-fitted", "merge", 1500, merge::fitted),
     group("search-exhaustive", "search", 4000, search::exhaustive),
     group("search-spoiled", "search", 1500, search::spoiled),
     group("search-ties", "search", 200, search::ties),

@@ -12,7 +12,7 @@ use oracle::{Answer, AnswerRecord, Job, Kind, Model, Refusal};
 pub fn exhaustive(calls: &dyn Calls, random: &mut Random) -> Outcome {
     let limit = random.pick(&[1, 2, 4, 8, 30, 30, 100, 300]);
     let input = inputs::small(random, limit);
-    over_all_vectors(calls, random, input)
+    over_all_vectors(calls, random, input).map(|_| ())
 }
 
 /// The same with p = 3 alone; an answer record of such a search passes check 9.
@@ -20,10 +20,11 @@ pub fn spoiled(calls: &dyn Calls, random: &mut Random) -> Outcome {
     let limit = random.pick(&[2, 8, 30, 100]);
     let mut input = inputs::small_with_threshold(random, limit);
     input.limit_spoiled(random);
-    over_all_vectors(calls, random, input)
+    over_all_vectors(calls, random, input).map(|_| ())
 }
 
-fn over_all_vectors(calls: &dyn Calls, random: &mut Random, mut input: Input) -> Outcome {
+/// A search of a small box with any budget, tolerance and rows; its vector.
+pub fn over_all_vectors(calls: &dyn Calls, random: &mut Random, mut input: Input) -> Result<[i16; 8], String> {
     let volume = input.job.domain.volume().unwrap() as u64;
     let below = random.below(volume) as u32;
     let cost_of_start = oracle::cost(&input.job.model, &input.store, &input.job.start).unwrap();
@@ -36,7 +37,8 @@ fn over_all_vectors(calls: &dyn Calls, random: &mut Random, mut input: Input) ->
     let mut run = Run::new(random, input, length, entries);
     run.call(calls);
     let outcome = run.promises(volume, rows).and_then(|()| run.compare()).and_then(|()| run.record(calls));
-    with_case(outcome, || run.to_string())
+    with_case(outcome, || run.to_string())?;
+    Ok(run.found.vector.now().try_into().unwrap())
 }
 
 /// Few points and mostly p = 0, so that many vectors cost the same: the promises from every start of a small box, by which a solved
