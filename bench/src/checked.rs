@@ -31,11 +31,12 @@ fn check_model(store: &[u8], m: Model) -> Result<(), Refusal> {
     refuse_if(!fits, 4)
 }
 
-/// Check 7: the first record with an x after the d-th that is not 0.
+/// Check 7: the first record with an x after the d-th that is not 0. As in the proved code all four are counted, which is the fastest of the
+/// loops that were tried.
 fn check_stray(store: &[u8], d: usize) -> Result<(), Refusal> {
     for (record, bytes) in store.chunks_exact(12).enumerate() {
-        for x in bytes[2 * d..8].chunks_exact(2) {
-            if i16::from_be_bytes([x[0], x[1]]) != 0 {
+        for k in 0..4 {
+            if d <= k && bytes[2 * k..2 * k + 2] != [0, 0] {
                 return Err(Refusal { number: 7, record });
             }
         }
