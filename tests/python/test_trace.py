@@ -1,4 +1,4 @@
-"""Every name in docs/TRACE.md stands where that page says."""
+"""Every name in docs/TRACE.md stands where that page says, and what the exported contracts reach is on the reader's list."""
 
 import pathlib
 import re
@@ -100,6 +100,78 @@ def wrong_names(page):
 def wrong_rows(page):
     """Rows that are not a sentence with three cells, none of them empty, behind it."""
     return [row for row in parts_of(page)[1] if not cells(row) or not all(cells(row))]
+
+
+# What is handed out: the calls for C, and all that the program fit computes.
+EXPORTS = ("capi/src/lib.rt", "fit_line/src/lib.rt")
+USE = re.compile(r"^(?:ghost )?use Rattle·(\w+?)(?:·specs)?\.specs\.(\w+)\.\{([^}]*)\}", re.M)
+
+
+def has_one(words, names):
+    """Whether a text has one of the names of a `use` line."""
+    return any(re.search(rf"(?<![\w-]){re.escape(name.strip())}(?![\w-])", words) for name in names.split(","))
+
+
+def used_by(source, words=None):
+    """The files of definitions that the `use` lines of a source name, as CRATE/FILE; where a text is given, those of which it has
+    a name. Types that the code declares are no files."""
+    found = [(f"{crate}/{file}", names) for crate, file, names in USE.findall(source) if file != "declared"]
+    return [file for file, names in found if words is None or has_one(words, names)]
+
+
+def contracts(source):
+    """The contracts of the public functions of a source, each up to its body's brace."""
+    return "\n".join(found for _, found in re.findall(r'^( *)pub (?:extern "C" )?fn (.*?)^\1[{}]', source, re.M | re.S))
+
+
+def reached_from(exports, definitions):
+    """Every file of definitions that the contracts of these sources lead to, with the one that leads to it."""
+    reached, left = {}, [(file, "an export") for source in exports for file in used_by(source, contracts(source))]
+    while left:
+        file, by = left.pop()
+        if file not in reached:
+            reached[file] = by
+            left += [(other, file) for other in used_by(definitions(file))]
+    return reached
+
+
+def definitions_of(file):
+    crate, name = file.split("/")
+    return text(CRATES / crate / "specs" / f"{name}.antt")
+
+
+class Reader(unittest.TestCase):
+    """The reader's list of docs/ARCHITECTURE.md is exactly what a reader of the exported contracts must believe."""
+
+    section = re.search(r"^## What a reader must believe\n(.*?)(?=^## )", text(ROOT / "docs" / "ARCHITECTURE.md"), re.M | re.S)[1]
+    listed = re.findall(r"`(\w+/\w+)`", section)
+    reached = reached_from([text(CRATES / source) for source in EXPORTS], definitions_of)
+
+    def test_every_file_reached_is_listed(self):
+        self.assertEqual({file: by for file, by in self.reached.items() if file not in self.listed}, {})
+
+    def test_every_file_listed_is_reached(self):
+        self.assertEqual([file for file in self.listed if file not in self.reached], [])
+        self.assertEqual(len(self.listed), len(set(self.listed)))
+
+    def test_the_numbers_are_right(self):
+        said = re.search(r"(\d+) files, some ([\d,]+) lines", self.section)
+        files, lines = (int(number.replace(",", "")) for number in said.groups())
+        self.assertEqual(files, len(self.listed))
+        counted = sum(len(definitions_of(file).splitlines()) for file in self.listed)
+        self.assertLess(abs(counted - lines), lines / 20, f"{counted} lines")
+
+    def test_a_way_to_the_machine_is_noticed(self):
+        uses = "ghost use Rattle.a.specs.Calls.{answer};\nghost use Rattle.a.specs.Inside.{held};\n"
+        export = uses + "pub fn f() -> u8\n    ensures { λ r. ⌜ r ≡ answer ⌝ }\n{\n}\n"
+        files = {
+            "a/Calls": "use Rattle.b.specs.Words.{word}\nuse Rattle.a.specs.Other.{other}\n",
+            "b/Words": "use Rattle.b.specs.declared.T.{T}\n",
+            "a/Other": "use Rattle.eval_lanes.specs.Lanes.{lane}\n",
+        }
+        reached = reached_from([export], lambda file: files.get(file, ""))
+        self.assertEqual(set(reached), {"a/Calls", "b/Words", "a/Other", "eval_lanes/Lanes"})
+        self.assertEqual(reached["eval_lanes/Lanes"], "a/Other")
 
 
 class Trace(unittest.TestCase):
