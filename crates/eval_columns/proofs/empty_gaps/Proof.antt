@@ -1,10 +1,9 @@
 -- The loop's invariant: the columns before c are those of the slots, and ys has the y of the records. The measure is what is left of the
 -- columns that d uses.
-use mathlib.Core.Path.{_≡_, sym, ap, subst}
+use mathlib.Core.Path.{_≡_, sym, subst}
 use mathlib.Core.List.{List, []}
 use Prim.Native.Nat.{ℕ, _-_, _≤_, _<_, min}
 use native.Mathlib.Omega.{arith}
-use lib.IntN.{ℤ}
 use lib.ListN.{getD}
 use lib.Ieee.{Float, nan}
 use Rattle.points.specs.declared.Point.{Point}
