@@ -141,6 +141,12 @@ module _ (cost : List ℤ → ℕ) (t : ℕ) (best v : List ℤ) where
   unfolding better
   better-old s = by-cond (λ w. w ≡ best) (ahead t (cost best) best (cost v) v) (λ h. absurd (s h)) (λ h. refl)
 
+  -- what is best after it was tried costs no more
+  pub better-le : cost (better cost t best v) ≤ cost best
+  unfolding better
+  better-le =
+      by-cond (λ w. cost w ≤ cost best) (ahead t (cost best) best (cost v) v) (ahead-le t (cost best) best (cost v) v) (λ h. omega arith)
+
   pub better-in : (box : Box) → InBox best box → InBox v box → InBox (better cost t best v) box
   unfolding better
   better-in box p q = by-cond (λ w. InBox w box) (ahead t (cost best) best (cost v) v) (λ h. q) (λ h. p)

@@ -1,0 +1,4 @@
+pub mod UpTo
+pub mod Halves
+pub mod Cutting
+pub mod Lanes
