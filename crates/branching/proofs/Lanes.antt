@@ -1,6 +1,6 @@
 -- What is found over lanes is what the definitions say, step by step. Assumes nothing.
 use mathlib.Core.Path.{_≡_, refl, sym, ap, subst, _∙_}
-use mathlib.Core.Bool.{Bool, true, false, cond, _&&_}
+use mathlib.Core.Bool.{Bool, true, false, cond, not, _&&_}
 use mathlib.Core.List.{List}
 use Prim.Native.Nat.{ℕ, _<_}
 use borrow.Author.Tests.{ltb-true}
@@ -61,11 +61,11 @@ module _ (store : List ℕ) (lanes : List (List (List Float))) (m : Model) where
     leaves is = rw (costed, sym decides ∙ is)
 
   pub cut-lanes :
-      (b : Box) (mark : Mark) (given test : Bool) (h : Halves) (cap : ℕ) (x : HalfBounds) (one new : Mark) (l r : Child) → h ≡ cutAnswer b →
+      (b : Box) (mark : Mark) (given test stays : Bool) (h : Halves) (cap : ℕ) (x : HalfBounds) (one new : Mark) (l r : Child) → h ≡ cutAnswer b →
       cap ≡ justAbove (mark .cost) → x ≡ halfBoundsIn store lanes m b (h .left) (h .right) cap →
       one ≡ triedIn store lanes m mark (h .left .low) given → test ≡ aheadOf mark (x .right) (h .right .low) →
-      new ≡ triedIn store lanes m one (h .right .low) test → l ≡ childOf (h .left) (x .left) new → r ≡ childOf (h .right) (x .right) new →
-      _≡_ {A = Branches} (record { mark = new; left = l; right = r }) (cutIn store lanes m b mark given)
+      new ≡ triedIn store lanes m one (h .right .low) test → stays ≡ not (aheadOf mark (new .cost) (new .best)) → l ≡ childOf (h .left) (x .left) new → r ≡ childOf (h .right) (x .right) new →
+      _≡_ {A = Branches} (record { mark = new; stays = stays; left = l; right = r }) (cutIn store lanes m b mark given)
   unfolding cutIn
-  cut-lanes b mark given test h cap x one new l r cuts above found first asks second left right =
-      rw (left, right, second, asks, first, found, above, cuts)
+  cut-lanes b mark given test stays h cap x one new l r cuts above found first asks second same left right =
+      rw (left, right, same, second, asks, first, found, above, cuts)

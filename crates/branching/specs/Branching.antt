@@ -1,7 +1,7 @@
 -- A box is cut: what is found over lanes, by the numbers in them, and of a store's own lanes by its points. These definitions say what this
 -- crate's functions do; the contract of a search does not rest on them, and a reader of that need not believe them.
 use mathlib.Core.Path.{_≡_}
-use mathlib.Core.Bool.{Bool, cond, _&&_}
+use mathlib.Core.Bool.{Bool, true, cond, not, _&&_}
 use mathlib.Core.List.{List}
 use Prim.Native.Nat.{ℕ, _+_, _/_, _<_, min}
 use lib.Dec.{ltb, eqb}
@@ -74,7 +74,12 @@ module _ (store : List ℕ) (lanes : List (List (List Float))) (m : Model) where
       let x = halfBoundsIn b (h .left) (h .right) (justAbove (mark .cost)) in
       let one = triedIn mark (h .left .low) given in
       let new = triedIn one (h .right .low) (aheadOf mark (x .right) (h .right .low)) in
-      record { mark = new; left = childOf (h .left) (x .left) new; right = childOf (h .right) (x .right) new }
+      record {
+        mark = new;
+        stays = not (aheadOf mark (new .cost) (new .best));
+        left = childOf (h .left) (x .left) new;
+        right = childOf (h .right) (x .right) new;
+      }
 
 -- What is left of a box b that is cut, where `mark` had the best vector: the new best, and the tested halves.
 pub record Cut (cost : List ℤ → ℕ) (bound : Box → ℕ) (b : Box) (mark : Mark) (r : Branches) : Type 0 where
@@ -83,5 +88,6 @@ pub record Cut (cost : List ℤ → ℕ) (bound : Box → ℕ) (b : Box) (mark :
       ≡ markOf cost (mark .t)
       (better cost (mark .t) (better cost (mark .t) (mark .best) ((leftHalf b) .low)) ((rightHalf b) .low))
   pub fits : r .mark .cost < 18446744073709551615
+  pub same : r .stays ≡ true → r .mark ≡ mark
   pub left : Tested bound (keptBy bound (r .mark)) (leftHalf b) (r .left)
   pub right : Tested bound (keptBy bound (r .mark)) (rightHalf b) (r .right)

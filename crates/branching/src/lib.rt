@@ -23,9 +23,10 @@ pub struct HalfBounds {
     pub right: u64,
 }
 
-// What a box that is cut leaves: the best vector after it, and the tested halves.
+// What a box that is cut leaves: the best vector after it, whether it is the one from before, and the tested halves.
 pub struct Branches {
     pub mark: Mark,
+    pub stays: bool,
     pub left: Child,
     pub right: Child,
 }
@@ -133,7 +134,7 @@ fn tried(store: &[u8], lanes: &[Chunk], m: Model, mark: Mark, v: [i16; 8], neede
 
 // Cuts a box, finds the halves' bounds, and tries the low vector of each half. The left half has the low vector of the box itself, which is
 // new only if the box is the given one; of a right half that is dropped no vector becomes best. The bounds are found beside the best vector
-// from before, and decide beside the one after it too.
+// from before, and decide beside the one after it too. That is the same where it is not ahead of it.
 pub fn cut_box(store: &[u8], lanes: &[Chunk], m: Model, b: Box, mark: Mark, given: bool) -> Branches
     ensures lanes { λ r. ⌜ r ≡ cutIn (now (store .entry)) (now (lanes .entry)) m b mark given ⌝ }
     ensures store { λ r. ⌜
@@ -156,8 +157,10 @@ pub fn cut_box(store: &[u8], lanes: &[Chunk], m: Model, b: Box, mark: Mark, give
         right_low,
         ahead(mark, found.right, right_low),
     );
+    let best = new.best;
     Branches {
         mark: new,
+        stays: !ahead(mark, new.cost, best),
         left: child_of(left, found.left, new),
         right: child_of(right, found.right, new),
     }

@@ -18,7 +18,7 @@ use Rattle.list_rows.specs.Rows.{rowCount, rowAt, rowsOf, withRow, withoutRow}
 use Rattle.list_rows.proofs.Rows.{Whole, rest-later, rows-length, row-whole, row-of-rest, length-with, rest-with, rows-with}
 use Rattle.list_rows.proofs.Rows.{without-long, without-rest, without-before, without-behind}
 use Rattle.list_rows.proofs.Parts.{down, down-long, down-rest, down-before, down-moved}
-use Rattle.list_open_boxes.specs.declared.Child.{Child}
+use Rattle.incumbent.specs.declared.Child.{Child}
 use Rattle.list_open_boxes.specs.OpenBoxes.{fits, ifKept, othersThan, picked, roomIn, Held}
 use Rattle.list_first_smallest.specs.FirstSmallest.{entryAt}
 use Rattle.list_open_boxes.proofs.Picking.{one-at-most, picked-all, picked-more, picked-moved, taken-one}

@@ -12,8 +12,8 @@ use Rattle.list_first_smallest.specs.FirstSmallest.{entryAt}
 use Rattle.boxes.specs.declared.Box.{Box}
 use Rattle.list_rows.specs.Rows.{rowCount, rowAt, rowsOf}
 use Rattle.certificate.specs.Search.{ahead}
-use Rattle.list_open_boxes.specs.declared.Child.{Child}
-use Rattle.list_open_boxes.specs.declared.Mark.{Mark}
+use Rattle.incumbent.specs.declared.Child.{Child}
+use Rattle.incumbent.specs.declared.Mark.{Mark}
 
 -- how many boxes table and list have room for: "fewer entries than rows" leave less
 abbrev pub roomIn : List ℤ → List ℕ → ℕ

@@ -1,5 +1,7 @@
 // The list of open boxes in lent memory: the boxes are the first rows of the table, and their bounds the first entries of a list beside it.
-use boxes::Box;
+use incumbent::Child;
+use incumbent::Mark;
+use incumbent::ahead;
 use numbers::smaller;
 ghost use mathlib.Core.Path.{_≡_};
 ghost use mathlib.Core.Bool.{cond};
@@ -11,38 +13,6 @@ ghost use Rattle.certificate.specs.Search.{ahead};
 ghost use Rattle.list_first_smallest.specs.FirstSmallest.{entryAt};
 ghost use Rattle.list_rows.specs.Rows.{rowCount, rowAt, rowsOf, withRow};
 ghost use Rattle.list_open_boxes.specs.OpenBoxes.{Held, Settled, fits, keptAt, number, othersThan, picked, roomIn};
-
-// A box that is to be open if it is kept, with its bound, which has to be exact only then.
-pub struct Child {
-    pub half: Box,
-    pub bound: u64,
-    pub kept: bool,
-}
-
-// What a vector with its cost, or a box with its bound and its low vector, is held against: the best vector, its cost C, and t.
-pub struct Mark {
-    pub t: u64,
-    pub cost: u64,
-    pub best: [i16; 8],
-}
-
-// Whether a number is below C or, for t = 0, equals C and belongs to a vector that comes before best. What becomes best and what is kept
-// goes by this test.
-pub fn ahead(mark: Mark, number: u64, v: [i16; 8]) -> bool
-    ensures { λ r. ⌜ r ≡ ahead (mark .t) (mark .cost) (mark .best) number v ⌝ }
-{
-    if number < mark.cost {
-        return true;
-    }
-    if 0 < mark.t {
-        return false;
-    }
-    if mark.cost < number {
-        return false;
-    }
-    let best = mark.best;
-    boxes::before(v, best)
-}
 
 // Whether the box in row i, with this bound, is kept. Its low vector is read only where the bound does not decide.
 fn keeps(table: &[i16], i: usize, bound: u64, mark: Mark) -> bool

@@ -16,7 +16,7 @@ use Rattle.list_rows.specs.Rows.{rowAt, rowsOf}
 use Rattle.list_rows.proofs.Rows.{rest-later, rows-at}
 use Rattle.list_first_smallest.specs.FirstSmallest.{entryAt}
 use Rattle.list_blocks.specs.Blocks.{gone}
-use Rattle.list_open_boxes.specs.declared.Mark.{Mark}
+use Rattle.incumbent.specs.declared.Mark.{Mark}
 use Rattle.list_open_boxes.specs.OpenBoxes.{keptAt, picked, roomIn, Held, keptBoxes, keptNumbers}
 use Rattle.list_open_boxes.proofs.Picking.{picked-all, picked-kept, picked-map}
 use Rattle.list_open_boxes.proofs.Listing.{all-rows}

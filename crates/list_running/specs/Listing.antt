@@ -14,7 +14,7 @@ use Rattle.list_first_smallest.specs.declared.Lowest.{Lowest}
 use Rattle.list_first_smallest.specs.FirstSmallest.{entryAt, LowestOf}
 use Rattle.list_blocks.specs.declared.Spot.{Spot}
 use Rattle.list_blocks.specs.Blocks.{gone, Blocked, LeastsFound, SpotOf, TakenAway}
-use Rattle.list_open_boxes.specs.declared.Mark.{Mark}
+use Rattle.incumbent.specs.declared.Mark.{Mark}
 use Rattle.list_open_boxes.specs.OpenBoxes.{othersThan, picked, roomIn, Held, Settled}
 use Rattle.certificate.specs.Search.{firstSmallest, boxAt, without}
 use Rattle.list_running.specs.declared.Found.{Found}

@@ -1,17 +1,15 @@
 // The open boxes while a search runs. The first rows of the table hold boxes, but for those that were taken out since: a row is gone where
 // its entry says so. The newest boxes are late: they stand in a short table of their own, with a list of their bounds beside it. So a split
 // moves few rows; those of the table close up where the late ones are moved in.
+use incumbent::Mark;
 use list_blocks::GONE;
 use list_blocks::Leasts;
 use list_blocks::Places;
 use list_blocks::Spot;
 use list_first_smallest::Lowest;
 use list_first_smallest::lower_bound;
-use list_open_boxes::Mark;
-ghost use mathlib.Core.Bool.{cond};
 ghost use mathlib.Core.Path.{_≡_};
 ghost use Prim.Native.Nat.{_-_};
-ghost use lib.Dec.{eqb, leb};
 ghost use Rattle.list_running.specs.Listing.{FoundBy, SettledBy, TakenBy};
 
 // How many rows of the table are in use, gone ones too, and in how many blocks; how many boxes are late, and the first smallest of their
@@ -60,13 +58,6 @@ pub fn lowest(leasts: &Leasts, places: &Places, list: Listing, cost: u64) -> Fou
         late: false,
         spot: far,
     }
-}
-
-// Whether a search is solved: where C − L is at most t, and for t = 0 where no box is open. No other code decides it.
-pub fn is_solved(t: u64, gap: u64, open: usize) -> bool
-    ensures { λ r. ⌜ r ≡ cond (eqb t 0) (eqb «open» 0) (leb gap t) ⌝ }
-{
-    if t == 0 { open == 0 } else { gap <= t }
 }
 
 // One less, if there is one.

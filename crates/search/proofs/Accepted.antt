@@ -66,23 +66,23 @@ module _ (store : List ℕ) (job : Job) (t : List ℤ) (d : List ℕ) where
       rw ok (q .answer),
       (
         record {
-          long = q .within .long;
+          long = q .long;
           untouched = λ why h. refused-not-passed why (sym h ∙ ok);
           leftovers = drop open-count (rowsOf v (found .peak));
           rows =
               λ h. two-parts (rowsOf v (found .peak)) (found .list) open-count
               (rows-take v (found .peak) open-count (q .few) ∙ q .open-rows);
-          rest = λ h. q .within .rest;
+          rest = λ h. q .rest;
         },
         (
           record {
-            long = q .within .long-entries;
+            long = q .long-entries;
             untouched = λ why h. refused-not-passed why (sym h ∙ ok);
             leftovers = drop open-count (take (found .peak) f);
             entries =
                 λ h. two-parts (take (found .peak) f) (map B (found .list)) open-count
                 (take-take open-count (found .peak) f (q .few) ∙ q .open-entries);
-            rest = λ h. q .within .rest-entries;
+            rest = λ h. q .rest-entries;
           },
           λ h. (q .answer, certificate),
         ),

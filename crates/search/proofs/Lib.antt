@@ -1,8 +1,4 @@
 pub mod Accepted
-pub mod Cutting
-pub mod UpTo
-pub mod Halves
-pub mod Replacing
 pub mod Beginning
 pub mod Stepping
 pub mod Going

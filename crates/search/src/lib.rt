@@ -1,15 +1,15 @@
 // The search: branch and bound over the boxes of a lent table, with the certificate of its answer.
-mod branch;
 mod run;
 mod step;
 
-use crate::run::begin;
 use crate::run::run;
 use codes::Check;
 use codes::Refusal;
 use eval_lanes::Chunk;
 use eval_lanes::Lanes;
 use jobs::Job;
+use list_blocks::Leasts;
+use list_blocks::Places;
 use search_checks::check_search;
 ghost use mathlib.Core.Path.{_≡_};
 ghost use Rattle.search.specs.Search.{refused, searchAnswer, TableSearched, BoundsSearched, Certified};
@@ -49,7 +49,7 @@ fn refusal(why: Refusal) -> Answer
 }
 
 // Searches the box of a job for the cheapest vector, within a split budget and the rows of a lent table, with the bound of each open box
-// in a lent list.
+// at the end in a lent list.
 pub fn search(store: &[u8], job: Job, table: &mut [i16], bounds: &mut [u64]) -> Answer
     ensures answer { λ r. ⌜ r ≡ searchAnswer (now (store .entry)) job (now (table .entry)) (now (bounds .entry)) ⌝ }
     ensures table { λ _. ⌜ TableSearched (now (store .entry)) job (now (table .entry)) (now (bounds .entry)) (now (table .exit)) ⌝ }
@@ -59,33 +59,24 @@ pub fn search(store: &[u8], job: Job, table: &mut [i16], bounds: &mut [u64]) -> 
     match check_search(store, job, table.len(), bounds.len()) {
         Check::Pass => {
             let m = job.model;
-            let domain = job.domain;
-            let start = job.start;
             let column: Lanes = [0.0; 80];
             let chunk: Chunk = [column; 5];
             let mut lanes = [chunk; 54];
             eval_stores::decode(&mut lanes, store, m.d, scale::power(m.scale));
+            let mut leasts: Leasts = [0; 64];
+            let mut places: Places = [0; 64];
             let mut late = [0i16; 2048];
             let mut beside = [0u64; 128];
-            let first = begin(
-                store,
-                &lanes,
-                m,
-                job.t,
-                &mut late,
-                &mut beside,
-                domain,
-                start,
-            );
             run(
                 store,
                 &lanes,
                 job,
                 table,
                 bounds,
+                &mut leasts,
+                &mut places,
                 &mut late,
                 &mut beside,
-                first,
             )
         }
         Check::Refuse(why) => refusal(why),

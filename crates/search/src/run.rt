@@ -1,17 +1,13 @@
-// The run of a search: its beginning, step after step, and its end.
+// From the beginning of a search to its answer, step after step.
 use crate::Answer;
 use crate::Kind;
-use crate::branch::Best;
-use crate::branch::mark_of;
-use crate::branch::tested;
 use crate::step::State;
-use crate::step::add;
 use crate::step::step;
-use boxes::Box;
 use costs::NO_CAP;
 use eval_lanes::Chunk;
+use incumbent::Mark;
+use incumbent::is_solved;
 use jobs::Job;
-use jobs::Model;
 use list_blocks::GONE;
 use list_blocks::Leasts;
 use list_blocks::Places;
@@ -23,30 +19,27 @@ ghost use lib.ListN.{length};
 ghost use Rattle.boxes.specs.Boxes.{InBox};
 ghost use Rattle.points.specs.Points.{pointsOf};
 ghost use Rattle.residuals.specs.Cost.{cost, bound};
+ghost use Rattle.branching.specs.Branching.{Evaluable};
 ghost use Rattle.list_rows.specs.Rows.{rowCount};
-ghost use Rattle.search.specs.Inside.{Evaluable, Begun, Ended, answerWith, Ran};
+ghost use Rattle.replacing.specs.Replacing.{memory};
+ghost use Rattle.search.specs.Inside.{Begun, Ended, answerWith, Ran};
 ghost use Rattle.search.specs.Search.{searched};
 
 // The best vector is the start vector. The given box is open if it is kept: it is late, and the table is not written.
-pub fn begin(
-    store: &[u8],
-    lanes: &[Chunk],
-    m: Model,
-    t: u64,
-    late: &mut [i16],
-    beside: &mut [u64],
-    domain: Box,
-    start: [i16; 8],
-) -> State
-    requires { ⌜ Evaluable (now store) (now lanes) m × (length (now late) ≡ 2048) × (length (now beside) ≡ 128) ⌝ }
+fn begin(store: &[u8], lanes: &[Chunk], job: Job, late: &mut [i16], beside: &mut [u64]) -> State
+    requires { ⌜ Evaluable (now store) (now lanes) (job .model) × (length (now late) ≡ 2048) × (length (now beside) ≡ 128) ⌝ }
     ensures { λ r. ⌜
-        Begun (cost m (pointsOf (now (store .entry)))) (bound m (pointsOf (now (store .entry)))) t start domain
-        r (now (late .exit)) (now (beside .exit)) ⌝ }
+        Begun (cost (job .model) (pointsOf (now (store .entry)))) (bound (job .model) (pointsOf (now (store .entry)))) (job .t) (job .start)
+        (job .domain) r (now (late .exit)) (now (beside .exit)) ⌝ }
 {
+    let m = job.model;
+    let domain = job.domain;
+    let start = job.start;
     let c = costs::cost_in(store, lanes, m, start, NO_CAP);
-    let best = Best {
-        vector: start,
+    let mark = Mark {
+        t: job.t,
         cost: c,
+        best: start,
     };
     let none = Listing {
         rows: 0,
@@ -55,14 +48,10 @@ pub fn begin(
         near: Lowest { at: 0, bound: GONE },
         number: 0,
     };
-    let list = add(
-        late,
-        beside,
-        none,
-        tested(store, lanes, m, domain, mark_of(t, best)),
-    );
+    let given = branching::tested(store, lanes, m, domain, mark);
+    let list = replacing::add(late, beside, none, given);
     State {
-        best,
+        mark,
         list,
         count: 0,
         peak: list.number,
@@ -72,13 +61,13 @@ pub fn begin(
 fn answer(kind: Kind, s: State, low: u64) -> Answer
     ensures { λ r. ⌜ r ≡ answerWith kind s low ⌝ }
 {
-    let best = s.best;
-    let vector = best.vector;
+    let mark = s.mark;
+    let vector = mark.best;
     let list = s.list;
     Answer {
         kind,
         vector,
-        cost: best.cost,
+        cost: mark.cost,
         bound: low,
         count: s.count,
         open: list.number,
@@ -119,19 +108,20 @@ fn steps(
         Begun (cost (job .model) (pointsOf (now store))) (bound (job .model) (pointsOf (now store))) (job .t) (job .start) (job .domain)
         first (now late) (now beside) ⌝ }
     ensures { λ r. ⌜
-        Ended (bound (job .model) (pointsOf (now (store .entry)))) (job .t)
-        (searched (now (store .entry)) job (rowCount (now (table .entry)))) (now (table .entry)) (now (bounds .entry))
-        r (now (table .exit)) (now (bounds .exit)) (now (leasts .exit)) (now (places .exit)) (now (late .exit)) (now (beside .exit)) ⌝ }
+        Ended (bound (job .model) (pointsOf (now (store .entry)))) (searched (now (store .entry)) job (rowCount (now (table .entry))))
+        (memory (now (table .entry)) (now (bounds .entry)) (now (leasts .entry)) (now (places .entry)) (now (late .entry))
+        (now (beside .entry))) r (memory (now (table .exit)) (now (bounds .exit)) (now (leasts .exit)) (now (places .exit))
+        (now (late .exit)) (now (beside .exit))) ⌝ }
 {
     let m = job.model;
     let mut s = first;
     loop {
-        let best = s.best;
+        let mark = s.mark;
         let list = s.list;
-        let found = list_running::lowest(leasts, places, list, best.cost);
+        let found = list_running::lowest(leasts, places, list, mark.cost);
         let spot = found.spot;
         let low = spot.bound;
-        let solved = list_running::is_solved(job.t, best.cost - low, list.number);
+        let solved = is_solved(job.t, mark.cost - low, list.number);
         let spent = s.count == job.budget;
         if solved {
             return ended(Kind::Solved, low, s);
@@ -143,7 +133,6 @@ fn steps(
             store,
             lanes,
             m,
-            job.t,
             table,
             bounds,
             leasts,
@@ -167,47 +156,36 @@ pub fn run(
     job: Job,
     table: &mut [i16],
     bounds: &mut [u64],
+    leasts: &mut Leasts,
+    places: &mut Places,
     late: &mut [i16],
     beside: &mut [u64],
-    first: State,
 ) -> Answer
     requires { ⌜
         Evaluable (now store) (now lanes) (job .model) × (1 ≤ rowCount (now table)) × (rowCount (now table) ≤ length (now bounds))
-        × InBox (job .start) (job .domain) ⌝ }
-    requires { ⌜
-        Begun (cost (job .model) (pointsOf (now store))) (bound (job .model) (pointsOf (now store))) (job .t) (job .start) (job .domain)
-        first (now late) (now beside) ⌝ }
+        × InBox (job .start) (job .domain) × (length (now leasts) ≡ 64) × (length (now places) ≡ 64)
+        × (length (now late) ≡ 2048) × (length (now beside) ≡ 128) ⌝ }
     ensures { λ r. ⌜
         Ran (bound (job .model) (pointsOf (now (store .entry)))) (searched (now (store .entry)) job (rowCount (now (table .entry))))
         (now (table .entry)) (now (bounds .entry)) r (now (table .exit)) (now (bounds .exit)) ⌝ }
 {
-    let mut leasts: Leasts = [0; 64];
-    let mut places: Places = [0; 64];
+    let first = begin(store, lanes, job, late, beside);
     let end = steps(
         store,
         lanes,
         job,
         table,
         bounds,
-        &mut leasts,
-        &mut places,
+        leasts,
+        places,
         late,
         beside,
         first,
     );
     let kind = end.kind;
     let s = end.state;
-    let best = s.best;
+    let mark = s.mark;
     let list = s.list;
-    list_running::settle(
-        table,
-        bounds,
-        &mut leasts,
-        &mut places,
-        late,
-        beside,
-        list,
-        mark_of(job.t, best),
-    );
+    list_running::settle(table, bounds, leasts, places, late, beside, list, mark);
     answer(kind, s, end.low)
 }

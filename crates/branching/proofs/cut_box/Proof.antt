@@ -1,5 +1,6 @@
 -- A box of two vectors or more is cut, each half's bound is found up to above C, and the low vectors are tried.
 use mathlib.Core.Path.{_≡_, refl, sym, ap, _∙_}
+use mathlib.Core.Bool.{not}
 use mathlib.Core.List.{List}
 use Prim.Native.Nat.{ℕ, _≤_, min}
 use lib.IntN.{ℤ}
@@ -39,6 +40,9 @@ ahead-requires c κs = search needs
 tried-requires-2 : tie.Need-tried-requires-2
 tried-requires-2 c κs = search needs
 
+ahead-requires-2 : tie.Need-ahead-requires-2
+ahead-requires-2 c κs = search needs
+
 child-of-requires : tie.Need-child-of-requires
 child-of-requires c κs = search needs
 
@@ -68,18 +72,19 @@ module _ (c : tie.After-tried2) where
 returns : tie.Need-returns
 unfolding leftHalf
 returns c =
-    let q = c .before .before in
+    let same = c .before .before in
+    let q = same .before .before in
     let a = start q .args in
     let found = finds q .half-bounds in
     let one = ones q .tried in (
-      cut-lanes (a .store .now) (a .lanes .now) (a .m) (a .b) (a .mark) (a .given) _ _ _ _ _ _ _ _ (cuts q .cut .ensures)
+      cut-lanes (a .store .now) (a .lanes .now) (a .m) (a .b) (a .mark) (a .given) _ _ _ _ _ _ _ _ _ (cuts q .cut .ensures)
           (aboves q .just-above .ensures) (found .ensures .0) (one .ensures .0) (asks q .ahead .ensures) (q .tried2 .ensures .0)
-          (c .before .child-of .ensures) (c .child-of2 .ensures),
+          (ap not (same .ahead2 .ensures)) (c .before .child-of .ensures) (c .child-of2 .ensures),
       λ ok is two costed.
           cut-whole (cost (a .m) (pointsOf (a .store .now))) (bound (a .m) (pointsOf (a .store .now))) (bound-laws (a .m) (pointsOf (a .store .now)))
-          (a .b) (a .mark) is two _ _ _ _ _ _ _ _ _ (cuts q .cut .ensures ∙ cut-passes (a .b) two) (aboves q .just-above .ensures)
+          (a .b) (a .mark) is two _ _ _ _ _ _ _ _ _ _ (cuts q .cut .ensures ∙ cut-passes (a .b) two) (aboves q .just-above .ensures)
           (found .ensures .1 ok) (one .ensures .1 ok is) costed (asks q .ahead .ensures) (q .tried2 .ensures .1 ok)
-          (c .before .child-of .ensures) (c .child-of2 .ensures),
+          (ap not (same .ahead2 .ensures)) (c .before .child-of .ensures) (c .child-of2 .ensures),
     )
 
 pub cut-box-spec : {M : Type 1} → statement M
@@ -92,6 +97,7 @@ cut-box-spec =
     tried-requires
     ahead-requires
     tried-requires-2
+    ahead-requires-2
     child-of-requires
     child-of-requires-2
     returns)

@@ -10,7 +10,7 @@ use borrow.Author.Needs.{needs}
 use Rattle.list_rows.specs.Rows.{rowAt, rowsOf}
 use Rattle.list_rows.proofs.Rows.{rows-length, row-whole}
 use Rattle.list_first_smallest.specs.FirstSmallest.{entryAt}
-use Rattle.list_open_boxes.specs.declared.Child.{Child}
+use Rattle.incumbent.specs.declared.Child.{Child}
 use Rattle.list_open_boxes.specs.OpenBoxes.{Held, keptAt, picked, roomIn}
 use Rattle.list_open_boxes.proofs.Picking.{picked-more}
 use Rattle.list_open_boxes.proofs.Listing.{Put, own-held, one-taken}

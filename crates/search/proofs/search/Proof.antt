@@ -1,13 +1,13 @@
 -- Where the checks pass, the beginning and the run; else the refusal, and nothing is written.
 use mathlib.Core.Path.{_≡_, refl, sym, _∙_}
-use Prim.Native.Nat.{_/_, _≤_}
+use Prim.Native.Nat.{ℕ, _/_, _≤_}
 use native.Mathlib.Omega.{arith}
-use lib.ListN.{length}
+use lib.ListN.{length, length-replicate}
 use Rattle.codes.specs.declared.Check.the-variants.{Pass}
 use Rattle.costs.proofs.Passed.{decoded-for}
 use Rattle.search_checks.proofs.Passed.{Runs, runs-accepted, rows-accepted, entries-accepted}
 use Rattle.search.specs.Search.{checkLent}
-use Rattle.search.specs.Inside.{Evaluable}
+use Rattle.branching.specs.Branching.{Evaluable}
 use Rattle.search.proofs.Accepted.{promised-pass, promised-refused}
 use borrow.Author.Needs.{needs}
 use Rattle.search.proofs.search.Statement.{statement}
@@ -49,15 +49,6 @@ power-requires c κs = search needs
 decode-requires : tie.Need-decode-requires
 decode-requires c κs = search needs
 
-slice-aggregate-begin : tie.Need-slice-aggregate-begin
-slice-aggregate-begin c = search needs
-
-slice-aggregate-begin-2 : tie.Need-slice-aggregate-begin-2
-slice-aggregate-begin-2 c = search needs
-
-slice-aggregate-begin-3 : tie.Need-slice-aggregate-begin-3
-slice-aggregate-begin-3 c = search needs
-
 slice-aggregate-run : tie.Need-slice-aggregate-run
 slice-aggregate-run c = search needs
 
@@ -70,7 +61,7 @@ slice-aggregate-run-3 c = search needs
 -- the store is decoded
 module _ (c : tie.After-decode) where
   abbrev told : tie.After-enum-told
-  told = c .before .before .before .before .before .before
+  told = c .before .before .before .before
 
   evaluable : Evaluable (begun told .args .store .now) (c .decode .last .0) (begun told .args .job .model)
   evaluable =
@@ -82,15 +73,19 @@ module _ (c : tie.After-decode) where
             (c .decode .ensures);
       }
 
-begin-requires : tie.Need-begin-requires
-begin-requires c κs = (evaluable (c .before .before .before .before), search needs, search needs)
-
 run-requires : tie.Need-run-requires
 run-requires c κs =
-    let q = c .before .before .before .before .before .before .before in
-    let d = q .before .before .before .before .before in
-    let e = told d in
-    ((evaluable d, omega (arith, rows e), entries e, (runs e) .inside), q .begin .ensures)
+    let d = c .before .before .before .before .before .before .before .before in
+    let e = told d in (
+      evaluable d,
+      omega (arith, rows e),
+      entries e,
+      (runs e) .inside,
+      length-replicate {A = ℕ} 64 0,
+      length-replicate {A = ℕ} 64 0,
+      search needs,
+      search needs,
+    )
 
 enum-known-why : tie.Need-enum-known-why
 enum-known-why c = search needs
@@ -107,7 +102,7 @@ same-length-2 c = search needs
 returns : tie.Need-returns
 returns c =
     let r = c .before .before .before .before .before in
-    let e = told (r .before .before .before .before .before .before .before .before .before .before .before .before .before) in
+    let e = told (r .before .before .before .before .before .before .before .before .before) in
     let a = begun e .args in
     promised-pass (a .store .now) (a .job) (a .table .now) (a .bounds .now) (pass e) (r .run .last .1 .1 .1 .0)
     (r .run .last .1 .1 .1 .1 .0) (r .run .result)
@@ -130,10 +125,6 @@ search-spec =
     slice-aggregate-decode
     power-requires
     decode-requires
-    slice-aggregate-begin
-    slice-aggregate-begin-2
-    slice-aggregate-begin-3
-    begin-requires
     slice-aggregate-run
     slice-aggregate-run-2
     slice-aggregate-run-3

@@ -1,10 +1,9 @@
 -- The invariant: the run of the definition has come to the state, with its list as it is held. The measure is what is left of the split
 -- budget.
 use mathlib.Core.Path.{_≡_, ap, sym, _∙_}
-use mathlib.Core.Bool.{false, cond}
+use mathlib.Core.Bool.{false}
 use mathlib.Core.List.{List}
 use Prim.Native.Nat.{ℕ, _-_}
-use lib.Dec.{eqb, leb}
 use lib.IntN.{ℤ}
 use lib.ListN.{length}
 use borrow.Author.Tests.{eqb-true, eqb-false}
@@ -12,10 +11,11 @@ use Rattle.jobs.specs.declared.Job.{Job}
 use Rattle.points.specs.Points.{pointsOf}
 use Rattle.residuals.specs.Cost.{cost, bound}
 use Rattle.residuals.proofs.Bounds.{bound-laws}
+use Rattle.incumbent.specs.Incumbent.{solvedBy}
 use Rattle.list_running.specs.declared.Found.{Found}
+use Rattle.replacing.specs.Replacing.{Memory, memory, LateLong}
 use Rattle.search.specs.declared.step.State.{State}
 use Rattle.search.specs.Search.{searched}
-use Rattle.search.specs.Inside.{LateLong}
 use Rattle.search.proofs.Going.{Run, Ready, Going, going-begins, low-le, going-solved, going-spent, going-steppable, going-full}
 use Rattle.search.proofs.Going.{going-on, going-counts}
 use borrow.Author.Needs.{needs}
@@ -23,8 +23,8 @@ use Rattle.search.proofs.run.steps.Statement.{statement}
 use Rattle.search.proofs.run.steps.Tie as tie
 
 -- the run of a job
-abbrev runOf : List ℕ → Job → List ℤ → List ℕ → Run
-runOf store job t d =
+abbrev runOf : List ℕ → Job → Memory → Run
+runOf store job h =
     record {
       cost = cost (job .model) (pointsOf store);
       bound = bound (job .model) (pointsOf store);
@@ -32,21 +32,24 @@ runOf store job t d =
       tol = job .t;
       start = job .start;
       domain = job .domain;
-      t = t;
-      d = d;
+      h = h;
     }
 
 abbrev Inv-loop : tie.InvT-loop
 Inv-loop store lanes job table₀ bounds₀ leasts₀ places₀ late₀ beside₀ m s₀ table bounds leasts places late beside s =
-    Going (runOf store job table₀ bounds₀) s table bounds leasts places late beside
+    Going (runOf store job (memory table₀ bounds₀ leasts₀ places₀ late₀ beside₀)) s (memory table bounds leasts places late beside)
 
 abbrev μ-loop : tie.MeasureT-loop
 μ-loop store lanes job table₀ bounds₀ leasts₀ places₀ late₀ beside₀ m s₀ table bounds leasts places late beside s = job .budget - s .count
 
 -- what is known from the start on
 module _ (s : tie.Start Inv-loop μ-loop) where
+  abbrev first : Memory
+  first =
+      let a = s .args in memory (a .table .now) (a .bounds .now) (a .leasts .now) (a .places .now) (a .late .now) (a .beside .now)
+
   abbrev run : Run
-  run = runOf (s .args .store .now) (s .args .job) (s .args .table .now) (s .args .bounds .now)
+  run = runOf (s .args .store .now) (s .args .job) first
 
   ready : Ready run
   ready =
@@ -57,7 +60,7 @@ module _ (s : tie.Start Inv-loop μ-loop) where
         enough = s .pre .0 .2;
       }
 
-  late-long : LateLong (s .args .late .now) (s .args .beside .now)
+  late-long : LateLong first
   late-long =
       let a = s .args in
       s .pre .1 .stands (a .table .now) (a .bounds .now) (a .leasts .now) (a .places .now) (s .pre .0 .4) (s .pre .0 .5) .late
@@ -79,9 +82,14 @@ module _ (c : tie.After-lowest Inv-loop μ-loop) where
   abbrev low : Found
   low = c .lowest .result
 
+  -- the memory that holds the list
+  abbrev held : Memory
+  held =
+      let l = turn .loop in memory (l .table) (l .bounds) (l .leasts) (l .places) (l .late) (l .beside)
+
   -- C − L
   abbrev gap : ℕ
-  gap = s .best .cost - low .spot .bound
+  gap = s .mark .cost - low .spot .bound
 
   still-late : (length (turn .loop .late) ≡ length (begun .args .late .now))
       × (length (turn .loop .beside) ≡ length (begun .args .beside .now))
@@ -94,7 +102,7 @@ module _ (c : tie.Else1 Inv-loop μ-loop) where
   abbrev lows : tie.After-lowest Inv-loop μ-loop
   lows = c .before .before .before .before .before .before
 
-  unsolved : cond (eqb (j lows .t) 0) (eqb (s lows .list .number) 0) (leb (gap lows) (j lows .t)) ≡ false
+  unsolved : solvedBy (j lows .t) (gap lows) (s lows .list .number) ≡ false
   unsolved = sym (c .before .before .before .is-solved .ensures) ∙ c .if1 .left
 
 -- and where the count is another number than the budget
@@ -104,8 +112,12 @@ left c = eqb-false (s (lows (c .before)) .count) (j (lows (c .before)) .budget) 
 loop-holds : tie.Need-loop-holds Inv-loop μ-loop
 loop-holds c =
     let s = c .before .before .before .before in
-    going-begins (run s) (s .args .first) (s .args .leasts .now) (s .args .places .now) (s .args .late .now) (s .args .beside .now)
-    (s .pre .0 .4) (s .pre .0 .5) (s .pre .1)
+    going-begins (run s) (s .args .first) (s .pre .0 .4) (s .pre .0 .5) (s .pre .1)
+
+-- the memory after a step
+abbrev stepped : tie.After-step Inv-loop μ-loop → Memory
+stepped q =
+    let x = q .step .last in memory (x .1 .1 .1 .0) (x .1 .1 .1 .1 .0) (x .1 .1 .1 .1 .1 .0) (x .1 .1 .1 .1 .1 .1 .0) (x .1 .1 .1 .1 .1 .1 .1 .0) (x .1 .1 .1 .1 .1 .1 .1 .1 .0)
 
 lowest-requires : tie.Need-lowest-requires Inv-loop μ-loop
 lowest-requires c κs = search needs
@@ -114,8 +126,7 @@ sub-is-solved : tie.Need-sub-is-solved Inv-loop μ-loop
 sub-is-solved c =
     let o = c .before .before in
     let l = turn o in
-    low-le (run (begun o)) (ready (begun o)) (s o) (l .loop .table) (l .loop .bounds) (l .loop .leasts) (l .loop .places) (l .loop .late)
-    (l .loop .beside) (l .loop .inv) (low o) (o .lowest .ensures)
+    low-le (run (begun o)) (ready (begun o)) (s o) (held o) (l .loop .inv) (low o) (o .lowest .ensures)
 
 is-solved-requires : tie.Need-is-solved-requires Inv-loop μ-loop
 is-solved-requires c κs = search needs
@@ -140,8 +151,7 @@ unfolding searched
 returns c =
     let o = c .before .before .before .before .before .before .before in
     let l = turn o in
-    rw (c .ended .ensures) (going-solved (run (begun o)) (ready (begun o)) (s o) (l .loop .table) (l .loop .bounds) (l .loop .leasts)
-    (l .loop .places) (l .loop .late) (l .loop .beside) (l .loop .inv) (low o) (o .lowest .ensures)
+    rw (c .ended .ensures) (going-solved (run (begun o)) (ready (begun o)) (s o) (held o) (l .loop .inv) (low o) (o .lowest .ensures)
     (sym (c .before .before .before .before .is-solved .ensures) ∙ c .before .if1 .taken))
 
 ended-requires-2 : tie.Need-ended-requires-2 Inv-loop μ-loop
@@ -165,8 +175,7 @@ returns-2 c =
     let o = lows (c .before .before) in
     let l = turn o in
     rw (c .ended2 .ensures)
-    (going-spent (run (begun o)) (ready (begun o)) (s o) (l .loop .table) (l .loop .bounds) (l .loop .leasts) (l .loop .places)
-    (l .loop .late) (l .loop .beside) (l .loop .inv) (low o) (o .lowest .ensures) (unsolved (c .before .before))
+    (going-spent (run (begun o)) (ready (begun o)) (s o) (held o) (l .loop .inv) (low o) (o .lowest .ensures) (unsolved (c .before .before))
     (eqb-true (s o .count) (j o .budget) (c .before .if2 .taken)))
 
 step-requires : tie.Need-step-requires Inv-loop μ-loop
@@ -175,8 +184,7 @@ step-requires c κs =
     let o = lows (two .before) in
     let l = turn o in (
       begun o .pre .0 .0,
-      going-steppable (run (begun o)) (ready (begun o)) (s o) (l .loop .table) (l .loop .bounds) (l .loop .leasts) (l .loop .places)
-          (l .loop .late) (l .loop .beside) (l .loop .inv) (low o) (o .lowest .ensures) (unsolved (two .before)) (left two)
+      going-steppable (run (begun o)) (ready (begun o)) (s o) (held o) (l .loop .inv) (low o) (o .lowest .ensures) (unsolved (two .before)) (left two)
           (search (needs, begun o .good .1 .1 .0)),
     )
 
@@ -186,25 +194,25 @@ ended-requires-3 c κs = search needs
 same-length-9 : tie.Need-same-length-9 Inv-loop μ-loop
 same-length-9 c =
     let q = c .before .before .before .before .before .before .before .before in
-    ap length (q .step .ensures .kept (c .before .if3 .taken) .0)
+    ap (λ (m : Memory). length (m .table)) (q .step .ensures .kept (c .before .if3 .taken))
     ∙ turn (lows (q .before .before .before .before .before .before .before .before)) .loop .inv .within .long
 
 same-length-10 : tie.Need-same-length-10 Inv-loop μ-loop
 same-length-10 c =
     let q = c .before .before .before .before .before .before .before .before in
-    ap length (q .step .ensures .kept (c .before .if3 .taken) .1)
+    ap (λ (m : Memory). length (m .bounds)) (q .step .ensures .kept (c .before .if3 .taken))
     ∙ turn (lows (q .before .before .before .before .before .before .before .before)) .loop .inv .within .long-entries
 
 same-length-11 : tie.Need-same-length-11 Inv-loop μ-loop
 same-length-11 c =
     let q = c .before .before .before .before .before .before .before .before in
-    ap length (q .step .ensures .kept (c .before .if3 .taken) .4)
+    ap (λ (m : Memory). length (m .late)) (q .step .ensures .kept (c .before .if3 .taken))
     ∙ still-late (lows (q .before .before .before .before .before .before .before .before)) .0
 
 same-length-12 : tie.Need-same-length-12 Inv-loop μ-loop
 same-length-12 c =
     let q = c .before .before .before .before .before .before .before .before in
-    ap length (q .step .ensures .kept (c .before .if3 .taken) .5)
+    ap (λ (m : Memory). length (m .beside)) (q .step .ensures .kept (c .before .if3 .taken))
     ∙ still-late (lows (q .before .before .before .before .before .before .before .before)) .1
 
 returns-3 : tie.Need-returns-3 Inv-loop μ-loop
@@ -215,10 +223,8 @@ returns-3 c =
     let o = lows (two .before) in
     let l = turn o in
     rw (c .ended3 .ensures)
-    (going-full (run (begun o)) (ready (begun o)) (s o) (l .loop .table) (l .loop .bounds) (l .loop .leasts) (l .loop .places)
-    (l .loop .late) (l .loop .beside) (l .loop .inv) (low o) (o .lowest .ensures) (unsolved (two .before)) (left two) (q .step .result)
-    (q .step .last .1 .1 .1 .1 .0) (q .step .last .1 .1 .1 .1 .1 .0) (q .step .last .1 .1 .1 .1 .1 .1 .0)
-    (q .step .last .1 .1 .1 .1 .1 .1 .1 .0) (q .step .last .1 .1 .1 .1 .1 .1 .1 .1 .0) (q .step .last .1 .1 .1 .1 .1 .1 .1 .1 .1 .0)
+    (going-full (run (begun o)) (ready (begun o)) (s o) (held o) (l .loop .inv) (low o) (o .lowest .ensures) (unsolved (two .before)) (left two) (q .step .result)
+    (stepped q)
     (q .step .ensures) (c .before .if3 .taken))
 
 loop-less : tie.Need-loop-less Inv-loop μ-loop
@@ -227,10 +233,8 @@ loop-less c =
     let two = q .before .before .before .before .before .before .before in
     let o = lows (two .before) in
     let l = turn o in
-    going-counts (run (begun o)) (ready (begun o)) (s o) (l .loop .table) (l .loop .bounds) (l .loop .leasts) (l .loop .places)
-    (l .loop .late) (l .loop .beside) (l .loop .inv) (low o) (o .lowest .ensures) (unsolved (two .before)) (left two) (q .step .result)
-    (q .step .last .1 .1 .1 .1 .0) (q .step .last .1 .1 .1 .1 .1 .0) (q .step .last .1 .1 .1 .1 .1 .1 .0)
-    (q .step .last .1 .1 .1 .1 .1 .1 .1 .0) (q .step .last .1 .1 .1 .1 .1 .1 .1 .1 .0) (q .step .last .1 .1 .1 .1 .1 .1 .1 .1 .1 .0)
+    going-counts (run (begun o)) (ready (begun o)) (s o) (held o) (l .loop .inv) (low o) (o .lowest .ensures) (unsolved (two .before)) (left two) (q .step .result)
+    (stepped q)
     (q .step .ensures) (c .before .if3 .left)
 
 loop-again : tie.Need-loop-again Inv-loop μ-loop
@@ -239,10 +243,8 @@ loop-again c =
     let two = q .before .before .before .before .before .before .before in
     let o = lows (two .before) in
     let l = turn o in
-    going-on (run (begun o)) (ready (begun o)) (s o) (l .loop .table) (l .loop .bounds) (l .loop .leasts) (l .loop .places) (l .loop .late)
-    (l .loop .beside) (l .loop .inv) (low o) (o .lowest .ensures) (unsolved (two .before)) (left two) (q .step .result)
-    (q .step .last .1 .1 .1 .1 .0) (q .step .last .1 .1 .1 .1 .1 .0) (q .step .last .1 .1 .1 .1 .1 .1 .0)
-    (q .step .last .1 .1 .1 .1 .1 .1 .1 .0) (q .step .last .1 .1 .1 .1 .1 .1 .1 .1 .0) (q .step .last .1 .1 .1 .1 .1 .1 .1 .1 .1 .0)
+    going-on (run (begun o)) (ready (begun o)) (s o) (held o) (l .loop .inv) (low o) (o .lowest .ensures) (unsolved (two .before)) (left two) (q .step .result)
+    (stepped q)
     (q .step .ensures) (c .before .if3 .left)
 
 pub steps-spec : {M : Type 1} → statement M
