@@ -11,7 +11,8 @@ use Rattle.codes.specs.declared.Check.the-variants.{Pass}
 use Rattle.boxes.specs.declared.Box.{Box}
 use Rattle.boxes.specs.Split.{longestSide, leftHalf, rightHalf, cutAnswer}
 use Rattle.jobs.specs.declared.Model.{Model}
-use Rattle.residuals.specs.Inside.{sumOf, boxOf}
+use Rattle.integers.specs.Sums.{sumOf}
+use Rattle.residuals.specs.Inside.{boxOf}
 use Rattle.model_checks.specs.Checks.{checkModel}
 use Rattle.costs.specs.Calls.{DecodedFor, costIn, boundIn}
 use Rattle.eval_columns.specs.Columns.{decodedChunks}

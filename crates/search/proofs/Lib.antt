@@ -5,3 +5,5 @@ pub mod Going
 pub mod Ending
 pub mod Solved
 pub mod SameVector
+pub mod Stopped
+pub mod EachStep
