@@ -14,11 +14,11 @@ def fit(path, x, y, epsilon=None, frame=None, **settings):
     Settings are those of fitting.Settings, in the user's units; limits=run.Limits(seconds=60) ends a search after that time.
     """
     from fractions import Fraction
-    from . import fitting, library, points
+    from . import fitting, library, points, settings as asking
 
     columns = [x] if isinstance(x, str) else list(x)
     threshold = None if epsilon is None else Fraction(str(epsilon))
-    asked = fitting.Settings(x=columns, y=y, frame=frame, epsilon=threshold, **settings)
+    asked = asking.Settings(x=columns, y=y, frame=frame, epsilon=threshold, **settings)
     return fitting.fit_table(library.find(), points.read_table(str(path)), asked)
 
 

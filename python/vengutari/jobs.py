@@ -21,9 +21,9 @@ from fractions import Fraction
 
 from .library import ANSWER_BYTES, GAP_Y, KINDS, LARGEST_EPSILON, LOSSES, MESSAGES, MOST_RECORDS, SPOILED
 from .outputs import Outputs, say
-from .points import NO_SAMPLE, read_bytes
+from .decimals import NO_SAMPLE, shown
+from .points import read_bytes
 from .problems import BadUse
-from .scaling import shown
 
 MOST_ROWS = 2048
 LONGEST_NUMBER = 60
@@ -345,8 +345,8 @@ def command_job(options):
     if job["p"] == SPOILED and job["epsilon"] >= len(points):
         raise BadInput(f"--spoiled: {job['epsilon']} is not below the number of points, {len(points)}")
     data = job_bytes(job) + store_bytes(points)
-    outputs.stage("--output", data)
-    outputs.place()
+    if options.output is not None:
+        outputs.write("--output", data)
     if options.fit is None:
         return 0
     answer = parse_line(run_fit(options.fit, data))

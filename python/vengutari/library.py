@@ -1,7 +1,4 @@
-"""The library, by ctypes. The signature of every call of include/vengutari.h stands here and nowhere else.
-
-The three switches below say which of document 02's requests the library has; each is one line to change.
-"""
+"""The library, by ctypes. The signature of every call of include/vengutari.h stands here and nowhere else."""
 
 import ctypes
 import ctypes.util
@@ -13,14 +10,7 @@ import sys
 import tempfile
 from collections import namedtuple
 
-from .problems import BadInput
-
-# y = -32,768 is a gap, with label 6 (request 2). Where the library has none, the points given to a call hold none.
-GAPS = True
-# A sample within epsilon of more than one line is undecided, with label 5 (request 8). Where the library has none, it is the nearest's.
-CROSSINGS = True
-# The cost is told beacon by beacon (request 10). Where the library has no such call, no output has it.
-BEACONS = True
+from .problems import BadInput, BadUse, Refused
 
 RECORD_BYTES = 12
 BEACON_RECORDS = 19
@@ -34,9 +24,7 @@ MOST_SPLITS = 2**32 - 1
 LARGEST_TOLERANCE = 2**64 - 1
 GAP_Y = -32768
 
-OUTLIER, UNDECIDED = 0, 5
-# The label of a row without y; where the library has no gaps such a row is in no store, and has none.
-GAP = 6 if GAPS else None
+OUTLIER, UNDECIDED, GAP = 0, 5, 6
 KINDS = {1: "solved", 2: "spent", 3: "full"}
 LOSSES = {"count": 0, "absolute": 1, "square": 2}
 # The p with a limit q on spoiled samples, which stands in the place of epsilon: the cost is the (q + 1)-th largest distance.
@@ -68,16 +56,6 @@ Model = namedtuple("Model", "n d scale p epsilon")
 Answer = namedtuple("Answer", "kind vector cost bound splits open peak")
 
 
-class Refused(BadInput):
-    """A call that the library refuses, by the number of the paper's table."""
-
-    def __init__(self, number, record=None):
-        place = "" if record is None else f", record {record}"
-        super().__init__(f"refused {number}, {MESSAGES.get(number, 'no number of the table')}{place}")
-        self.number = number
-        self.record = record
-
-
 _U8, _U32, _U64, _I64, _SIZE = ctypes.c_uint8, ctypes.c_uint32, ctypes.c_uint64, ctypes.c_int64, ctypes.c_size_t
 _BYTES = [ctypes.POINTER(ctypes.c_uint8), _SIZE]
 _NUMBERS = [ctypes.POINTER(ctypes.c_int16), _SIZE]
@@ -93,8 +71,9 @@ SIGNATURES = {
     "vengutari_split": [_U8, _U8, *_NUMBERS, *_NUMBERS],
     "vengutari_labels": [*_BYTES, *_MODEL, *_NUMBERS, *_BYTES, *_VALUE],
     "vengutari_search": [*_BYTES, *_MODEL, _U64, _U32, *_NUMBERS, *_NUMBERS, *_NUMBERS, *_WIDE, *_NUMBERS, *_WIDE, *_VALUE],
-    **({"vengutari_cost_by_beacon": [*_BYTES, *_MODEL, *_NUMBERS, *_WIDE, *_VALUE]} if BEACONS else {}),
+    "vengutari_cost_by_beacon": [*_BYTES, *_MODEL, *_NUMBERS, *_WIDE, *_VALUE],
     "vengutari_take_in": [*_BYTES, _SIZE, *_BYTES, *_VALUE],
+    "vengutari_merge": [*_BYTES, *_BYTES, *_BYTES, *_VALUE],
     "vengutari_read_job": [*_BYTES, *_WIDE, *_NUMBERS, *_NUMBERS],
     "vengutari_write_job": [*_MODEL, _U64, _U32, _U32, *_NUMBERS, *_NUMBERS, *_BYTES],
     "vengutari_read_answer": [*_BYTES, *_NUMBERS, *_WIDE],
@@ -146,10 +125,9 @@ class Library:
         if SIGNATURES[name][-1] is _VALUE[0]:
             flat.append(ctypes.byref(value))
         code = getattr(self._calls, name)(*flat)
-        if code % 256 == 7:
-            raise Refused(7, code // 256)
         if code != 0:
-            raise Refused(code)
+            words = MESSAGES.get(code % 256, "no number of the table")
+            raise Refused(code % 256, words, code // 256 if code % 256 == 7 else None)
         return value.value
 
     def loss(self, p, epsilon, e):
@@ -193,6 +171,12 @@ class Library:
         lent = _bytes(store)
         mark = self._call("vengutari_take_in", lent, mark, _bytes(beacon))
         return bytes(lent), mark
+
+    def merge(self, first, second):
+        """One store of two, by rising frame numbers."""
+        out = _bytes(bytes(len(first) + len(second)))
+        length = self._call("vengutari_merge", _bytes(first), _bytes(second), out)
+        return bytes(out)[:length]
 
     def read_job(self, data):
         """The eight numbers of a job record, its box and its start vector."""

@@ -4,10 +4,11 @@ import argparse
 import re
 from fractions import Fraction
 
-from . import __version__, fitting, jobs, run
+from . import __version__, jobs
+from .decimals import number
 from .library import LOSSES, MOST_RECORDS, MOST_SPLITS
-from .points import number
 from .problems import BadInput, BadUse
+from .settings import MARGIN, Limits, Settings, check_shape
 
 GUIDE = """From an operator's file to certified lines.
 
@@ -15,7 +16,10 @@ GUIDE = """From an operator's file to certified lines.
 
 finds two lines, each with an offset, and a certificate: how much less any other lines in the box that was searched could cost.
 Add --report pass.html, --labels labels.csv and --coefficients upload.txt for files. docs/USERS.md is the guide.
-The status is 0 solved, 3 spent or full (not solved, with a bound that holds), 1 refused, 2 bad use."""
+The status is 0 solved, 3 spent or full (not solved, with a bound that holds), 4 with warnings where --strict is given,
+1 refused or a file not written, 2 bad use."""
+
+MOST_TABLE = 2**26
 
 
 class Parser(argparse.ArgumentParser):
@@ -25,23 +29,62 @@ class Parser(argparse.ArgumentParser):
         raise BadUse(f"{message} (see {self.prog} --help)")
 
 
-def decimal(text, what, least=None, positive=False):
-    """A decimal number of the command line."""
-    try:
-        value = number(text, what)
-    except BadInput as problem:
-        raise BadUse(str(problem)) from None
-    if (positive and value <= 0) or (least is not None and value < least):
-        raise BadUse(f"{what}: {text} is not {'more than 0' if positive else f'at least {least}'}")
-    return value
+# Types of values
 
 
-def whole(text, what, least, most):
-    if not re.fullmatch(r"[+-]?[0-9]{1,20}", text):
-        raise BadUse(f"{what}: '{text[:40]}' is not a whole number")
-    if not least <= int(text) <= most:
-        raise BadUse(f"{what}: {text} is not from {least:,} to {most:,}")
-    return int(text)
+def decimal(least=None, positive=False, below=None):
+    """A decimal number of the command line, exactly."""
+
+    def read(text):
+        try:
+            value = number(text.rstrip("% ") if below else text, "value")
+        except BadInput as problem:
+            raise argparse.ArgumentTypeError(str(problem).partition(": ")[2]) from None
+        if (positive and value <= 0) or (least is not None and value < least):
+            raise argparse.ArgumentTypeError(f"{text} is not {'more than 0' if positive else f'at least {least}'}")
+        if below is not None and value >= below:
+            raise argparse.ArgumentTypeError(f"{text} percent would accept anything; give less than {below}")
+        return value
+
+    return read
+
+
+def whole(least, most):
+    def read(text):
+        if not re.fullmatch(r"[+-]?[0-9]{1,20}", text):
+            raise argparse.ArgumentTypeError(f"'{text[:40]}' is not a whole number")
+        if not least <= int(text) <= most:
+            raise argparse.ArgumentTypeError(f"{text} is not from {least:,} to {most:,}")
+        return int(text)
+
+    return read
+
+
+def several(kind):
+    """Values between commas."""
+    return lambda text: [kind(part) for part in text.split(",")]
+
+
+def names(text):
+    """Names of columns between commas."""
+    made = [name.strip() for name in text.split(",")]
+    if not all(made):
+        raise argparse.ArgumentTypeError(f"a column has no name in '{text[:40]}'")
+    return made
+
+
+def side(text):
+    """The two ends of a coefficient's range."""
+    ends = text.split(":")
+    if len(ends) != 2:
+        raise argparse.ArgumentTypeError(f"'{text[:40]}' is not LOW:HIGH")
+    low, high = map(decimal(), ends)
+    if low > high:
+        raise argparse.ArgumentTypeError(f"low {ends[0]} is over high {ends[1]}")
+    return low, high
+
+
+# The commands
 
 
 def add_fit(commands):
@@ -49,37 +92,51 @@ def add_fit(commands):
                               formatter_class=argparse.RawDescriptionHelpFormatter, allow_abbrev=False)
     fit.add_argument("data", metavar="DATA.csv", help="the points: comma, semicolon or tab between columns; - for standard input")
     points = fit.add_argument_group("points")
-    points.add_argument("--x", required=True, metavar="COLUMN[,..]", help="the columns that y depends on, by name or number from 1")
-    points.add_argument("--y", required=True, metavar="COLUMN", help="the column to be explained; rows where it is empty are left out")
-    points.add_argument("--frame", metavar="COLUMN", help="frame numbers, kept modulo 65,536 (default: rows counted from 0)")
-    points.add_argument("--x-step", metavar="STEP[,..]", help="what x is a multiple of, one for each column (default: found from the data)")
-    points.add_argument("--y-step", metavar="STEP", help="what y is a multiple of (default: found from the data)")
+    points.add_argument("--x", required=True, type=names, metavar="COLUMN[,..]", help="the columns that y depends on, by name or number from 1")
+    points.add_argument("--y", required=True, metavar="COLUMN",
+                        help="the column to be explained; a row where it or an x is empty is a gap: it costs nothing and is counted")
+    points.add_argument("--frame", metavar="COLUMN",
+                        help="frame numbers, kept modulo 65,536 (default: the column called frame, or rows counted from 0)")
+    points.add_argument("--x-step", type=several(decimal(positive=True)), metavar="STEP[,..]",
+                        help="what x is a multiple of, one for each column (default: found from the data)")
+    points.add_argument("--y-step", type=decimal(positive=True), metavar="STEP", help="what y is a multiple of (default: found from the data)")
     lines = fit.add_argument_group("lines")
-    lines.add_argument("--lines", default="1", metavar="N", help="how many lines, 1 to 4 (default 1)")
+    lines.add_argument("--lines", type=whole(1, 4), default=1, metavar="N", help="how many lines, 1 to 4 (default 1)")
     limit = lines.add_mutually_exclusive_group(required=True)
-    limit.add_argument("--epsilon", metavar="E", help="how far from its line a point may lie, in y's units; 3 to 4 times the noise")
-    limit.add_argument("--spoiled", metavar="Q",
+    limit.add_argument("--epsilon", type=decimal(least=0), metavar="E",
+                       help="how far from its line a point may lie, in y's units; 3 to 4 times the noise")
+    limit.add_argument("--spoiled", type=whole(0, MOST_RECORDS - 1), metavar="Q",
                        help="in place of a threshold: so many samples may be spoiled; the cost is the largest distance of the others")
     lines.add_argument("--loss", choices=list(LOSSES), default=None,
                        help="what a point adds to the cost: 1 if outside epsilon, or its distance or square, cut there (default square)")
     lines.add_argument("--offset", action=argparse.BooleanOptionalAction, default=None,
                        help="lines need not pass through 0 (default: on where --x names one column)")
+    add_search(fit)
+    add_outputs(fit)
+    fit.add_argument("--strict", action="store_true", help="status 4 where there is a warning")
+    fit.add_argument("--quiet", action="store_true", help="no progress on standard error, and no summary there")
+
+
+def add_search(fit):
     box = fit.add_argument_group("what is searched")
-    box.add_argument("--box", metavar="LOW:HIGH[,..]",
+    box.add_argument("--box", type=several(side), metavar="LOW:HIGH[,..]",
                      help="ranges of the coefficients in your units, the offset last: for each line the same, or line after line; "
                      "rounded outward (default: around a first guess)")
-    box.add_argument("--margin", default=None, metavar="M", help="the box reaches so many epsilon around the first guess (default 4)")
-    box.add_argument("--start", metavar="W[,..]", help="coefficients to start from, line after line (default: the first guess)")
-    box.add_argument("--scale", metavar="S", help="0 to 15: the grid has steps of 1 / 2^S (default: by epsilon and the box)")
+    box.add_argument("--origin", type=several(decimal()), metavar="X[,..]",
+                     help="the x at which the offsets of --box and --start are a line's y (default: 0)")
+    box.add_argument("--margin", type=decimal(positive=True), metavar="M",
+                     help="the box reaches so many epsilon around the first guess (default 4)")
+    box.add_argument("--start", type=several(decimal()), metavar="W[,..]",
+                     help="coefficients to start from, line after line (default: the first guess)")
+    box.add_argument("--scale", type=whole(0, 15), metavar="S", help="0 to 15: the grid has steps of 1 / 2^S (default: by epsilon and the box)")
     box.add_argument("--wide", action="store_true", help="also search a wide box and say whether other lines there fit more points")
     limits = fit.add_argument_group("limits")
-    limits.add_argument("--time-limit", default="60", metavar="SECONDS", help="for each search (default 60; 0 for none)")
-    limits.add_argument("--gap", default="0", metavar="PERCENT",
+    limits.add_argument("--time-limit", type=decimal(least=0), default="60", metavar="SECONDS", help="for each search (default 60; 0 for none)")
+    limits.add_argument("--gap", type=decimal(least=0, below=100), default="0", metavar="PERCENT",
                         help="solved when the bound is at most so much below the cost; 0 (default) asks for the first of the best lines")
-    limits.add_argument("--rows", metavar="R", help="open boxes kept at most (default: as many as needed, up to half of the free memory)")
-    limits.add_argument("--splits", metavar="B", help="splits at most (default: as many as needed)")
-    add_outputs(fit)
-    fit.add_argument("--quiet", action="store_true", help="no progress on standard error")
+    limits.add_argument("--table", type=whole(1, MOST_TABLE), metavar="R",
+                        help="open boxes kept at most (default: as many as needed, up to half of the free memory)")
+    limits.add_argument("--splits", type=whole(0, MOST_SPLITS), default=MOST_SPLITS, metavar="B", help="splits at most (default: as many as needed)")
 
 
 def add_outputs(fit):
@@ -97,7 +154,7 @@ def add_later(commands):
     label = commands.add_parser("label", help="label points by a fit from before", allow_abbrev=False)
     label.add_argument("data", metavar="DATA.csv", help="the points, any number of them; - for standard input")
     label.add_argument("--fit", required=True, metavar="FIT.json", help="what vengutari fit --json wrote")
-    label.add_argument("--x", metavar="COLUMN[,..]", help="the columns, where they have other names here")
+    label.add_argument("--x", type=names, metavar="COLUMN[,..]", help="the columns, where they have other names here")
     label.add_argument("--y", metavar="COLUMN")
     label.add_argument("--frame", metavar="COLUMN")
     label.add_argument("--labels", default="-", metavar="FILE", help="where they go (default: standard output)")
@@ -132,74 +189,37 @@ def joined(words):
     return made
 
 
-def values_each(text, settings, what):
+# Settings
+
+
+def values_each(values, settings, what):
     """One value for each coefficient of a line, the same for all lines, or one for each coefficient of each line."""
-    values = text.split(",")
     if len(values) == settings.d:
-        values *= settings.lines
+        values = values * settings.lines
     if len(values) != settings.d * settings.lines:
         each = f"{settings.d} coefficients a line" + (", the offset last" if settings.offset else "")
-        several = f" or {settings.d * settings.lines}" if settings.lines > 1 else ""
-        raise BadUse(f"{what}: {len(values)} values where there are {each}: give {settings.d}{several}")
+        more = f" or {settings.d * settings.lines}" if settings.lines > 1 else ""
+        raise BadUse(f"{what}: {len(values)} values where there are {each}: give {settings.d}{more}")
     return values
-
-
-def box_of(text, settings):
-    low, high = [], []
-    for side in values_each(text, settings, "--box"):
-        ends = side.split(":")
-        if len(ends) != 2:
-            raise BadUse(f"--box: '{side[:40]}' is not LOW:HIGH")
-        low.append(decimal(ends[0], "--box"))
-        high.append(decimal(ends[1], "--box"))
-        if low[-1] > high[-1]:
-            raise BadUse(f"--box: low {ends[0]} is over high {ends[1]}")
-    return low, high
-
-
-def limits_of(options):
-    seconds = decimal(options.time_limit, "--time-limit", least=0)
-    gap = decimal(options.gap.rstrip("% "), "--gap", least=0) / 100
-    if gap >= 1:
-        raise BadUse(f"--gap: {options.gap} percent would accept anything; give less than 100")
-    return run.Limits(
-        gap=gap, seconds=float(seconds) or None,
-        rows=None if options.rows is None else whole(options.rows, "--rows", 1, run.MOST_ROWS),
-        splits=MOST_SPLITS if options.splits is None else whole(options.splits, "--splits", 0, MOST_SPLITS),
-    )
-
-
-def names_of(text, what="--x"):
-    names = [name.strip() for name in text.split(",")]
-    if not all(names):
-        raise BadUse(f"{what}: a column has no name in '{text[:40]}'")
-    return names
 
 
 def settings_of(options):
     """The settings of a fit, in the user's units."""
-    x = names_of(options.x)
     if options.spoiled is not None and options.loss is not None:
         raise BadUse("--spoiled, --loss: a number of spoiled samples takes the place of threshold and loss; give one of the two")
     if options.margin is not None and options.box is not None:
         raise BadUse("--margin, --box: a margin is for a box that is found; give one of the two")
-    made = fitting.Settings(
-        x=x, y=options.y, frame=options.frame, lines=whole(options.lines, "--lines", 1, 4), offset=options.offset,
-        epsilon=None if options.epsilon is None else decimal(options.epsilon, "--epsilon", least=0),
-        spoiled=None if options.spoiled is None else whole(options.spoiled, "--spoiled", 0, MOST_RECORDS - 1),
-        loss=options.loss or "square", wide=options.wide, limits=limits_of(options),
-        y_step=None if options.y_step is None else decimal(options.y_step, "--y-step", positive=True),
-        scale=None if options.scale is None else whole(options.scale, "--scale", 0, 15),
-        margin=fitting.MARGIN if options.margin is None else decimal(options.margin, "--margin", positive=True),
+    limits = Limits(gap=Fraction(options.gap) / 100, seconds=float(options.time_limit) or None, rows=options.table, splits=options.splits)
+    made = Settings(
+        x=options.x, y=options.y, frame=options.frame, lines=options.lines, offset=options.offset, epsilon=options.epsilon,
+        spoiled=options.spoiled, loss=options.loss or "square", wide=options.wide, limits=limits, x_steps=options.x_step,
+        y_step=options.y_step, origin=options.origin, scale=options.scale, margin=MARGIN if options.margin is None else options.margin,
     )
-    if options.x_step is not None:
-        steps = options.x_step.split(",")
-        if len(steps) != len(x):
-            raise BadUse(f"--x-step: {len(steps)} steps where --x names {len(x)} columns")
-        made.x_steps = [decimal(step, "--x-step", positive=True) for step in steps]
-    fitting.check_shape(made)
+    check_shape(made)
     if options.box is not None:
-        made.box = box_of(options.box, made)
+        sides = values_each(options.box, made, "--box")
+        made.box = [low for low, _ in sides], [high for _, high in sides]
     if options.start is not None:
-        made.start = [Fraction(decimal(value, "--start")) for value in values_each(options.start, made, "--start")]
+        made.start = values_each(options.start, made, "--start")
+    made.check()
     return made

@@ -5,7 +5,7 @@ import stat
 import sys
 import tempfile
 
-from .problems import BadInput, BadUse
+from .problems import BadInput, BadUse, Error
 
 # For a terminal that has no such letters.
 PLAIN = str.maketrans({"·": "*", "−": "-", "²": "^2", "ε": "epsilon", "±": "+-", "≤": "<="})
@@ -27,13 +27,12 @@ def is_plain(path):
 
 
 class Outputs:
-    """The files of one command. They are checked before the work, staged beside their places, and put there together."""
+    """The files of one command. They are checked before the work, and each is then written beside its place and put there whole."""
 
     def __init__(self, inputs, force=False):
         self.inputs = [path for path in inputs if path != "-"]
         self.force = force
         self.paths = {}
-        self.staged = []
 
     def check(self, option, path):
         """A place that can be written, said before a long search and not after it."""
@@ -56,53 +55,49 @@ class Outputs:
         if is_plain(path) and not os.access(folder, os.W_OK):
             raise BadUse(f"{option}: {folder} cannot be written")
 
-    def stage(self, option, data):
-        """Writes a file beside its place; what is no plain file, such as a device, is written at the end."""
-        path = self.paths.get(option)
-        if path is None:
-            return
+    def write_all(self, makers, complain):
+        """Makes and writes each file by itself. One that cannot be made or written costs its own line; says whether all were written."""
+        whole = True
+        for option in self.paths:
+            try:
+                self.write(option, makers[option]())
+            except Error as problem:
+                complain(f"{option}: {problem}")
+                whole = False
+        return whole
+
+    def write(self, option, data):
+        """One file, whole or not at all; what is no plain file, such as a device, is written through."""
+        path = self.paths[option]
         data = data.encode("utf-8") if isinstance(data, str) else data
-        if path == "-" or not is_plain(path):
-            self.staged.append((option, path, None, data))
-            return
         try:
-            handle, beside = tempfile.mkstemp(prefix=".vengutari-", dir=os.path.dirname(os.path.abspath(path)))
-            self.staged.append((option, path, beside, None))
+            if path == "-":
+                say(data)
+            elif not is_plain(path):
+                with open(path, "wb") as file:
+                    file.write(data)
+            else:
+                self.write_whole(path, data)
+        except FileExistsError:
+            raise BadUse(f"{path} is there already; --force writes over it") from None
+        except OSError as error:
+            raise BadInput(f"{path}: {error.strerror}") from None
+
+    def write_whole(self, path, data):
+        """A file beside its place, which is then given its name."""
+        mask = os.umask(0)
+        os.umask(mask)
+        handle, beside = tempfile.mkstemp(prefix=".vengutari-", dir=os.path.dirname(os.path.abspath(path)))
+        try:
             with os.fdopen(handle, "wb") as file:
                 file.write(data)
                 file.flush()
                 os.fsync(file.fileno())
-        except OSError as error:
-            self.drop()
-            raise BadInput(f"{path}: {error.strerror}") from None
-
-    def place(self):
-        """Puts all staged files in their places, after what can still fail: devices and standard output."""
-        mask = os.umask(0)
-        os.umask(mask)
-        where = ""
-        try:
-            for _, where, beside, data in self.staged:
-                if beside is None:
-                    write_through(where, data)
-            for _, where, beside, _ in self.staged:
-                if beside is None:
-                    continue
-                os.chmod(beside, 0o666 & ~mask)
-                put(beside, where, self.force)
-        except FileExistsError:
-            raise BadUse(f"{where} is there already; --force writes over it") from None
-        except OSError as error:
-            raise BadInput(f"{where}: {error.strerror}") from None
+            os.chmod(beside, 0o666 & ~mask)
+            put(beside, path, self.force)
         finally:
-            self.drop()
-
-    def drop(self):
-        """Takes away what was staged and not placed."""
-        for _, _, beside, _ in self.staged:
-            if beside is not None and os.path.exists(beside):
+            if os.path.exists(beside):
                 os.unlink(beside)
-        self.staged = []
 
 
 def put(beside, path, force):
@@ -118,14 +113,6 @@ def put(beside, path, force):
             if os.path.lexists(path):
                 raise FileExistsError from None
     os.replace(beside, path)
-
-
-def write_through(path, data):
-    if path == "-":
-        say(data)
-        return
-    with open(path, "wb") as file:
-        file.write(data)
 
 
 def say(data):
@@ -144,6 +131,21 @@ def say(data):
     except (OSError, ValueError) as error:
         silence()
         raise BadInput(f"standard output: {getattr(error, 'strerror', None) or error}") from None
+
+
+def tell(text):
+    """Text on standard error, as far as that takes it."""
+    try:
+        if sys.stderr is not None:
+            encoding = sys.stderr.encoding or "ascii"
+            try:
+                text.encode(encoding)
+            except UnicodeEncodeError:
+                text = text.translate(PLAIN).encode(encoding, "replace").decode(encoding)
+            sys.stderr.write(text)
+            sys.stderr.flush()
+    except (OSError, ValueError):
+        pass
 
 
 def silence():

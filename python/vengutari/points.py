@@ -8,15 +8,13 @@ import csv
 import io
 import re
 import sys
-from dataclasses import dataclass
-from fractions import Fraction
+from dataclasses import dataclass, field
 
+from .decimals import NO_SAMPLE, NUMBER, Decimals, decimal, decimals_of, dotted, shortened
 from .problems import BadInput, BadUse
 
 MOST_BYTES = 64 * 2**20
-MOST_CHARACTERS = 40
-NUMBER = re.compile(r"[+-]?([0-9]+([.][0-9]*)?|[.][0-9]+)([eE][+-]?[0-9]{1,2})?")
-NO_SAMPLE = ("", "nan", "na", "n/a", "null", "none", "-")
+FRAME = "frame"
 
 
 @dataclass
@@ -44,22 +42,29 @@ class Table:
 
 @dataclass
 class Points:
-    """The columns in use as exact numbers, one entry for each row of the table; a y that is None is a gap.
+    """The columns in use as exact numbers, one entry for each row; a row whose y is None is a gap, one without an x too.
 
-    frame has what the records hold, 16 bits; counted has the frame numbers as they are in the file.
+    counted has the frame numbers as they are in the file, places the line of each row there, and without_x how many rows lack an x.
     """
 
     x: list
-    y: list
+    y: Decimals
     counted: list
-    notes: list
+    notes: list = field(default_factory=list)
+    places: list = None
+    without_x: int = 0
 
     @property
     def frame(self):
+        """What the records hold of the frame numbers, 16 bits."""
         return [number % 65536 for number in self.counted]
 
+    @property
+    def gaps(self):
+        return self.y.values.count(None)
+
     def __len__(self):
-        return len(self.y)
+        return len(self.y.values)
 
 
 def read_bytes(path):
@@ -72,11 +77,10 @@ def read_bytes(path):
         raise BadUse(f"{path}: {getattr(error, 'strerror', None) or error}") from None
 
 
-def read_text(path):
-    """The file's text: UTF-8, or Latin-1 where it is not."""
-    data = read_bytes(path)
+def text_of(data, name):
+    """Text out of bytes: UTF-8, or Latin-1 where it is not, or UTF-16 by its mark."""
     if len(data) > MOST_BYTES:
-        raise BadInput(f"{path}: over {MOST_BYTES // 2**20} MB, which is no file of points")
+        raise BadInput(f"{name}: over {MOST_BYTES // 2**20} MB, which is no file of points")
     for encoding in ("utf-16", "utf-8-sig", "latin-1"):
         if encoding == "utf-16" and data[:2] not in (b"\xff\xfe", b"\xfe\xff"):
             continue
@@ -87,11 +91,16 @@ def read_text(path):
         if any(ord(c) < 32 and c not in "\t\r\n\f" for c in text[:4096]) or "\0" in text:
             break
         return text
-    raise BadInput(f"{path}: not a text file")
+    raise BadInput(f"{name}: not a text file")
+
+
+def read_text(path):
+    return text_of(read_bytes(path), path)
 
 
 def is_comment(line):
-    return not line.strip() or line.lstrip()[0] in "#%"
+    stripped = line.lstrip()
+    return not stripped or stripped[0] in "#%"
 
 
 def delimiter_of(line):
@@ -99,11 +108,13 @@ def delimiter_of(line):
 
 
 def read_table(path):
-    name = "standard input" if path == "-" else path
-    kept = [(k, line) for k, line in enumerate(re.split("\r\n|\n|\r", read_text(path)), 1) if not is_comment(line)]
-    if not kept:
-        raise BadInput(f"{name}: no rows")
-    told = re.fullmatch("sep=(.)", kept[0][1].strip())
+    return table_of(read_text(path), "standard input" if path == "-" else path)
+
+
+def table_of(text, name):
+    """The rows of a file's text."""
+    kept = [(k, line) for k, line in enumerate(re.split("\r\n|\n|\r", text), 1) if not is_comment(line)]
+    told = re.fullmatch("sep=(.)", kept[0][1].strip()) if kept else None
     kept = kept[1:] if told else kept
     if not kept:
         raise BadInput(f"{name}: no rows")
@@ -111,7 +122,7 @@ def read_table(path):
     rows, places = [], []
     for place, line in kept:
         try:
-            row = next(csv.reader([line], delimiter=delimiter, strict=True, skipinitialspace=True))
+            row = next(csv.reader((line,), delimiter=delimiter, strict=True, skipinitialspace=True))
         except csv.Error as error:
             raise BadInput(f"{name}, line {place}: not a row of fields: {error}") from None
         rows.append([field.strip() for field in row])
@@ -122,23 +133,6 @@ def read_table(path):
     if not table.rows:
         raise BadInput(f"{name}: a header and no rows")
     return table
-
-
-def dotted(text, decimal_comma):
-    """A decimal comma as a point."""
-    return text.replace(",", ".") if decimal_comma and text.count(",") == 1 and "." not in text else text
-
-
-def shortened(text):
-    return repr(text) if len(text) <= MOST_CHARACTERS else f"{text[:12]!r}.. of {len(text):,} characters"
-
-
-def number(text, what, decimal_comma=False):
-    """A decimal number, exactly."""
-    plain = dotted(text.strip(), decimal_comma)
-    if len(plain) > MOST_CHARACTERS or not NUMBER.fullmatch(plain):
-        raise BadInput(f"{what}: {shortened(text)} is not a number")
-    return Fraction(plain)
 
 
 def column(table, wanted):
@@ -162,6 +156,16 @@ def name_of(table, wanted):
     return table.names[k] if table.names.count(table.names[k]) == 1 else str(k + 1)
 
 
+def found_frame(table, used):
+    """The column of frame numbers where none is named: one called frame, unless it is in use or has other things than whole numbers."""
+    names = [name.lower() for name in table.names]
+    if names.count(FRAME) != 1 or names.index(FRAME) in [column(table, name) for name in used]:
+        return None
+    k = names.index(FRAME)
+    whole = all(k < len(row) and re.fullmatch(r"\+?[0-9]{1,18}", row[k]) for row in table.rows)
+    return table.names[k] if whole else None
+
+
 def field_of(table, k, row, place):
     """A field of a row, which may have lost empty fields at its end but has none too many."""
     if len(row) > len(table.names) and any(row[len(table.names) :]):
@@ -169,6 +173,42 @@ def field_of(table, k, row, place):
     if k >= len(row):
         raise BadInput(f"{table.name}, line {place}: {len(row)} fields, so no {table.names[k]}")
     return row[k]
+
+
+def texts_of(table, k):
+    """The fields of a column; one that a short row has lost is empty."""
+    width = len(table.names)
+    for row, place in zip(table.rows, table.places):
+        if len(row) > width:
+            field_of(table, k, row, place)
+    return [row[k] if k < len(row) else "" for row in table.rows]
+
+
+def column_of(table, k):
+    """The numbers of a column; None where there is no sample."""
+    made, comma = [], table.decimal_comma
+    for text, place in zip(texts_of(table, k), table.places):
+        if text.lower() in NO_SAMPLE:
+            made.append(None)
+        else:
+            made.append(decimal(text, f"{table.name}, line {place}, {table.names[k]}", comma))
+    if all(value is None for value in made):
+        raise BadInput(f"{table.name}: {table.names[k]} is empty in every row")
+    return decimals_of(made)
+
+
+def check_marks(table, places):
+    """One decimal mark in all columns in use: with two, 1.000 may be a thousand in one of them."""
+    first = {}
+    if not table.decimal_comma:
+        return
+    for k in places:
+        for text, place in zip(texts_of(table, k), table.places):
+            for mark in ",.":
+                if mark in text and mark not in first:
+                    first[mark] = f"'{text[:40]}' in line {place}, {table.names[k]}"
+    if len(first) == 2:
+        raise BadInput(f"{table.name}: a decimal comma and a decimal point in one file: {first[',']}; {first['.']}; write all numbers alike")
 
 
 def frames_of(table, wanted, notes):
@@ -179,8 +219,8 @@ def frames_of(table, wanted, notes):
     frames = []
     for row, place in zip(table.rows, table.places):
         text = dotted(field_of(table, k, row, place), table.decimal_comma)
-        value = Fraction(text) if NUMBER.fullmatch(text) and len(text) <= MOST_CHARACTERS else None
-        if value is None or value.denominator != 1:
+        value = decimal(text, wanted) if NUMBER.fullmatch(text) and len(text) <= 20 else None
+        if value is None or value != int(value):
             raise BadInput(f"{table.name}, line {place}, {table.names[k]}: a frame is a whole number, not {shortened(row[k])}; "
                            "without --frame the rows are counted")
         frames.append(int(value))
@@ -190,23 +230,28 @@ def frames_of(table, wanted, notes):
 
 
 def read_points(table, x_names, y_name, frame_name=None):
-    """The points of a table. A row whose y is empty or no number such as nan is a gap."""
-    notes = []
-    x_places = [column(table, name) for name in x_names]
-    y_place = column(table, y_name)
-    used = [*x_places, y_place]
-    if len(set(used)) < len(used):
+    """The points of a table. A row whose y or x is empty or no number such as nan is a gap."""
+    places = [column(table, name) for name in [*x_names, y_name]]
+    if len(set(places)) < len(places):
         raise BadInput(f"{table.name}: a column is used twice: {', '.join([*x_names, y_name])}")
-    x, y = [], []
-    for row, place in zip(table.rows, table.places):
-        what = f"{table.name}, line {place}"
-        x.append([number(field_of(table, k, row, place), f"{what}, {table.names[k]}", table.decimal_comma) for k in x_places])
-        text = row[y_place] if y_place < len(row) else ""
-        gap = text.lower() in NO_SAMPLE
-        y.append(None if gap else number(text, f"{what}, {table.names[y_place]}", table.decimal_comma))
-    if all(value is None for value in y):
-        raise BadInput(f"{table.name}: {table.names[y_place]} is empty in every row")
-    return Points(x, y, frames_of(table, frame_name, notes), notes)
+    check_marks(table, places)
+    columns = [column_of(table, k) for k in places]
+    notes = []
+    frames = frames_of(table, frame_name, notes)
+    return points_of(columns[:-1], columns[-1], frames, notes, table.places, x_names)
+
+
+def points_of(x, y, frames, notes, places, x_names):
+    """Points of columns of exact numbers: a row without an x is left out as a gap is."""
+    lacking = {name: values.values.count(None) for name, values in zip(x_names, x)}
+    without = [any(value is None for value in row) for row in zip(*(values.values for values in x))]
+    y = Decimals([None if lacks else value for lacks, value in zip(without, y.values)], y.digits)
+    if y.values.count(None) == len(y.values):
+        raise BadInput("no row has both x and y")
+    for name, count in lacking.items():
+        if count:
+            notes.append(f"{count} row{'s have' if count > 1 else ' has'} no {name}: left out, as gaps are")
+    return Points(x, y, frames, notes, places, sum(without))
 
 
 def with_columns(table, names, columns):

@@ -1,17 +1,18 @@
 """A first guess at the lines, from which a box and a start vector are made. Nothing here is certified, and nothing needs to be.
 
 Lines are found one after another, each the best of many that pass through a few points drawn at random (the sampling of source
-documents 001 and 003). Then each point goes to its nearest line within epsilon and each line becomes the least squares line of its
-points, until nothing changes: the alternation of source document 000, formulas (41) and (42), for several lines at once.
-Everything is in whole numbers of the records, before the scale. The library says what a guess costs.
+documents 001 and 003). Then each point goes to its line within epsilon and each line becomes the least squares line of its points, until
+nothing changes: the alternation of source document 000, formulas (41) and (42), for several lines at once. Everything is in whole
+numbers of the records, before the scale. The library says what a guess costs, and which line a point belongs to.
 """
 
 import itertools
 import math
+import operator
 import random
 
 from . import scaling
-from .library import LARGEST_EPSILON, SPOILED, Model
+from .library import LARGEST_EPSILON, OUTLIER, SPOILED, Model
 from .problems import BadInput
 
 SEED = 1
@@ -19,12 +20,13 @@ STARTS = 6
 DRAWS = {1: 40, 2: 120, 3: 250, 4: 500}
 # So many points at most are drawn from and costed while sampling.
 SAMPLE = 400
+# So many points at most are guessed from, before all are looked at.
+FEWER = 1000
 TURNS = 40
 # Without a threshold, guesses are made by several, each so many times smaller than the one before.
 THRESHOLDS = 8
 SMALLER = 3
-# So many points at most are guessed from by each of them.
-FEWER = 1000
+NONE_FOUND = "no lines to begin with were found in these points: give --box and --start"
 
 
 def solve(matrix, right):
@@ -44,146 +46,174 @@ def solve(matrix, right):
     return [rows[k][size] / rows[k][k] for k in range(size)]
 
 
-def least_squares(points):
-    """The line with the least squares over some points."""
-    d = len(points[0][0])
-    matrix = [[sum(x[a] * x[b] for x, _ in points) for b in range(d)] for a in range(d)]
-    return solve(matrix, [sum(x[a] * y for x, y in points) for a in range(d)])
+class Cloud:
+    """Samples in whole numbers, their store, and the products that sums of squares are made of."""
 
+    def __init__(self, whole):
+        self.whole = whole
+        self.d = len(whole.x)
+        self.store, _ = scaling.store_of(whole)
+        self._products = None
 
-def distance(line, point):
-    return abs(point[1] - sum(c * v for c, v in zip(line, point[0])))
+    def __len__(self):
+        return len(self.whole)
+
+    def products(self):
+        """x_a x_b by a and b, and x_a y by a, point by point."""
+        if self._products is None:
+            x, y = self.whole.x, self.whole.y
+            squares = {(a, b): list(map(operator.mul, x[a], x[b])) for a in range(self.d) for b in range(a + 1)}
+            self._products = squares, [list(map(operator.mul, values, y)) for values in x]
+        return self._products
+
+    def least_squares(self, chosen):
+        """The line with the least squares over the points whose entry is 1."""
+        squares, rights = self.products()
+        sums = {pair: sum(itertools.compress(values, chosen)) for pair, values in squares.items()}
+        matrix = [[sums[max(a, b), min(a, b)] for b in range(self.d)] for a in range(self.d)]
+        return solve(matrix, [sum(itertools.compress(values, chosen)) for values in rights])
+
+    def part(self, count, numbers):
+        """So many of the points at most, drawn at random."""
+        if len(self) <= count:
+            return self
+        drawn = set(numbers.sample(range(len(self)), count))
+        return Cloud(self.whole.chosen([k in drawn for k in range(len(self))]))
+
+    def line_through(self, rows):
+        """The line through as many points as it has coefficients."""
+        return solve([[values[k] for values in self.whole.x] for k in rows], [self.whole.y[k] for k in rows])
 
 
 class Search:
     """Guesses over one set of points."""
 
-    def __init__(self, library, points, n, epsilon):
+    def __init__(self, library, n, epsilon):
         self.library = library
-        self.points = points
         self.n = n
-        self.d = len(points[0][0])
         self.epsilon = max(epsilon, 1e-6)
         self.random = random.Random(SEED)
 
-    def cost(self, store, lines):
-        """What lines cost by cut squares, in whole units of y, or None where no scale holds them."""
-        sizes = [abs(c) for line in lines for c in line]
-        scale = scaling.widest_scale(sizes, self.epsilon)
+    def scaled(self, lines, p):
+        """The model and the vector of some lines, or None where no scale holds them."""
+        scale = scaling.widest_scale([abs(c) for line in lines for c in line], self.epsilon)
         if scale < 0:
             return None
         epsilon = min(LARGEST_EPSILON, max(1, round(self.epsilon * 2**scale)))
-        vector = [round(c * 2**scale) for line in lines for c in line]
-        return self.library.cost(store, Model(len(lines), self.d, scale, 2, epsilon), vector) / 4**scale
+        return Model(len(lines), len(lines[0]), scale, p, epsilon), [round(c * 2**scale) for line in lines for c in line]
 
-    def drawn_line(self, points):
+    def cost(self, cloud, lines):
+        """What lines cost by cut squares, in whole units of y, or None where no scale holds them."""
+        scaled = self.scaled(lines, 2)
+        return None if scaled is None else self.library.cost(cloud.store, *scaled) / 4 ** scaled[0].scale
+
+    def drawn_line(self, cloud):
         """The best of many lines through a few of these points."""
-        sample = points if len(points) <= SAMPLE else self.random.sample(points, SAMPLE)
-        store, _ = scaling.store_of(sample, [0] * len(sample))
-        best = None
-        for _ in range(DRAWS[self.d]):
-            few = self.random.sample(sample, self.d)
-            line = solve([x for x, _ in few], [y for _, y in few])
-            cost = None if line is None else self.cost(store, [line])
+        sample, best = cloud.part(SAMPLE, self.random), None
+        for _ in range(DRAWS[cloud.d]):
+            line = sample.line_through(self.random.sample(range(len(sample)), cloud.d))
+            cost = None if line is None else self.cost(sample, [line])
             if cost is not None and (best is None or cost < best[0]):
                 best = (cost, line)
         return None if best is None else best[1]
 
-    def one_after_another(self):
+    def labels(self, cloud, lines):
+        """The line of each point, or None where no scale holds the lines."""
+        scaled = self.scaled(lines, 0)
+        return None if scaled is None else self.library.labels(cloud.store, *scaled)
+
+    def one_after_another(self, cloud):
         """A line for each mode, each from the points that those before it leave."""
-        lines, left = [], self.points
+        lines, left = [], cloud
         for _ in range(self.n):
-            if len(left) < 2 * self.d:
-                left = self.points
-            line = self.drawn_line(left) if len(left) >= self.d else None
+            if len(left) < 2 * cloud.d:
+                left = cloud
+            line = self.drawn_line(left) if len(left) >= cloud.d else None
             if line is None:
                 return None
-            line = self.alternated([line], left)[0]
-            lines.append(line)
-            left = [point for point in left if distance(line, point) > self.epsilon]
+            lines += self.alternated([line], left)
+            labels = self.labels(left, lines[-1:])
+            left = left if labels is None else Cloud(left.whole.chosen([label == OUTLIER for label in labels]))
         return lines
 
-    def alternated(self, lines, points):
-        """Points to their nearest lines, lines to the least squares of their points, until nothing changes."""
-        groups = None
+    def alternated(self, lines, cloud):
+        """Points to their lines, lines to the least squares of their points, until nothing changes."""
+        before = None
         for _ in range(TURNS):
-            before, groups = groups, [[] for _ in lines]
-            for k, point in enumerate(points):
-                e, j = min((distance(line, point), j) for j, line in enumerate(lines))
-                if e <= self.epsilon:
-                    groups[j].append(k)
-            if groups == before:
+            labels = self.labels(cloud, lines)
+            if labels is None or labels == before:
                 break
-            fitted = [least_squares([points[k] for k in group]) if len(group) >= self.d else None for group in groups]
-            lines = [line if new is None else new for line, new in zip(lines, fitted)]
+            before, fitted = labels, []
+            for j, line in enumerate(lines, 1):
+                chosen = labels.translate(bytes(k == j for k in range(256)))
+                new = cloud.least_squares(chosen) if labels.count(j) >= cloud.d else None
+                fitted.append(line if new is None else new)
+            lines = fitted
         return lines
 
-    def best(self):
+    def best(self, cloud):
         """The cheapest guess of several starts."""
-        store, _ = scaling.store_of(self.points, [0] * len(self.points))
-        best = None
-        for _ in range(STARTS if len(self.points) <= 1000 else STARTS // 2):
-            lines = self.one_after_another()
-            lines = lines and self.alternated(lines, self.points)
-            cost = lines and self.cost(store, lines)
+        fewer, best = cloud.part(FEWER, self.random), None
+        for _ in range(STARTS):
+            lines = self.one_after_another(fewer)
+            lines = lines and self.alternated(lines, fewer)
+            cost = lines and self.cost(fewer, lines)
             if cost is not None and (best is None or cost < best[0]):
                 best = (cost, lines)
         if best is None:
-            raise BadInput("no lines to begin with were found in these points: give --box and --start")
-        return best[1]
+            raise BadInput(NONE_FOUND)
+        return best[1] if fewer is cloud else self.alternated(best[1], cloud)
 
 
-def propose(library, points, n, epsilon):
+def propose(library, cloud, n, epsilon):
     """Lines that fit the points well, by their first coefficients: the steepest first."""
-    if len(points) < len(points[0][0]):
-        raise BadInput(f"{len(points)} points are too few for lines of {len(points[0][0])} coefficients: give --box")
-    lines = Search(library, points, n, epsilon).best()
-    return sorted(lines, key=lambda line: -line[0])
+    if len(cloud) < cloud.d:
+        raise BadInput(f"{len(cloud)} sample{'s are' if len(cloud) > 1 else ' is'} too few for lines of {cloud.d} coefficients: give --box")
+    return sorted(Search(library, n, epsilon).best(cloud), key=lambda line: -line[0])
 
 
-def spoiled_cost(library, points, lines, spoiled):
+def spoiled_cost(library, cloud, lines, spoiled):
     """The largest distance of a point to its nearest line but for so many, in whole units of y, or None where no scale holds the lines."""
     scale = scaling.widest_scale([abs(c) for line in lines for c in line], 0)
     if scale < 0:
         return None
-    store, _ = scaling.store_of(points, [0] * len(points))
     vector = [round(c * 2**scale) for line in lines for c in line]
-    return library.cost(store, Model(len(lines), len(lines[0]), scale, SPOILED, spoiled), vector) / 2**scale
+    return library.cost(cloud.store, Model(len(lines), len(lines[0]), scale, SPOILED, spoiled), vector) / 2**scale
 
 
-def propose_spoiled(library, points, n, spoiled):
+def propose_spoiled(library, cloud, n, spoiled):
     """Lines that all points but so many lie near, and how near: the best guess by several thresholds, and then by its own distance."""
-    fewer = points if len(points) <= FEWER else random.Random(SEED).sample(points, FEWER)
-    y = [value for _, value in points]
-    threshold, best = float(max(1, max(y) - min(y))), None
+    fewer = cloud.part(FEWER, random.Random(SEED))
+    threshold, best = float(max(1, max(cloud.whole.y) - min(cloud.whole.y))), None
     for _ in range(THRESHOLDS):
         threshold /= SMALLER
         lines = propose(library, fewer, n, threshold)
-        cost = spoiled_cost(library, points, lines, spoiled)
+        cost = spoiled_cost(library, cloud, lines, spoiled)
         if cost is not None and (best is None or cost < best[1]):
             best = (lines, cost)
         if threshold < 1 or (best is not None and threshold < best[1] / SMALLER):
             break
     if best is None:
-        raise BadInput("no lines to begin with were found in these points: give --box and --start")
-    lines = propose(library, points, n, best[1])
-    cost = spoiled_cost(library, points, lines, spoiled)
+        raise BadInput(NONE_FOUND)
+    lines = propose(library, cloud, n, best[1])
+    cost = spoiled_cost(library, cloud, lines, spoiled)
     return (lines, cost) if cost is not None and cost < best[1] else best
 
 
-def margins(points, scaling_, epsilon, margin):
+# The box and the start
+
+
+def margins(samples, offset, epsilon, margin):
     """How far each coefficient may go: no line nearer than margin times epsilon to the guess over the points lies outside."""
-    reach = margin * max(epsilon, 1)
-    sides = []
-    columns = list(zip(*(x for x, _ in points)))
-    if not scaling_.offset:
-        share = 1 if len(columns) == 1 else 2
-        return [share * reach / max(map(abs, values)) for values in columns]
+    reach, sides = margin * max(epsilon, 1), []
+    if not offset:
+        share = 1 if len(samples.x) == 1 else 2
+        return [share * reach / max(map(abs, values)) for values in samples.x]
     around = reach
-    for values in columns[:-1]:
+    for values in samples.x[:-1]:
         sides.append(2 * reach / (max(values) - min(values)))
         around += sides[-1] * abs(max(values) + min(values)) / 2
-    return [*sides, around / columns[-1][0]]
+    return [*sides, around / samples.x[-1][0]]
 
 
 def box_around(lines, sides):

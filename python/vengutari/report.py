@@ -5,11 +5,11 @@ import os
 from fractions import Fraction
 
 from . import __version__
+from .decimals import shown
 from .library import BEACON_RECORDS, GAP, OUTLIER, UNDECIDED
 from .picture import Picture, reach
-from .result import LABELS, advice, box_text, certificate, cost_text, equation, gap_text, grid_text, headline, line_value, loss_text
-from .result import root_mean_square, rows_of, rows_text, settled, spoiled_text, wide_sentence
-from .scaling import digits_of, on_step, shown
+from .result import LABELS, advice, box_text, certificate, cost_text, equation, gap_text, grid_text, headline, loss_text
+from .result import residuals_of, rms_text, rows_text, settled, spoiled_text, wide_sentence
 
 # Colours that people with any colour sight tell apart, and a shape for each, for prints without colour.
 MARKS = {1: ("#0072b2", "circle"), 2: ("#d55e00", "square"), 3: ("#009e73", "triangle"), 4: ("#cc79a7", "diamond")}
@@ -22,7 +22,7 @@ STYLE = """
 body { font: 16px/1.5 system-ui, sans-serif; color: #222; background: #fff; max-width: 60rem; margin: 2rem auto; padding: 0 1rem; }
 h1 { font-size: 1.5rem; margin-bottom: 0; } h2 { font-size: 1.15rem; margin: 2rem 0 .5rem; }
 .verdict { border-left: .4rem solid; padding: .6rem 1rem; margin: 1rem 0; background: #f6f8fa; }
-.solved { border-color: #1a7f37; } .open { border-color: #bf8700; }
+.solved { border-color: #1a7f37; } .open { border-color: #bf8700; } .warning { color: #9a3412; font-weight: 600; }
 table { border-collapse: collapse; width: 100%; }
 th, td { text-align: left; padding: .3rem .6rem; border-bottom: 1px solid #ddd; vertical-align: top; }
 td.number, th.number { text-align: right; font-variant-numeric: tabular-nums; } .quiet { color: #666; font-size: .9rem; }
@@ -45,8 +45,7 @@ class Report:
     def __init__(self, fit):
         self.fit = fit
         self.n = fit.model.n
-        self.lines = [fit.line(j) for j in range(self.n)]
-        self.rows = rows_of(self.lines, fit.points, fit.labels)
+        self.rows = fit.rows
         self.labels = [label for label in (*range(1, self.n + 1), *LABELS) if label in fit.labels]
         self.epsilon = float(fit.reach)
         self.near = "epsilon" if fit.settings.spoiled is None else "the cost"
@@ -58,10 +57,10 @@ class Report:
     def tip(self, k):
         """What a point says when it is pointed at."""
         fit, row = self.fit, self.rows[k]
-        x = ", ".join(f"{name} {shown(value)}" for name, value in zip(fit.settings.x, fit.points.x[k]))
+        x = ", ".join(f"{name} {values.text(k)}" for name, values in zip(fit.settings.x, fit.points.x))
         if row.residual is None:
             return f"row {k + 1}, frame {fit.points.counted[k]}: {x}, {name_of(row.label)}"
-        y = f"{fit.settings.y} {shown(fit.points.y[k])}"
+        y = f"{fit.settings.y} {fit.points.y.text(k)}"
         return f"row {k + 1}, frame {fit.points.counted[k]}: {x}, {y}, {name_of(row.label)}, residual {row.residual:+.4g}"
 
     def put_points(self, picture, places):
@@ -74,16 +73,17 @@ class Report:
         """The points over the lines and their bands, or, for several columns, against the fitted values."""
         fit = self.fit
         samples = [k for k, row in enumerate(self.rows) if row.residual is not None]
-        y = {k: float(fit.points.y[k]) for k in samples}
+        y = dict(enumerate(fit.points.y.floats()))
         if len(fit.settings.x) == 1:
-            x = {k: float(fit.points.x[k][0]) for k in samples}
-            picture = Picture(reach(x.values()), reach(y.values()), fit.settings.x[0], fit.settings.y, "points and lines")
-            for j, line in enumerate(self.lines):
-                ends = [(v, line_value(line, [v])) for v in picture.x]
-                picture.band(ends, self.epsilon, MARKS[j + 1][0], f"line {j + 1}: {equation(fit.scaling, line)}")
+            x = dict(enumerate(fit.points.x[0].floats()))
+            picture = Picture(reach(x[k] for k in samples), reach(y[k] for k in samples), fit.settings.x[0], fit.settings.y, "points and lines")
+            for j in range(self.n):
+                line = fit.line(j)
+                ends = [(v, float(line[0] * Fraction(v) + (line[1] if len(line) > 1 else 0))) for v in picture.x]
+                picture.band(ends, self.epsilon, MARKS[j + 1][0], f"line {j + 1}: {equation(fit.scaling, fit.vector, j)}")
         else:
             x = {k: self.rows[k].fitted for k in samples}
-            both = reach([*x.values(), *y.values()])
+            both = reach([value for k in samples for value in (x[k], y[k])])
             picture = Picture(both, both, f"{fit.settings.y} by the lines", fit.settings.y, "points against the lines")
             picture.band([(v, v) for v in picture.x], self.epsilon, "#777777", f"equal, within {self.near}")
         self.put_points(picture, [(k, x[k], y[k]) for k in samples])
@@ -115,10 +115,10 @@ class Report:
     def lines_table(self):
         fit, boxes = self.fit, box_text(self.fit.scaling, self.fit.low, self.fit.high)
         rows = ["<tr><th>line</th><th>formula</th><th class=number>points</th><th class=number>RMS</th><th>searched</th></tr>"]
-        for j, line in enumerate(self.lines):
-            residuals = [row.residual for row in self.rows if row.label == j + 1]
-            rms = digits_of(Fraction(root_mean_square(residuals)), 3) if residuals else "–"
-            cells = f"<td>{j + 1}</td><td>{escaped(equation(fit.scaling, line))}</td><td class=number>{len(residuals)}</td>"
+        for j in range(self.n):
+            residuals = residuals_of(fit, j)
+            rms = rms_text(residuals, "–")
+            cells = f"<td>{j + 1}</td><td>{escaped(equation(fit.scaling, fit.vector, j))}</td><td class=number>{len(residuals)}</td>"
             rows.append(f"<tr>{cells}<td class=number>{rms}</td><td>{escaped(boxes[j])}</td></tr>")
         return f'<table id="lines">{"".join(rows)}</table>'
 
@@ -164,6 +164,7 @@ class Report:
             wide = box_text(fit.wide.scaling, fit.wide.low, fit.wide.high)[0]
             parts.append(f'<span id="wide">Wide search: {escaped(wide_sentence(fit.wide))}. Its box for each line: {escaped(wide)}; '
                          f"its grid: {escaped(grid_text(fit.wide.scaling))}.</span>")
+        parts += [f'<span class="warning">Warning: {escaped(warning)}.</span>' for warning in fit.warnings]
         if advice(fit):
             parts.append(f"Next: {escaped(advice(fit))}.")
         return f'<div class="verdict {"solved" if settled(fit) else "open"}">' + "<br>".join(parts) + "</div>"

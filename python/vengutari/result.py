@@ -1,22 +1,14 @@
-"""What a fit says, in the user's words and units: equations, counts, the certificate, what to do next, and all of it as JSON."""
+"""What a fit says, in the user's words and units: equations, counts, the certificate, and what to do next."""
 
-import json
 import math
-from dataclasses import dataclass
-from fractions import Fraction
+from typing import NamedTuple
 
-from . import __version__, library, run
+from . import library, run
+from .decimals import digits_of, on_step
 from .library import GAP, OUTLIER, UNDECIDED
-from .problems import BadInput
-from .scaling import Column, Scaling, digits_of, on_step, shown
 
-FORMAT = "vengutari fit 1"
 # The labels that are no line's: what one row is by it, and what several are.
-LABELS = {
-    OUTLIER: ("outlier", "outliers"),
-    **({UNDECIDED: ("undecided", "undecided")} if library.CROSSINGS else {}),
-    GAP: ("gap", "gaps") if library.GAPS else ("no y", "without y"),
-}
+LABELS = {OUTLIER: ("outlier", "outliers"), UNDECIDED: ("undecided", "undecided"), GAP: ("gap", "gaps")}
 SUMMED = ("points outside epsilon", "distance", "squared distance")
 UNITS = ("", " {}", " {}²", " {}")
 
@@ -24,25 +16,38 @@ UNITS = ("", " {}", " {}²", " {}")
 # Lines and rows
 
 
-def equation(scaling, coefficients):
-    """A line as a formula: y = 0.8062 · x − 13.5."""
-    text = ""
-    for k, (column, value) in enumerate(zip(scaling.x, coefficients)):
+def minus(text):
+    return text.replace("-", "−")
+
+
+def equation(scaling, vector, j):
+    """A line as a formula: y = 0.8062 · x − 13.5. Where x is shifted, all have digits enough for an offset that is far from the points."""
+    text, last = "", scaling.grid(scaling.d - 1) / 8
+    for k, (column, value) in enumerate(zip(scaling.x, scaling.line(vector, j))):
         sign = "−" if value < 0 else "+"
         text += f" {sign} " if text else sign.replace("+", "")
-        number = on_step(abs(value), scaling.grid(k))
+        step = scaling.grid(k)
+        if scaling.place():
+            step = min(step, last / (abs(column.origin) or 1))
+        number = on_step(abs(value), step)
         text += number if column.constant else f"{number} · {column.name}"
     return f"{scaling.y.name} = {text}"
 
 
-def line_value(coefficients, x):
-    """A line's y; an offset's x is 1."""
-    values = [*x, 1] if len(coefficients) > len(x) else x
-    return sum(float(c) * float(v) for c, v in zip(coefficients, values))
+def line_values(scaling, vector, j, points):
+    """A line's y in each row, as a float; None in a row without y. From the origin on, so that no digits are lost far from 0."""
+    *slopes, last = map(float, scaling.at_origin(vector, j))
+    if not scaling.offset:
+        slopes, last = [*slopes, last], 0.0
+    columns = [values.floats(column.origin) for values, column in zip(points.x, scaling.x)]
+    rows = zip(points.y.values, *columns)
+    if len(slopes) == 1:
+        slope = slopes[0]
+        return [None if y is None else slope * x + last for y, x in rows]
+    return [None if y is None else sum(a * v for a, v in zip(slopes, x)) + last for y, *x in rows]
 
 
-@dataclass
-class Row:
+class Row(NamedTuple):
     """What a row is by the fit: its label, the line that the two numbers are of, its value and the residual; None without y."""
 
     label: int
@@ -51,22 +56,21 @@ class Row:
     residual: float
 
 
-def rows_of(lines, points, labels):
+def rows_of(scaling, n, vector, points, labels):
     """For each row its line, or the nearest where the label names none."""
-    rows = []
-    for x, y, label in zip(points.x, points.y, labels):
+    rows, lines = [], range(n)
+    values = zip(*(line_values(scaling, vector, j, points) for j in lines))
+    for y, fitted, label in zip(points.y.floats(), values, labels):
         if y is None:
             rows.append(Row(label, None, None, None))
             continue
-        values = [line_value(line, x) for line in lines]
-        nearest = min(range(len(lines)), key=lambda j: abs(float(y) - values[j]))
-        j = label - 1 if 1 <= label <= len(lines) else nearest
-        rows.append(Row(label, j, values[j], float(y) - values[j]))
+        j = label - 1 if 1 <= label <= n else min(lines, key=lambda j: abs(y - fitted[j]))
+        rows.append(Row(label, j, fitted[j], y - fitted[j]))
     return rows
 
 
 def root_mean_square(values):
-    return math.sqrt(sum(value * value for value in values) / len(values)) if values else None
+    return math.hypot(*values) / math.sqrt(len(values)) if values else None
 
 
 def counts_of(labels, n):
@@ -104,10 +108,15 @@ def spoiled_text(fit):
     return f"all samples but at most {fit.settings.spoiled} lie within {cost_text(fit, fit.answer.cost)} of the {several}"
 
 
+def name_of(scaling, k):
+    """A coefficient's name; an offset is a line's y at the origin of x."""
+    column = scaling.x[k % scaling.d]
+    return column.name + (scaling.place() if column.constant else "")
+
+
 def side_text(scaling, k, low, high):
-    column = scaling.x[k % scaling.d].name
-    ends = [on_step(w * scaling.grid(k), scaling.grid(k)).replace("-", "−") for w in (low, high)]
-    return f"{column} {ends[0]} to {ends[1]}"
+    ends = [minus(on_step(scaling.side(k, w), scaling.grid(k))) for w in (low, high)]
+    return f"{name_of(scaling, k)} {'from ' if scaling.x[k % scaling.d].constant and scaling.place() else ''}{ends[0]} to {ends[1]}"
 
 
 def box_text(scaling, low, high):
@@ -118,7 +127,7 @@ def box_text(scaling, low, high):
 
 
 def grid_text(scaling):
-    return ", ".join(f"{column.name} in steps of {digits_of(scaling.grid(k), 4)}" for k, column in enumerate(scaling.x))
+    return ", ".join(f"{name_of(scaling, k)} in steps of {digits_of(scaling.grid(k), 4)}" for k in range(scaling.d))
 
 
 def gap_text(answer):
@@ -158,7 +167,7 @@ def advice(fit):
     """What to do where the search is not solved."""
     if settled(fit):
         return None
-    more = {"time": "a longer --time-limit", "interrupt": "a longer run", "splits": "more --splits", "rows": "more --rows"}
+    more = {"time": "a longer --time-limit", "interrupt": "a longer run", "splits": "more --splits", "rows": "more --table rows"}
     smaller = "a narrower --box" if fit.settings.box is not None else "a smaller --margin"
     remedies = f"{more[fit.outcome.stopped]}, {smaller} or a smaller --scale"
     if fit.answer.cost == fit.answer.bound:
@@ -179,16 +188,22 @@ def headline(fit):
     return f"{head}, {answer.splits:,} splits, {answer.open:,} boxes open, {fit.outcome.seconds:.1f} s"
 
 
+def residuals_of(fit, j):
+    """The residuals of the points of line j, from 0."""
+    return [row.residual for row in fit.rows if row.label == j + 1]
+
+
+def rms_text(residuals, none):
+    return digits_of(root_mean_square(residuals), 3) if residuals else none
+
+
 def summary(fit):
     """About ten lines for the operator."""
-    n = fit.model.n
-    lines = [fit.line(j) for j in range(n)]
-    rows = rows_of(lines, fit.points, fit.labels)
     text = [headline(fit)]
-    for j, line in enumerate(lines):
-        residuals = [row.residual for row in rows if row.label == j + 1]
-        rms = "" if not residuals else f", RMS {digits_of(Fraction(root_mean_square(residuals)), 3)}"
-        text.append(f"line {j + 1}: {equation(fit.scaling, line)}   ({len(residuals)} points{rms})")
+    for j in range(fit.model.n):
+        residuals = residuals_of(fit, j)
+        rms = "" if not residuals else f", RMS {rms_text(residuals, '')}"
+        text.append(f"line {j + 1}: {equation(fit.scaling, fit.vector, j)}   ({len(residuals)} points{rms})")
     text.append(rows_text(fit.labels))
     if fit.settings.spoiled is not None:
         text.append("spoiled: " + spoiled_text(fit))
@@ -200,117 +215,8 @@ def summary(fit):
         text.append("wide: " + wide_sentence(fit.wide))
         wide_box = box_text(fit.wide.scaling, fit.wide.low, fit.wide.high)[0]
         text.append(f"wide box: each line {wide_box}; {grid_text(fit.wide.scaling)}")
+    text += [f"warning: {warning}" for warning in fit.warnings]
     text += [f"note: {note}" for note in fit.notes]
     if advice(fit):
         text.append("next: " + advice(fit))
     return "\n".join(text) + "\n"
-
-
-# JSON
-
-
-def scaling_json(scaling):
-    columns = [{"name": c.name, "step": shown_exactly(c.step), "factor": c.factor, "constant": c.constant} for c in scaling.x]
-    return {"scale": scaling.scale, "x": columns, "y": {"name": scaling.y.name, "step": shown_exactly(scaling.y.step)}}
-
-
-def shown_exactly(value):
-    """A fraction as text that reads back as itself."""
-    text = shown(value)
-    return text if Fraction(text) == value else f"{value.numerator}/{value.denominator}"
-
-
-def line_json(fit, j, rows):
-    coefficients = fit.line(j)
-    d = fit.scaling.d
-    return {
-        "equation": equation(fit.scaling, coefficients),
-        "coefficients": {column.name: float(value) for column, value in zip(fit.scaling.x, coefficients)},
-        "w": fit.vector[j * d : (j + 1) * d],
-        "points": fit.labels.count(j + 1),
-        "rms": root_mean_square([row.residual for row in rows if row.label == j + 1]),
-    }
-
-
-def box_json(scaling, low, high):
-    return [
-        {"line": k // scaling.d + 1, "coefficient": scaling.x[k % scaling.d].name, "w": [a, b],
-         "low": float(a * scaling.grid(k)), "high": float(b * scaling.grid(k)), "step": float(scaling.grid(k))}
-        for k, (a, b) in enumerate(zip(low, high))
-    ]
-
-
-def answer_json(answer, unit):
-    return {
-        "kind": answer.kind, "cost": answer.cost, "bound": answer.bound, "gap_percent": 100 * run.gap_of(answer),
-        "cost_in_units": float(answer.cost * unit), "bound_in_units": float(answer.bound * unit),
-        "splits": answer.splits, "open": answer.open, "peak": answer.peak, "vector": answer.vector,
-    }
-
-
-def beacons_json(fit):
-    """The cost beacon by beacon; rows count from 1."""
-    unit = fit.scaling.cost_unit(fit.model.p)
-    return [{"rows": [b.first + 1, b.last + 1], "cost": b.cost, "cost_in_units": float(b.cost * unit)} for b in fit.beacons]
-
-
-def as_json(fit):
-    """Everything about a fit, so that later commands need nothing else."""
-    settings = fit.settings
-    rows = rows_of([fit.line(j) for j in range(fit.model.n)], fit.points, fit.labels)
-    made = {
-        "format": FORMAT, "version": __version__, "source": fit.source,
-        **answer_json(fit.answer, fit.scaling.cost_unit(fit.model.p)),
-        "stopped": fit.outcome.stopped, "seconds": round(fit.outcome.seconds, 3), "certificate": certificate(fit),
-        "lines": [line_json(fit, j, rows) for j in range(fit.model.n)],
-        "labels": counts_of(fit.labels, fit.model.n),
-        "beacons": beacons_json(fit), "box": box_json(fit.scaling, fit.low, fit.high),
-        "settings": {
-            "x": settings.x, "y": settings.y, "frame": settings.frame, "lines": fit.model.n, "offset": fit.scaling.offset,
-            "loss": settings.loss if settings.spoiled is None else "spoiled", "p": fit.model.p, "spoiled": settings.spoiled,
-            "epsilon": shown_exactly(fit.reach), "epsilon_whole": fit.labelled.epsilon,
-            "tolerance": fit.outcome.t,
-        },
-        "scaling": scaling_json(fit.scaling), "notes": fit.notes, "next": advice(fit), "wide": None,
-    }
-    if fit.wide is not None:
-        made["wide"] = {
-            **answer_json(fit.wide.outcome.answer, Fraction(1)), "certificate": wide_sentence(fit.wide), "samples": fit.wide.samples,
-            "fitted": fit.wide.fitted, "most": fit.wide.most, "box": box_json(fit.wide.scaling, fit.wide.low, fit.wide.high),
-        }
-    return json.dumps(made, indent=2, ensure_ascii=False) + "\n"
-
-
-@dataclass
-class Saved:
-    """What later commands need of a fit that was written as JSON."""
-
-    scaling: Scaling
-    model: library.Model
-    vector: list
-    x: list
-    y: str
-    frame: str
-
-    def line(self, j):
-        return self.scaling.line(self.vector, j)
-
-
-def saved_from(text, name):
-    """A fit out of its JSON."""
-    try:
-        made = json.loads(text)
-        if made["format"] != FORMAT:
-            raise ValueError
-        given, settings = made["scaling"], made["settings"]
-        x = [Column(str(c["name"]), Fraction(c["step"]), int(c["factor"]), c["constant"] is True) for c in given["x"]]
-        scaling = Scaling(x, Column(str(given["y"]["name"]), Fraction(given["y"]["step"])), int(given["scale"]))
-        model = library.Model(int(settings["lines"]), len(x), scaling.scale, int(settings["p"]), int(settings["epsilon_whole"]))
-        vector = [int(w) for w in made["vector"]]
-        saved = Saved(scaling, model, vector, [str(n) for n in settings["x"]], str(settings["y"]), settings["frame"])
-        sound = 1 <= len(x) <= 4 and len(vector) == model.n * model.d <= 8 and all(-32768 <= w <= 32767 for w in vector)
-        if not sound or any(c.unit <= 0 for c in [*x, scaling.y]) or not 0 <= scaling.scale <= 15:
-            raise ValueError
-        return saved
-    except (ValueError, KeyError, TypeError, AttributeError, ZeroDivisionError, RecursionError):
-        raise BadInput(f"{name}: not a fit that vengutari fit --json wrote") from None

@@ -2,7 +2,8 @@
 
 A call of the library cannot be stopped, so it runs in a thread of its own; a time limit or Ctrl-C leaves it behind, and the answer is
 that of the last run that came to its end. Each run starts from the best vector so far. A split opens at most one box more, so a
-run of B splits needs at most B + 1 rows: only a limit on the rows can make a run full.
+run of B splits needs at most B + 1 rows: only a limit on the rows can make a run full. Where the time left has no room for two runs
+more, the next is the last, with as many splits as it has room for.
 """
 
 import math
@@ -12,12 +13,20 @@ import time
 from dataclasses import dataclass
 from fractions import Fraction
 
-from .library import LARGEST_TOLERANCE, MOST_SPLITS, ROW_BYTES, Model
+from .library import LARGEST_TOLERANCE, ROW_BYTES, Model
 
 FIRST_SPLITS = 512
 MOST_ROWS = 2**26
 TICK = 1.0
+# A request to end is looked for so often.
+GLANCE = 0.05
+# A run with hardly more splits than the one before is not worth its time.
 LEAST_GROWTH = 1.2
+# What twice the splits took as a multiple of what they took before, at most: a longer one says more of the machine than of the search.
+MOST_GROWTH = 8.0
+# A run is the last where the time left is at most so many times what twice the splits will take, and is then given this part of it.
+ROOM = 3.0
+SAFE = 0.75
 
 
 @dataclass
@@ -31,14 +40,16 @@ class Job:
     start: list
 
 
-@dataclass
-class Limits:
-    """gap is a part of the cost, not a percentage; seconds and rows may be None."""
+class Stop:
+    """A request to end a search with its answer so far. Ctrl-C in the thread that waits for it is one too."""
 
-    gap: Fraction = Fraction(0)
-    seconds: float = None
-    rows: int = None
-    splits: int = MOST_SPLITS
+    def __init__(self):
+        self.begun = False
+        self.asked = False
+
+    def begin(self):
+        """From here on there is an answer, or there will be one at once."""
+        self.begun = True
 
 
 @dataclass
@@ -89,11 +100,12 @@ def in_background(call):
 class Runs:
     """The runs of one job."""
 
-    def __init__(self, library, job, limits, progress=None):
+    def __init__(self, library, job, limits, progress=None, stop=None):
         self.library = library
         self.job = job
         self.limits = limits
         self.progress = progress
+        self.stop = stop or Stop()
         self.began = time.monotonic()
         self.ticked = self.began
         self.rows = limits.rows or rows_in_memory()
@@ -109,14 +121,20 @@ class Runs:
         """The time left; the first run, which has no split, is not held to it."""
         return math.inf if self.limits.seconds is None or self.best is None else self.limits.seconds - self.seconds()
 
+    def over(self):
+        """Why no run is waited for any longer, or None; the first, which has no split, always is."""
+        if self.best is None:
+            return None
+        return "interrupt" if self.stop.asked else "time" if self.left() <= 0 else None
+
     def one(self, splits):
-        """One run to its end, or None where the time is over before."""
+        """One run to its end, or None where the time is over before or an end is asked for."""
         job, begun = self.job, time.monotonic()
         given = (job.store, job.model, self.t, splits, job.low, job.high, list(self.start), max(1, min(splits + 1, self.rows)))
         thread, results = in_background(lambda: self.library.search(*given))
         while thread.is_alive():
-            thread.join(max(0.0, min(self.ticked + TICK - time.monotonic(), self.left())))
-            if thread.is_alive() and self.left() <= 0:
+            thread.join(max(0.0, min(GLANCE, self.left())))
+            if thread.is_alive() and self.over():
                 return None
             self.tick(splits)
         answer, error = results[0]
@@ -152,16 +170,16 @@ class Runs:
         return 0 if again else self.tolerance(answer.cost)
 
     def next_splits(self, splits):
-        """Twice the splits, or as many as the time left allows by the runs before, or None where that is hardly more than before."""
+        """Twice the splits; as many as the time left has room for, by the runs before, where that is the last run; None for hardly more."""
         wanted = min(self.limits.splits, max(FIRST_SPLITS, 2 * splits))
         if len(self.lengths) < 3 or self.left() == math.inf:
             return wanted
         before, last = self.lengths[-2:]
-        growth = max(2.0, last / before if before > 0 else 2.0)
-        share = 0.9 * self.left() / (last * growth) if last > 0 else 1.0
-        if share >= 1:
+        growth = max(2.0, min(MOST_GROWTH, last / before if before > 0 else 2.0))
+        if self.left() >= ROOM * last * growth:
             return wanted
-        fitting = int(wanted * share ** (1 / math.log2(growth))) if share > 0 else 0
+        share = max(0.0, SAFE * self.left() / (last * growth))
+        fitting = min(self.limits.splits, int(wanted * share ** (1 / math.log2(growth))))
         return None if fitting < LEAST_GROWTH * splits else fitting
 
     def stopped(self, answer, splits):
@@ -172,7 +190,7 @@ class Runs:
             return "rows"
         if answer.kind == "spent" and splits >= self.limits.splits:
             return "splits"
-        return "time" if self.left() <= 0 else None
+        return self.over()
 
     def run(self):
         """Runs until solved, a limit or Ctrl-C. The first has no split and is over at once, so that there always is an answer."""
@@ -181,7 +199,7 @@ class Runs:
             while why is None:
                 answer = self.one(splits)
                 if answer is None:
-                    why = "time"
+                    why = self.over()
                     break
                 self.take(answer)
                 why = self.stopped(answer, splits)
@@ -198,8 +216,8 @@ class Runs:
         return Outcome(answer, why, self.seconds(), self.tolerance(answer.cost))
 
 
-def search(library, job, limits, progress=None):
-    return Runs(library, job, limits, progress).run()
+def search(library, job, limits, progress=None, stop=None):
+    return Runs(library, job, limits, progress, stop).run()
 
 
 def line_of_progress(unit):

@@ -4,6 +4,7 @@ import contextlib
 import io
 import pathlib
 import random
+import struct
 import sys
 from dataclasses import dataclass, field
 
@@ -64,6 +65,12 @@ class Made:
                 shown = [v.replace(".", ",") for v in shown]
             lines.append(self.delimiter.join([str(k), *shown, f"row {k}"]))
         return "\n".join(lines) + "\n"
+
+
+def store_of(rows, frames=None):
+    """A store of rows (x, y), with y None for a gap."""
+    records = zip(rows, frames or range(len(rows)))
+    return b"".join(struct.pack(">5hH", *x, *[0] * (4 - len(x)), -32768 if y is None else y, frame) for (x, y), frame in records)
 
 
 def run(*words):

@@ -83,7 +83,7 @@ class Fits(unittest.TestCase):
         counts = [found["labels"]["outliers"], found["labels"]["undecided"], made.labels.count(None)]
         self.assertIn("rows: {}, of them {} outliers, {} undecided, {} gaps\n".format(made.count, *counts), out)
         self.assertEqual(sum(found["labels"].values()), made.count)
-        self.assertLessEqual(len(out.splitlines()), 14)
+        self.assertLessEqual(len(out.splitlines()), 16)
 
     def paired(self, made, found):
         """Each true line with the line found that is nearest at the points."""
@@ -139,12 +139,12 @@ class Fits(unittest.TestCase):
         def rounded(value):
             return int(abs(value) + Fraction(1, 2)) * (1 if value >= 0 else -1)
 
-        columns = found["scaling"]["x"]
+        def counted(value, column):
+            return rounded((Fraction(str(value)) - Fraction(column["origin"])) / Fraction(column["step"])) * column["factor"]
+
         for x, y in zip(made.x, made.y):
             if y is not None:
-                exact = [*(Fraction(str(v)) for v in x), Fraction(1)]
-                yield ([rounded(v / Fraction(c["step"])) * c["factor"] for v, c in zip(exact, columns)],
-                       rounded(Fraction(str(y)) / Fraction(found["scaling"]["y"]["step"])))
+                yield [counted(v, c) for v, c in zip([*x, 1], found["scaling"]["x"])], counted(y, found["scaling"]["y"])
 
     def sizes(self, point, found, vector):
         """|e| for each line."""
@@ -202,12 +202,17 @@ class Fits(unittest.TestCase):
 
     @for_each
     def test_box_holds_the_answer_and_the_truth(self, done):
+        """Of the offset, a line's y at the origin of x, which is near the middle of the column."""
         made, found = done.made, done.found
-        d = len(found["scaling"]["x"])
+        d, columns = len(found["scaling"]["x"]), found["scaling"]["x"]
         for w, side in zip(found["vector"], found["box"]):
             self.assertTrue(side["w"][0] <= w <= side["w"][1])
+        origin = [float(Fraction(column["origin"])) for column in columns if not column["constant"]]
+        if d > len(origin):
+            for x, (low, high) in zip(origin, made.ranges):
+                self.assertLess(abs(x - (low + high) / 2), (high - low) / 8)
         for j, (k, _) in self.paired(made, found).items():
-            for value, side in zip(made.lines[j], found["box"][k * d : (k + 1) * d]):
+            for value, side in zip([*made.lines[j][:-1], made.value(j, origin)], found["box"][k * d : (k + 1) * d]):
                 self.assertTrue(side["low"] <= value <= side["high"])
 
     @for_each
@@ -224,7 +229,7 @@ class Fits(unittest.TestCase):
         made, files, found = done.made, done.files, done.found
         rows = [row.split(" ", 5) for row in files["coefficients"].read_text(encoding="utf-8").splitlines() if row[0] != "#"]
         self.assertEqual(len(rows), len(found["vector"]))
-        columns, y_step = found["scaling"]["x"], Fraction(found["scaling"]["y"]["step"])
+        columns = found["scaling"]["x"]
         for k, (line, units, units_text, steps, steps_text, name) in enumerate(rows):
             by_units, by_steps = (struct.unpack(">f", bytes.fromhex(bits))[0] for bits in (units, steps))
             self.assertEqual(struct.pack(">f", float(units_text)).hex(), units.lower())
@@ -233,7 +238,23 @@ class Fits(unittest.TestCase):
             self.assertEqual((int(line), name), (k // len(columns) + 1, column["name"]))
             exact = Fraction(found["vector"][k], 2 ** found["scaling"]["scale"]) * column["factor"]
             self.assertEqual(Fraction(by_steps), exact)
-            self.assertAlmostEqual(by_units, float(exact * y_step / Fraction(column["step"])), delta=1e-6 * abs(by_units))
+            value = Fraction(found["lines"][k // len(columns)]["exact"][name])
+            self.assertEqual(units.lower(), struct.pack(">f", float(value)).hex())
+
+    @for_each
+    def test_the_shift_is_undone(self, done):
+        """The offset of the user's units is the vector's less the slopes at the origins, exactly."""
+        found, scaling = done.found, done.found["scaling"]
+        step, d = Fraction(scaling["y"]["step"]) / 2 ** scaling["scale"], len(scaling["x"])
+        for j, line in enumerate(found["lines"]):
+            offset = Fraction(scaling["y"]["origin"])
+            for w, column in zip(found["vector"][j * d :], scaling["x"]):
+                value = w * column["factor"] * step / Fraction(column["step"])
+                if not column["constant"]:
+                    self.assertEqual(Fraction(line["exact"][column["name"]]), value)
+                offset += value if column["constant"] else -value * Fraction(column["origin"])
+            self.assertEqual(Fraction(line["exact"].get("offset", "0")), offset)
+            self.assertAlmostEqual(line["coefficients"].get("offset", 0), float(offset))
 
 
 if __name__ == "__main__":

@@ -8,11 +8,12 @@ import tempfile
 import unittest
 from fractions import Fraction
 
-from made_points import Made, run
+from made_points import Made, run, store_of
 
 import vengutari
 from vengutari import fitting, library, points, scaling
-from vengutari import run as runs
+from vengutari.problems import Refused
+from vengutari.settings import Limits, Settings
 
 TWO = Made([(0.8, -13.5), (0.31, 220.0)], [(300, 4000)], 60, noise=0.6, gaps=2, seed=11)
 WORDS = ["--x=x1", "--y=y", "--lines=2", "--epsilon=3", "--quiet"]
@@ -78,7 +79,7 @@ class Later(unittest.TestCase):
         status, out, err = run("fit", spiked, *WORDS, "--json")
         self.assertEqual((status, err), (0, ""))
         found = json.loads(out)
-        self.assertEqual((found["vector"], found["cost"], found["bound"]), tuple(self.found[key] for key in ("vector", "cost", "bound")))
+        self.assertEqual(*[[f["cost"], f["bound"], [line["exact"] for line in f["lines"]]] for f in (found, self.found)])
         self.assertEqual(found["labels"]["outliers"], self.found["labels"]["outliers"] + 2)
         self.assertEqual(found["labels"]["gaps"], 3)
         # Rows that 16 bits do not hold are in no beacon.
@@ -126,7 +127,7 @@ class Later(unittest.TestCase):
         self.assertIn("job with 3 points: 1 lines of 1, S = 0, p = 1, epsilon = 2, t = 0, budget 10, 4 rows", run("decode", job)[1])
 
 
-class Limits(unittest.TestCase):
+class Ends(unittest.TestCase):
     """Spent and full end with status 3, with a bound that holds and a word on what to do."""
 
     def setUp(self):
@@ -144,7 +145,7 @@ class Limits(unittest.TestCase):
         best = self.fitted(0)
         spent = self.fitted(3, "--splits=20", "--margin=8")
         self.assertEqual((spent["kind"], spent["splits"], spent["stopped"]), ("spent", 20, "splits"))
-        full = self.fitted(3, "--rows=3", "--margin=8")
+        full = self.fitted(3, "--table=3", "--margin=8")
         self.assertEqual((full["kind"], full["stopped"]), ("full", "rows"))
         for made in (spent, full):
             self.assertLess(made["bound"], best["cost"])
@@ -209,8 +210,8 @@ class Limits(unittest.TestCase):
     def test_seconds(self):
         """Without time every search still has its first answer."""
         table = points.read_table(str(self.data))
-        settings = fitting.Settings(x=["x1"], y="y", lines=2, epsilon=Fraction(3), margin=Fraction(20), scale=11, loss="absolute",
-                                    limits=runs.Limits(seconds=1e-9))
+        settings = Settings(x=["x1"], y="y", lines=2, epsilon=Fraction(3), margin=Fraction(20), scale=11, loss="absolute",
+                            limits=Limits(seconds=1e-9))
         found = fitting.fit(library.find(), points.read_points(table, ["x1"], "y"), settings)
         self.assertEqual((found.outcome.stopped, found.answer.kind), ("time", "spent"))
         self.assertLess(found.answer.bound, found.answer.cost)
@@ -229,18 +230,20 @@ class Interface(unittest.TestCase):
         """Every call once, on the paper's fits and on values by hand."""
         calls = library.find()
         model = library.Model(1, 1, 0, 1, 2)
-        store, _ = scaling.store_of([([1], 2), ([1], 2), ([1], 9)], [0, 1, 2])
+        store = store_of([([1], 2), ([1], 2), ([1], 9)], [0, 1, 2])
         self.assertEqual([calls.loss(2, 4, -5), calls.loss(2, 5, -5)], [16, 25])
         self.assertEqual([calls.cost(store, model, [w]) for w in (0, 2, 3)], [6, 2, 4])
         self.assertEqual(calls.bound(store, model, [0], [3]), 2)
-        rising, _ = scaling.store_of([([1], k) for k in range(40)], range(40))
+        rising = store_of([([1], k) for k in range(40)], range(40))
         self.assertEqual(calls.cost_by_beacon(rising, model._replace(epsilon=100), [0]), [171, 532, 77])
         self.assertEqual(calls.cost_by_beacon(rising[: 19 * 12], model._replace(epsilon=100), [0]), [171])
         self.assertEqual(calls.split(1, 1, [-3], [-2]), [([-3] + [0] * 7, [-3] + [0] * 7), ([-2] + [0] * 7, [-2] + [0] * 7)])
         self.assertEqual(calls.labels(store, model, [2]), b"\1\1\0")
         self.assertEqual(calls.labels(store, model._replace(n=2, epsilon=4), [4, 5]), b"\5\5\2")
-        gapped, kept = scaling.store_of([([1], None), ([1], 2), None, ([1], 9), ([1], None)], range(5))
+        whole = scaling.Whole([[1] * 5], [None, 2, 40000, 9, None], [True, True, False, True, True])
+        gapped, kept = scaling.store_of(whole, range(5))
         self.assertEqual((gapped[:12], kept), (bytes.fromhex("0001 0000 0000 0000 8000 0000"), [0, 1, 3, 4]))
+        self.assertEqual(gapped, store_of([([1], None), ([1], 2), ([1], 9), ([1], None)], [0, 1, 3, 4]))
         self.assertEqual([calls.cost(gapped, model, [0]), calls.bound(gapped, model, [0], [3])], [4, 2])
         self.assertEqual(calls.labels(gapped, model, [2]), b"\6\1\0\6")
         alone = calls.search(gapped[:12], model, 0, 10, [0], [3], [0], 4)
@@ -259,10 +262,10 @@ class Interface(unittest.TestCase):
         """Refusal 7 names the record, the first and the last of a store among them, from every call that makes it."""
         calls, model = library.find(), library.Model(1, 1, 0, 1, 2)
         for stray in (0, 1, 255, 256, 4095):
-            store, _ = scaling.store_of([([1, 5 if k == stray else 0], 2) for k in range(4096)], range(4096))
+            store = store_of([([1, 5 if k == stray else 0], 2) for k in range(4096)], range(4096))
             for call in (lambda: calls.cost(store, model, [0]), lambda: calls.bound(store, model, [0], [3]),
                          lambda: calls.labels(store, model, [0]), lambda: calls.search(store, model, 0, 10, [0], [3], [0], 4)):
-                with self.assertRaises(library.Refused) as caught:
+                with self.assertRaises(Refused) as caught:
                     call()
                 self.assertEqual((caught.exception.number, caught.exception.record), (7, stray))
                 self.assertIn(f"record {stray}", str(caught.exception))
@@ -270,7 +273,7 @@ class Interface(unittest.TestCase):
     def test_stray_record_comes_by_the_code_alone(self):
         """*value is kept, whatever it held: it is no part of a refusal."""
         calls = library.find()
-        store, _ = scaling.store_of([([1, 0], 2), ([1, 5], 2)], [0, 1])
+        store = store_of([([1, 0], 2), ([1, 5], 2)], [0, 1])
         value, vector = ctypes.c_uint64(99), (ctypes.c_int16 * 8)()
         lent = (ctypes.c_uint8 * len(store)).from_buffer_copy(store)
         code = calls._calls.vengutari_cost(lent, len(store), 1, 1, 0, 1, 2, vector, 8, ctypes.byref(value))
@@ -284,14 +287,14 @@ class Interface(unittest.TestCase):
                 return 7 + 256
 
         calls._calls = Marked()
-        with self.assertRaises(library.Refused) as caught:
+        with self.assertRaises(Refused) as caught:
             calls.cost(store, library.Model(1, 1, 0, 1, 2), [0])
         self.assertEqual((caught.exception.number, caught.exception.record), (7, 1))
 
     def test_refusals(self):
         calls = library.find()
-        store, _ = scaling.store_of([([1, 0], 2), ([1, 5], 2)], [0, 1])
-        with self.assertRaises(library.Refused) as caught:
+        store = store_of([([1, 0], 2), ([1, 5], 2)], [0, 1])
+        with self.assertRaises(Refused) as caught:
             calls.search(store, library.Model(1, 2, 0, 1, 2), 0, 10, [0, 0], [3, 3], [9, 0], 4)
         self.assertEqual((caught.exception.number, caught.exception.record), (6, None))
 

@@ -11,6 +11,7 @@ from made_points import Made, run
 from vengutari import library
 from vengutari import run as runs
 from vengutari.library import Answer
+from vengutari.settings import Limits
 
 JOB = runs.Job(b"", library.Model(1, 1, 0, 1, 2), [0], [9], [0])
 
@@ -39,7 +40,7 @@ class Played:
 
 class Runs(unittest.TestCase):
     def outcome(self, played, **limits):
-        return runs.search(played, JOB, runs.Limits(**limits))
+        return runs.search(played, JOB, Limits(**limits))
 
     def test_solved_is_by_the_gap_of_its_own_cost(self):
         """The cost falls from 100 to 40 in a run whose tolerance of 10 was set by 100: a gap of 20 percent is no solved at 10."""

@@ -5,10 +5,11 @@ import pathlib
 import tempfile
 import unittest
 
-from made_points import ROOT, Made, run
+from made_points import ROOT, Made, run, store_of
 
 import vengutari
-from vengutari import library, scaling
+from vengutari import library
+from vengutari.problems import BadUse, Refused
 
 # Four samples are nowhere near a line, and two were not taken.
 TWO = Made([(0.8, -13.5), (0.31, 220.0)], [(300, 3500)], 60, noise=0.6, gaps=2, seed=11)
@@ -123,7 +124,7 @@ class Spoiled(unittest.TestCase):
     def test_rows_beyond_16_bits_are_spoiled(self):
         far = self.text + "60,2000,999999,spike\n61,2500,-99999.5,spike\n"
         found = self.fitted(0, far, "--lines=2", "--y-step=0.1", f"--spoiled={self.count + 2}")
-        self.assertEqual([found[key] for key in ("vector", "cost", "bound")], [self.found[key] for key in ("vector", "cost", "bound")])
+        self.assertEqual(*[[f["cost"], f["bound"], [line["exact"] for line in f["lines"]]] for f in (found, self.found)])
         self.assertEqual(found["labels"]["outliers"], self.count + 2)
         self.refused(1, "2 rows lie far beyond the others", far, "--lines=2", "--spoiled=1")
 
@@ -153,7 +154,7 @@ class Spoiled(unittest.TestCase):
         found = vengutari.fit(self.data, x="x1", y="y", lines=2, spoiled=self.count)
         self.assertEqual((found.answer.cost, found.vector), (self.found["cost"], self.found["vector"]))
         for words in ({}, {"epsilon": 3, "spoiled": 2}, {"spoiled": -1}):
-            with self.assertRaises(vengutari.problems.BadUse):
+            with self.assertRaises(BadUse):
                 vengutari.fit(self.data, x="x1", y="y", **words)
 
 
@@ -162,7 +163,7 @@ class Calls(unittest.TestCase):
 
     def setUp(self):
         self.calls = library.find()
-        self.store, _ = scaling.store_of([([1], 2), ([1], None), ([1], 2), ([1], 9)], range(4))
+        self.store = store_of([([1], 2), ([1], None), ([1], 2), ([1], 9)], range(4))
 
     def test_values(self):
         for q, cost, bound in ((0, 9, 6), (1, 2, 0), (2, 2, 0), (3, 0, 0)):
@@ -177,7 +178,7 @@ class Calls(unittest.TestCase):
         for call in (lambda: self.calls.cost(self.store, over, [0]), lambda: self.calls.bound(self.store, over, [0], [3]),
                      lambda: self.calls.search(self.store, over, 0, 10, [0], [3], [0], 4), lambda: self.calls.loss(library.SPOILED, 1, 0),
                      lambda: self.calls.labels(self.store, model, [0]), lambda: self.calls.cost_by_beacon(self.store, model, [0])):
-            with self.assertRaises(library.Refused) as caught:
+            with self.assertRaises(Refused) as caught:
                 call()
             self.assertEqual(caught.exception.number, 4)
 

@@ -1,0 +1,75 @@
+"""The command fit: the answer on the screen first, then each file by itself."""
+
+from . import fitting, library, points, result, run, saved
+from .command import NOT_SOLVED, REFUSED, SOLVED, WARNED, complain
+from .options import settings_of
+from .outputs import Outputs, say, tell
+from .problems import Error
+
+FILES = ("json", "labels", "coefficients", "record", "report")
+
+
+def labels_text(table, rows):
+    """The labels file. A row without y has neither a fitted value nor a residual."""
+    label = [str(row.label) for row in rows]
+    fitted, residual = [["" if value is None else f"{value:.6g}" for value in values]
+                        for values in ([row.fitted for row in rows], [row.residual for row in rows])]
+    return points.with_columns(table, ["label", "fitted", "residual"], [label, fitted, residual])
+
+
+def made_files(calls, table, found):
+    """What each output is made by; nothing is made that is not asked for."""
+    def coefficients():
+        from .coefficients import text
+
+        return text(calls, found)
+
+    def report():
+        from .report import page
+
+        return page(found)
+
+    return {
+        "labels": lambda: labels_text(table, found.rows),
+        "coefficients": coefficients,
+        "record": lambda: calls.write_answer(found.answer, found.model.n, found.model.d, found.model.scale),
+        "report": report,
+        "json": lambda: saved.as_json(found),
+    }
+
+
+def show(text, taken, quiet):
+    """The summary on standard output, or on standard error where that is taken or takes nothing."""
+    if taken:
+        if not quiet:
+            tell(text)
+        return True
+    try:
+        say(text)
+        return True
+    except Error as problem:
+        complain(problem)
+        tell(text)
+        return False
+
+
+def command_fit(options, stop):
+    settings = settings_of(options)
+    outputs = Outputs([options.data], options.force)
+    for name in FILES:
+        if getattr(options, name) is not None:
+            outputs.check(f"--{name}", getattr(options, name))
+    calls = library.find()
+    table = points.read_table(options.data)
+    found = fitting.fit_table(calls, table, settings, None if options.quiet else run.line_of_progress, stop)
+    taken = "-" in outputs.paths.values()
+    text = result.summary(found)
+    done = show(text, taken, options.quiet)
+    written = outputs.write_all({f"--{name}": make for name, make in made_files(calls, table, found).items()}, complain)
+    if not written and taken and options.quiet:
+        tell(text)
+    if not (done and written):
+        return REFUSED
+    if options.strict and found.warnings:
+        return WARNED
+    return SOLVED if result.settled(found) else NOT_SOLVED
