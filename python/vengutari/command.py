@@ -4,6 +4,7 @@ import signal
 import sys
 import time
 
+from . import __version__
 from .problems import Error
 
 SOLVED, REFUSED, NOT_SOLVED, WARNED, INTERRUPTED = 0, 1, 3, 4, 130
@@ -58,7 +59,16 @@ class Interrupts:
 def run_command(words, stop):
     from .options import joined, parser
 
-    options = parser().parse_args(joined(words))
+    words = joined(words)
+    if words[:1] == ["fit"]:
+        from .config import with_config
+
+        words = with_config(words)
+    options = parser().parse_args(words)
+    if options.command == "fit" and (len(options.data) > 1 or options.summary):
+        from .many import command_many
+
+        return command_many(options, stop)
     if options.command == "fit":
         from .fit_command import command_fit
 
@@ -92,6 +102,9 @@ def main(words=None):
     """Runs one command; words are those behind its name. A request to end ends a search with its answer."""
     if words is not None:
         return status_of(words, None)
+    if sys.argv[1:] == ["--version"]:
+        print(f"vengutari {__version__}")
+        return SOLVED
     stop = Interrupts()
     status = status_of(sys.argv[1:], stop)
     stop.close()

@@ -30,11 +30,11 @@ def made_files(calls, table, found):
         return page(found)
 
     return {
-        "labels": lambda: labels_text(table, found.rows),
-        "coefficients": coefficients,
-        "record": lambda: calls.write_answer(found.answer, found.model.n, found.model.d, found.model.scale),
-        "report": report,
-        "json": lambda: saved.as_json(found),
+        "--labels": lambda: labels_text(table, found.rows),
+        "--coefficients": coefficients,
+        "--record": lambda: calls.write_answer(found.answer, found.model.n, found.model.d, found.model.scale),
+        "--report": report,
+        "--json": lambda: saved.as_json(found),
     }
 
 
@@ -53,23 +53,36 @@ def show(text, taken, quiet):
         return False
 
 
-def command_fit(options, stop):
-    settings = settings_of(options)
-    outputs = Outputs([options.data], options.force)
+def checked_outputs(options):
+    """The places of the output files, looked at before the work."""
+    outputs = Outputs(options.data, options.force)
     for name in FILES:
         if getattr(options, name) is not None:
             outputs.check(f"--{name}", getattr(options, name))
+    return outputs
+
+
+def fit_file(options, progress, stop):
+    """The fit of the one file that is given, and its table."""
     calls = library.find()
-    table = points.read_table(options.data)
-    found = fitting.fit_table(calls, table, settings, None if options.quiet else run.line_of_progress, stop)
-    taken = "-" in outputs.paths.values()
-    text = result.summary(found)
-    done = show(text, taken, options.quiet)
-    written = outputs.write_all({f"--{name}": make for name, make in made_files(calls, table, found).items()}, complain)
-    if not written and taken and options.quiet:
-        tell(text)
-    if not (done and written):
-        return REFUSED
+    table = points.read_table(options.data[0]).part(*options.rows, options.every)
+    return calls, table, fitting.fit_table(calls, table, settings_of(options), progress, stop)
+
+
+def status_of(options, found):
     if options.strict and found.warnings:
         return WARNED
     return SOLVED if result.settled(found) else NOT_SOLVED
+
+
+def command_fit(options, stop):
+    settings_of(options)
+    outputs = checked_outputs(options)
+    calls, table, found = fit_file(options, None if options.quiet else run.line_of_progress, stop)
+    taken = "-" in outputs.paths.values()
+    text = result.summary(found)
+    done = show(text, taken, options.quiet)
+    written = outputs.write_all(made_files(calls, table, found), complain)
+    if not written and taken and options.quiet:
+        tell(text)
+    return status_of(options, found) if done and written else REFUSED

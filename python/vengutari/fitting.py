@@ -65,7 +65,7 @@ class Fit:
 
 @dataclass
 class Beacon:
-    """The rows of a beacon's records, from 0, and what they cost."""
+    """The first and the last row of a beacon's records, as places among the points, and what they cost."""
 
     first: int
     last: int
@@ -197,7 +197,7 @@ def check_far(model, scales, vector, k, points):
     reach = model.epsilon * scales.y.unit / 2**scales.scale
     for j in range(model.n):
         if abs(points.y.exact(k) - sum(a * v for a, v in zip(scales.line(vector, j), x))) <= reach:
-            raise BadInput(f"row {k + 1} lies on line {j + 1} but does not fit in 16 bits: give a larger --x-step or --y-step")
+            raise BadInput(f"row {points.numbers[k]} lies on line {j + 1} but does not fit in 16 bits: give a larger --x-step or --y-step")
 
 
 def check_count(count):

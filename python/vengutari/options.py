@@ -84,19 +84,33 @@ def side(text):
     return low, high
 
 
+def part_of(text):
+    """The first and the last row of a part; either may be left out."""
+    if not re.fullmatch("[0-9]{0,9}:[0-9]{0,9}", text) or text == ":":
+        raise argparse.ArgumentTypeError(f"'{text[:40]}' is not A:B, the first and the last row; the rows of the table are --table")
+    first, last = (int(end) if end else None for end in text.split(":"))
+    if first == 0 or last == 0 or (first or 1) > (last or 10**9):
+        raise argparse.ArgumentTypeError(f"{text}: rows count from 1, and the first is not behind the last")
+    return first, last
+
+
 # The commands
 
 
 def add_fit(commands):
     fit = commands.add_parser("fit", help="fit lines to the points of a file, with a certificate", description=GUIDE,
                               formatter_class=argparse.RawDescriptionHelpFormatter, allow_abbrev=False)
-    fit.add_argument("data", metavar="DATA.csv", help="the points: comma, semicolon or tab between columns; - for standard input")
+    fit.add_argument("data", metavar="DATA.csv", nargs="+",
+                     help="the points: comma, semicolon or tab between columns; - for standard input; of several files each is fitted by itself")
+    fit.add_argument("--config", metavar="FILE", help="options from a TOML file, by their names without --; those given here come first")
     points = fit.add_argument_group("points")
     points.add_argument("--x", required=True, type=names, metavar="COLUMN[,..]", help="the columns that y depends on, by name or number from 1")
     points.add_argument("--y", required=True, metavar="COLUMN",
                         help="the column to be explained; a row where it or an x is empty is a gap: it costs nothing and is counted")
     points.add_argument("--frame", metavar="COLUMN",
                         help="frame numbers, kept modulo 65,536 (default: the column called frame, or rows counted from 0)")
+    points.add_argument("--rows", type=part_of, default=(None, None), metavar="A:B", help="the rows from A to B alone, counted from 1")
+    points.add_argument("--every", type=whole(1, 10**9), default=1, metavar="K", help="of these every K-th row, beginning with the first")
     points.add_argument("--x-step", type=several(decimal(positive=True)), metavar="STEP[,..]",
                         help="what x is a multiple of, one for each column (default: found from the data)")
     points.add_argument("--y-step", type=decimal(positive=True), metavar="STEP", help="what y is a multiple of (default: found from the data)")
@@ -113,6 +127,9 @@ def add_fit(commands):
                        help="lines need not pass through 0 (default: on where --x names one column)")
     add_search(fit)
     add_outputs(fit)
+    many = fit.add_argument_group("several files", "a line for each; in the names of output files {} stands for the name of its data file")
+    many.add_argument("--summary", metavar="FILE", help="a table with a row for each file: JSON where the name ends so, else CSV")
+    many.add_argument("--jobs", type=whole(1, 256), default=1, metavar="N", help="so many files at a time (default 1)")
     fit.add_argument("--strict", action="store_true", help="status 4 where there is a warning")
     fit.add_argument("--quiet", action="store_true", help="no progress on standard error, and no summary there")
 
@@ -166,6 +183,13 @@ def add_later(commands):
     decode = commands.add_parser("decode", help="say what is in an answer record, a job, coefficients or a fit's JSON", allow_abbrev=False)
     decode.add_argument("source", metavar="FILE", help="- for standard input")
     decode.add_argument("--fit", metavar="FIT.json", help="the fit that a record is of, for your units")
+
+
+def fit_options():
+    """The names of all options of fit."""
+    made = argparse.ArgumentParser().add_subparsers()
+    add_fit(made)
+    return list(made.choices["fit"]._option_string_actions)
 
 
 def parser():

@@ -8,7 +8,7 @@ import csv
 import io
 import re
 import sys
-from dataclasses import dataclass, field
+from dataclasses import dataclass, field, replace
 
 from .decimals import NO_SAMPLE, NUMBER, Decimals, decimal, decimals_of, dotted, shortened
 from .problems import BadInput, BadUse
@@ -19,7 +19,7 @@ FRAME = "frame"
 
 @dataclass
 class Table:
-    """The rows of a file as text, with their line numbers."""
+    """The rows of a file as text, with their line numbers, and with their own numbers from 1."""
 
     name: str
     names: list
@@ -27,6 +27,19 @@ class Table:
     rows: list
     places: list
     delimiter: str
+    numbers: range = None
+
+    def __post_init__(self):
+        if self.numbers is None:
+            self.numbers = range(1, len(self.rows) + 1)
+
+    def part(self, first, last, every):
+        """Every so many of the rows from one to another, which count from 1 and may be None."""
+        chosen = slice((first or 1) - 1, last, every)
+        made = replace(self, rows=self.rows[chosen], places=self.places[chosen], numbers=self.numbers[chosen])
+        if not made.rows:
+            raise BadInput(f"{self.name}: there are {len(self.rows):,} rows, and none of them from {first or 1:,} to {last or len(self.rows):,}")
+        return made
 
     @property
     def decimal_comma(self):
@@ -44,14 +57,14 @@ class Table:
 class Points:
     """The columns in use as exact numbers, one entry for each row; a row whose y is None is a gap, one without an x too.
 
-    counted has the frame numbers as they are in the file, places the line of each row there, and without_x how many rows lack an x.
+    counted has the frame numbers as they are in the file, numbers those of the rows there, from 1, and without_x how many lack an x.
     """
 
     x: list
     y: Decimals
     counted: list
     notes: list = field(default_factory=list)
-    places: list = None
+    numbers: range = None
     without_x: int = 0
 
     @property
@@ -214,7 +227,7 @@ def check_marks(table, places):
 def frames_of(table, wanted, notes):
     """The frame numbers; without such a column the rows are counted from 0."""
     if wanted is None:
-        return list(range(len(table.rows)))
+        return [number - 1 for number in table.numbers]
     k = column(table, wanted)
     frames = []
     for row, place in zip(table.rows, table.places):
@@ -238,10 +251,10 @@ def read_points(table, x_names, y_name, frame_name=None):
     columns = [column_of(table, k) for k in places]
     notes = []
     frames = frames_of(table, frame_name, notes)
-    return points_of(columns[:-1], columns[-1], frames, notes, table.places, x_names)
+    return points_of(columns[:-1], columns[-1], frames, notes, table.numbers, x_names)
 
 
-def points_of(x, y, frames, notes, places, x_names):
+def points_of(x, y, frames, notes, numbers, x_names):
     """Points of columns of exact numbers: a row without an x is left out as a gap is."""
     lacking = {name: values.values.count(None) for name, values in zip(x_names, x)}
     without = [any(value is None for value in row) for row in zip(*(values.values for values in x))]
@@ -251,7 +264,7 @@ def points_of(x, y, frames, notes, places, x_names):
     for name, count in lacking.items():
         if count:
             notes.append(f"{count} row{'s have' if count > 1 else ' has'} no {name}: left out, as gaps are")
-    return Points(x, y, frames, notes, places, sum(without))
+    return Points(x, y, frames, notes, numbers, sum(without))
 
 
 def with_columns(table, names, columns):

@@ -59,9 +59,9 @@ class Report:
         fit, row = self.fit, self.rows[k]
         x = ", ".join(f"{name} {values.text(k)}" for name, values in zip(fit.settings.x, fit.points.x))
         if row.residual is None:
-            return f"row {k + 1}, frame {fit.points.counted[k]}: {x}, {name_of(row.label)}"
+            return f"row {fit.points.numbers[k]}, frame {fit.points.counted[k]}: {x}, {name_of(row.label)}"
         y = f"{fit.settings.y} {fit.points.y.text(k)}"
-        return f"row {k + 1}, frame {fit.points.counted[k]}: {x}, {y}, {name_of(row.label)}, residual {row.residual:+.4g}"
+        return f"row {fit.points.numbers[k]}, frame {fit.points.counted[k]}: {x}, {y}, {name_of(row.label)}, residual {row.residual:+.4g}"
 
     def put_points(self, picture, places):
         """Points by label: the outliers first, so that they hide nothing."""
@@ -128,7 +128,7 @@ class Report:
         dear = sorted((beacon for beacon in fit.beacons if beacon.cost), key=lambda beacon: -beacon.cost)[:MOST_BEACONS]
         rows = ["<tr><th>rows</th><th>frames</th><th class=number>cost</th><th class=number>of the whole</th></tr>"]
         for b in dear:
-            cells = [f"{b.first + 1} to {b.last + 1}", f"{fit.points.counted[b.first]} to {fit.points.counted[b.last]}"]
+            cells = [f"{fit.points.numbers[b.first]} to {fit.points.numbers[b.last]}", f"{fit.points.counted[b.first]} to {fit.points.counted[b.last]}"]
             numbers = [cost_text(fit, b.cost), f"{100 * b.cost / whole:.3g} %"]
             text = "".join(f"<td>{cell}</td>" for cell in cells) + "".join(f"<td class=number>{escaped(n)}</td>" for n in numbers)
             rows.append(f"<tr>{text}</tr>")

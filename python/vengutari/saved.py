@@ -55,9 +55,9 @@ def answer_json(answer, unit):
 
 
 def beacons_json(fit):
-    """The cost beacon by beacon; rows count from 1."""
-    unit = fit.scaling.cost_unit(fit.model.p)
-    return [{"rows": [b.first + 1, b.last + 1], "cost": b.cost, "cost_in_units": float(b.cost * unit)} for b in fit.beacons]
+    """The cost beacon by beacon; rows by their numbers in the file."""
+    unit, numbers = fit.scaling.cost_unit(fit.model.p), fit.points.numbers
+    return [{"rows": [numbers[b.first], numbers[b.last]], "cost": b.cost, "cost_in_units": float(b.cost * unit)} for b in fit.beacons]
 
 
 def settings_json(fit):

@@ -4,6 +4,7 @@ import json
 import pathlib
 import tempfile
 import unittest
+import unittest.mock
 from fractions import Fraction
 
 from made_points import Made, run
@@ -91,6 +92,26 @@ class Runs(unittest.TestCase):
             with self.subTest(why):
                 outcome = self.outcome(Played(9, *answers), **limits)
                 self.assertEqual((outcome.answer, outcome.stopped), (kept, why))
+
+    def test_the_last_run_takes_the_time_that_is_left(self):
+        """Twice the splits while two runs more have room; then as many as the rest holds, up to a quarter; none for hardly more."""
+        made = runs.Runs(Played(9), JOB, Limits(seconds=60))
+        made.best, made.lengths = answer("spent", 9, 0), [1.0, 2.0, 4.0]
+        for left, splits in ((25, 8192), (24, 8192), (20, 8192 * 15 // 8), (12, 8192 * 9 // 8), (8, 6144), (6, None), (0, None), (-1, None)):
+            with unittest.mock.patch.object(made, "left", lambda left=left: left):
+                self.assertEqual(made.next_splits(4096), splits)
+        made.lengths = [1.0, 1.0, 3.0]
+        with unittest.mock.patch.object(made, "left", lambda: 12):
+            self.assertEqual(made.next_splits(4096), 8192)
+        with unittest.mock.patch.object(made, "left", lambda: 20):
+            self.assertTrue(8192 < made.next_splits(4096) < 2 * 8192)
+
+    def test_asked_to_stop(self):
+        """The answer so far, also where the request came before the first run was over."""
+        stop = runs.Stop()
+        stop.asked = True
+        outcome = runs.search(Played(9, answer("spent", 9, 0)), JOB, Limits(), None, stop)
+        self.assertEqual((outcome.answer, outcome.stopped), (answer("spent", 9, 0), "interrupt"))
 
     def test_interrupt_before_any_answer(self):
         with self.assertRaises(KeyboardInterrupt):
