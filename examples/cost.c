@@ -9,7 +9,7 @@
 #include "vengutari.h"
 
 #define POINTS 8
-#define RECORD 12
+#define RECORD VENGUTARI_POINT_BYTES
 #define ROUNDS 3
 
 /* Two lines in one dimension; coefficients are halves (scale 1); distances count up to 3, which is 6 halves. */
@@ -20,16 +20,6 @@ static const int16_t vector[8] = {4, -2};
 /* Two lines through the origin, y = 2 x and y = -x, near both of which the first point lies, a point off both, and a sample that was not
  * taken. */
 static const int16_t points[POINTS][2] = {{1, 2}, {2, 4}, {3, 6}, {-2, 2}, {4, -4}, {5, -5}, {3, 20}, {6, VENGUTARI_GAP_Y}};
-
-/* A point record: x1 to x4, y and the frame number, big-endian, 16 bits each. */
-static void put_record(uint8_t *record, int16_t x, int16_t y, uint16_t frame)
-{
-    const uint16_t fields[6] = {(uint16_t)x, 0, 0, 0, (uint16_t)y, frame};
-    for (int k = 0; k < 6; k++) {
-        record[2 * k] = (uint8_t)(fields[k] >> 8);
-        record[2 * k + 1] = (uint8_t)fields[k];
-    }
-}
 
 /* A pass of the same points three times over: 24 records, so a full beacon and a part of one. */
 static uint32_t print_beacons(const uint8_t *store)
@@ -51,8 +41,10 @@ static uint32_t print_beacons(const uint8_t *store)
 int main(void)
 {
     uint8_t store[POINTS * RECORD];
-    for (int i = 0; i < POINTS; i++)
-        put_record(store + i * RECORD, points[i][0], points[i][1], (uint16_t)i);
+    for (int i = 0; i < POINTS; i++) {
+        const int16_t x[4] = {points[i][0], 0, 0, 0};
+        vengutari_put_point(store + i * RECORD, x, points[i][1], (uint16_t)i);
+    }
 
     uint64_t value = 0;
 

@@ -7,7 +7,7 @@
 #include "vengutari.h"
 
 #define POINTS 3
-#define RECORD 12
+#define RECORD VENGUTARI_POINT_BYTES
 #define ROWS 4
 
 /* One line in one dimension. */
@@ -46,7 +46,7 @@ static void print_answer(const struct found *found)
 /* The answer as a record of 40 bytes. */
 static uint32_t print_record(const struct found *found)
 {
-    uint8_t record[40];
+    uint8_t record[VENGUTARI_ANSWER_BYTES];
     const uint64_t *numbers = found->numbers;
     uint32_t code = vengutari_write_answer(found->vector, 8, numbers[0], numbers[1], (uint32_t)numbers[2], (uint8_t)found->kind,
                                            n, d, scale, record, sizeof record);
@@ -77,13 +77,11 @@ static int refused(uint32_t code)
 
 int main(void)
 {
-    /* Three points with x = 1: two near y = 2, and one far off. A record is x1 to x4, y and the frame number, big-endian. */
-    const uint8_t y[POINTS] = {2, 2, 9};
-    uint8_t store[POINTS * RECORD] = {0};
-    for (int i = 0; i < POINTS; i++) {
-        store[i * RECORD + 1] = 1;
-        store[i * RECORD + 9] = y[i];
-    }
+    /* Three points with x = 1: two near y = 2, and one far off. */
+    const int16_t x[4] = {1, 0, 0, 0}, y[POINTS] = {2, 2, 9};
+    uint8_t store[POINTS * RECORD];
+    for (int i = 0; i < POINTS; i++)
+        vengutari_put_point(store + i * RECORD, x, y[i], 0);
 
     const int16_t start[8] = {0};
     struct found found;

@@ -25,6 +25,14 @@
  *          The loss of a single e, labels and the cost beacon by beacon refuse p = 3 by 4
  * vector   8 numbers, line after line, d each; those after n * d are 0
  * corners  a box, 16 numbers: its low vector, then its high vector
+ *
+ * The records, by the offsets of their fields in bytes; every number of more than one byte is big-endian, its first byte the highest, and
+ * i16 is signed, in two's complement:
+ *   point, 12 bytes    0 x1 i16, 2 x2 i16, 4 x3 i16, 6 x4 i16, 8 y i16, 10 frame number u16
+ *   job, 72 bytes      0 n u8, 1 d u8, 2 S u8, 3 p u8, 4 eps u32 (q where p is 3), 8 t u64, 16 split budget u32, 20 rows of the table u32,
+ *                      24 low vector 8 x i16, 40 high vector 8 x i16, 56 start vector 8 x i16; a store follows it in the input of fit
+ *   answer, 40 bytes   0 vector 8 x i16, 16 cost C u64, 24 bound L u64, 32 split count u32, 36 kind u8 (1 solved, 2 spent, 3 full),
+ *                      37 n u8, 38 d u8, 39 S u8
  */
 #ifndef VENGUTARI_H
 #define VENGUTARI_H
@@ -42,6 +50,12 @@ extern "C" {
 /* The number of a refusal, and where that is 7 the record's. */
 #define VENGUTARI_NUMBER(code) ((code) % 256u)
 #define VENGUTARI_RECORD(code) ((code) / 256u)
+
+/* The bytes of a point record, of a job record and of an answer record, and the most records of a store. */
+#define VENGUTARI_POINT_BYTES 12
+#define VENGUTARI_JOB_BYTES 72
+#define VENGUTARI_ANSWER_BYTES 40
+#define VENGUTARI_MOST_RECORDS 4096
 
 /* The y of a gap, its label, and that of a sample that lies within eps of more than one line. */
 #define VENGUTARI_GAP_Y (-32768)
@@ -134,7 +148,49 @@ uint32_t vengutari_write_line(uint8_t d, uint8_t scale, const int16_t *coordinat
 uint32_t vengutari_read_line(uint8_t d, uint8_t scale, const uint32_t *patterns, size_t patterns_len, int16_t *coordinates,
                              size_t coordinates_len);
 
-/* The version of this header and its library. */
+/* Writes a point record into 12 bytes. x has four numbers, those after the d-th 0; a y of VENGUTARI_GAP_Y makes it a gap. */
+static inline void vengutari_put_point(uint8_t *record, const int16_t *x, int16_t y, uint16_t frame)
+{
+    size_t k;
+    for (k = 0; k < 6; k++) {
+        const uint16_t field = k < 4 ? (uint16_t)x[k] : k == 4 ? (uint16_t)y : frame;
+        record[2 * k] = (uint8_t)(field >> 8);
+        record[2 * k + 1] = (uint8_t)(field & 255u);
+    }
+}
+
+/* What an answer record says. */
+struct vengutari_answer {
+    int16_t vector[8];
+    uint64_t cost, bound;
+    uint32_t count;
+    uint8_t kind, n, d, scale;
+};
+
+/* Reads 40 bytes as they stand; nothing is checked, as vengutari_read_answer does. */
+static inline struct vengutari_answer vengutari_get_answer(const uint8_t *record)
+{
+    struct vengutari_answer answer;
+    size_t k;
+    answer.cost = answer.bound = 0;
+    answer.count = 0;
+    for (k = 0; k < 8; k++) {
+        const int32_t field = (int32_t)record[2 * k] * 256 + (int32_t)record[2 * k + 1];
+        answer.vector[k] = (int16_t)(field < 32768 ? field : field - 65536);
+        answer.cost = answer.cost * 256u + record[16 + k];
+        answer.bound = answer.bound * 256u + record[24 + k];
+    }
+    for (k = 0; k < 4; k++)
+        answer.count = answer.count * 256u + record[32 + k];
+    answer.kind = record[36];
+    answer.n = record[37];
+    answer.d = record[38];
+    answer.scale = record[39];
+    return answer;
+}
+
+/* The version of this header and its library. The shared library's name ends in the number that goes up where a program that was linked
+ * before would no longer run: libvengutari.so.0. */
 #define VENGUTARI_VERSION "0.1.0"
 
 static inline const char *vengutari_version(void)

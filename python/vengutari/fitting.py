@@ -3,6 +3,7 @@
 from dataclasses import dataclass, field
 from fractions import Fraction
 from functools import cached_property
+from typing import NamedTuple
 
 from . import library as calls
 from . import proposal, result, run, scaling
@@ -16,7 +17,16 @@ from .settings import Settings
 ROUNDING_PART = 4
 
 
-@dataclass
+class Line(NamedTuple):
+    """A line that was found: its equation, its coefficients by their columns in the user's units, its points and their RMS."""
+
+    equation: str
+    coefficients: dict
+    points: int
+    rms: float
+
+
+@dataclass(repr=False)
 class Fit:
     """A certified fit: what was searched, the answer, and what each row is by it."""
 
@@ -42,8 +52,41 @@ class Fit:
     def vector(self):
         return self.outcome.answer.vector
 
+    def __repr__(self):
+        return f"<Fit {self.answer.kind}, gap {result.gap_text(self.answer)}: {'; '.join(line.equation for line in self.lines)}>"
+
+    @property
+    def kind(self):
+        """solved, spent or full."""
+        return self.answer.kind
+
+    @property
+    def lines(self):
+        """The lines, each with its equation, coefficients, points and RMS."""
+        made = []
+        for j in range(self.model.n):
+            values = {column.name: float(value) for column, value in zip(self.scaling.x, self.line(j))}
+            residuals = result.residuals_of(self, j)
+            made.append(Line(result.equation(self.scaling, self.vector, j), values, len(residuals), result.root_mean_square(residuals)))
+        return made
+
+    @property
+    def certificate(self):
+        """The certificate in a sentence."""
+        return result.certificate(self)
+
+    def summary(self):
+        """What the command prints."""
+        return result.summary(self)
+
+    def as_dictionary(self):
+        """Everything about the fit, as the command's JSON has it."""
+        from .saved import as_dictionary
+
+        return as_dictionary(self)
+
     def line(self, j):
-        """The coefficients of a line, in the user's units."""
+        """The coefficients of a line, in the user's units, exactly."""
         return self.scaling.line(self.vector, j)
 
     @cached_property

@@ -8,12 +8,11 @@ A coefficient w of the records stands for w / 2^S, where S is the scale. Boxes, 
 costs are given and printed in those units, the units of the points; --integers takes them as they stand in
 the records. Nothing is rounded on the way in: a number that is no multiple of 1 / 2^S is refused.
 
-The points are a CSV file, one point a line: x1 to xd, y and, if wanted, a frame number. A first line of
-column names (x1 .. x4, y, frame) may put them in another order. Fields are whole numbers of 16 bits; where y is
+The points are a file of columns, as fit reads it, one point a line: x1 to xd, y and, if wanted, a frame number. A first
+line of column names (x1 .. x4, y, frame) may put them in another order. Fields are whole numbers of 16 bits; where y is
 empty, or -32768, the board took no sample: a gap.
 """
 
-import csv
 import re
 import struct
 import subprocess
@@ -22,14 +21,13 @@ from fractions import Fraction
 from .library import ANSWER_BYTES, GAP_Y, KINDS, LARGEST_EPSILON, LOSSES, MESSAGES, MOST_RECORDS, SPOILED
 from .outputs import Outputs, say
 from .decimals import NO_SAMPLE, shown
-from .points import read_bytes
+from .points import read_bytes, read_table
 from .problems import BadUse
 
 MOST_ROWS = 2048
 LONGEST_NUMBER = 60
 LARGEST_COST = 1_152_921_367_167_897_600
 
-COLUMNS = ("x1", "x2", "x3", "x4", "y", "frame")
 # A loss by its name or its number.
 NAMED_LOSSES = {**LOSSES, **{str(p): p for p in LOSSES.values()}}
 # Those of an answer: a limit on spoiled samples too, which a job has in place of loss and threshold.
@@ -37,10 +35,6 @@ ANSWERED_LOSSES = {**NAMED_LOSSES, "spoiled": SPOILED, str(SPOILED): SPOILED}
 SOLVED = "no vector of the box costs less than the bound, and the cost is within the tolerance of it"
 # Why a search ended before it was solved.
 ENDS = {"spent": "the split budget is used up", "full": "the table has no row left"}
-
-
-class BadInput(BadUse):
-    """Something that the user can put right, said in a sentence."""
 
 
 # Numbers
@@ -53,16 +47,16 @@ def number(text, what):
             raise ValueError
         return Fraction(text.strip())
     except (ValueError, ZeroDivisionError):
-        raise BadInput(f"{what}: '{text[:LONGEST_NUMBER]}' is not a number") from None
+        raise BadUse(f"{what}: '{text[:LONGEST_NUMBER]}' is not a number") from None
 
 
 def whole(text, what, low, high):
     """A whole number within limits."""
     if not re.fullmatch(r"[+-]?[0-9]+", text.strip()) or len(text) > LONGEST_NUMBER:
-        raise BadInput(f"{what}: '{text[:LONGEST_NUMBER]}' is not a whole number")
+        raise BadUse(f"{what}: '{text[:LONGEST_NUMBER]}' is not a whole number")
     value = int(text)
     if not low <= value <= high:
-        raise BadInput(f"{what}: {value} is not from {low} to {high}")
+        raise BadUse(f"{what}: {value} is not from {low} to {high}")
     return value
 
 
@@ -71,7 +65,7 @@ def on_grid(value, unit, what):
     count = value / unit
     if count.denominator != 1:
         below = (count.numerator // count.denominator) * unit
-        raise BadInput(
+        raise BadUse(
             f"{what}: {shown(value)} is no multiple of {shown(unit)}; "
             f"the nearest are {shown(below)} and {shown(below + unit)}"
         )
@@ -86,55 +80,40 @@ def cost_unit(scale, loss):
 # Points
 
 
-def read_points(lines, dimensions, name="points"):
-    """The points of a CSV file as tuples (x1 .. x4, y, frame)."""
-    points = []
-    columns = None
-    reader = csv.reader(lines)
-    for row in reader:
-        if not any(field.strip() for field in row):
-            continue
-        place = f"{name}, line {reader.line_num}"
-        if columns is None:
-            columns = column_names(row, dimensions, name)
-            if is_header(row):
-                continue
+def read_points(table, dimensions):
+    """The points of a table as tuples (x1 .. x4, y, frame)."""
+    if len(table.rows) > MOST_RECORDS:
+        raise BadUse(f"{table.name}: {len(table.rows)} points, but a store has at most {MOST_RECORDS}")
+    columns = column_names(table, dimensions)
+    for row, place in zip(table.rows, table.places):
         if len(row) != len(columns):
-            raise BadInput(f"{place}: {len(row)} fields where {len(columns)} are due")
-        points.append(read_point(row, columns, dimensions, len(points), place))
-    if not points:
-        raise BadInput(f"{name}: no points")
-    if len(points) > MOST_RECORDS:
-        raise BadInput(f"{name}: {len(points)} points, but a store has at most {MOST_RECORDS}")
-    return points
+            raise BadUse(f"{table.name}, line {place}: {len(row)} fields where {len(columns)} are due")
+    return [read_point(row, columns, dimensions, k, f"{table.name}, line {place}") for k, (row, place) in enumerate(zip(table.rows, table.places))]
 
 
-def is_header(row):
-    return any(field.strip().lower() in COLUMNS for field in row)
-
-
-def column_names(row, dimensions, name):
+def column_names(table, dimensions):
+    """What each column is: by its name in a header, or by its place."""
     needed = [f"x{k}" for k in range(1, dimensions + 1)] + ["y"]
-    if is_header(row):
-        columns = [field.strip().lower() for field in row]
+    if table.header:
+        columns = [field.lower() for field in table.names]
         for column in needed:
             if column not in columns:
-                raise BadInput(f"{name}: no column {column}, which {dimensions} dimensions need")
+                raise BadUse(f"{table.name}: no column {column}, which {dimensions} dimensions need")
         for column in columns:
             if column not in needed + ["frame"] or columns.count(column) > 1:
-                raise BadInput(f"{name}: column '{column}' is unknown, unused or named twice")
+                raise BadUse(f"{table.name}: column '{column}' is unknown, unused or named twice")
         return columns
-    if len(row) == len(needed):
+    if len(table.names) == len(needed):
         return needed
-    if len(row) == len(needed) + 1:
+    if len(table.names) == len(needed) + 1:
         return needed + ["frame"]
-    raise BadInput(f"{name}: {len(row)} columns, but {dimensions} dimensions need {', '.join(needed)} and perhaps frame")
+    raise BadUse(f"{table.name}: {len(table.names)} columns, but {dimensions} dimensions need {', '.join(needed)} and perhaps frame")
 
 
 def read_point(row, columns, dimensions, record, place):
     field = dict(zip(columns, row))
     x = [whole(field[f"x{k}"], f"{place}, x{k}", -32768, 32767) for k in range(1, dimensions + 1)]
-    gap = field["y"].strip().lower() in NO_SAMPLE
+    gap = field["y"].lower() in NO_SAMPLE
     y = GAP_Y if gap else whole(field["y"], f"{place}, y", -32768, 32767)
     frame = whole(field["frame"], f"{place}, frame", 0, 65535) if "frame" in field else record
     return (*x, *[0] * (4 - dimensions), y, frame)
@@ -153,14 +132,14 @@ def split_list(text, count, what):
     if len(values) == 1:
         values *= count
     if len(values) != count:
-        raise BadInput(f"{what}: {len(values)} values where {count} coordinates need 1 or {count}")
+        raise BadUse(f"{what}: {len(values)} values where {count} coordinates need 1 or {count}")
     return values
 
 
 def coordinate(text, unit, what):
     w = on_grid(number(text, what), unit, what)
     if not -32768 <= w <= 32767:
-        raise BadInput(f"{what}: {text} is outside {shown(-32768 * unit)} to {shown(32767 * unit)}, the range of the scale")
+        raise BadUse(f"{what}: {text} is outside {shown(-32768 * unit)} to {shown(32767 * unit)}, the range of the scale")
     return w
 
 
@@ -169,11 +148,11 @@ def read_box(text, used, unit):
     for k, side in enumerate(split_list(text, used, "--box"), 1):
         ends = side.split(":")
         if len(ends) != 2:
-            raise BadInput(f"--box: '{side}' is not LOW:HIGH")
+            raise BadUse(f"--box: '{side}' is not LOW:HIGH")
         low.append(coordinate(ends[0], unit, f"--box, coordinate {k}, low"))
         high.append(coordinate(ends[1], unit, f"--box, coordinate {k}, high"))
         if low[-1] > high[-1]:
-            raise BadInput(f"--box, coordinate {k}: low {ends[0]} is over high {ends[1]}")
+            raise BadUse(f"--box, coordinate {k}: low {ends[0]} is over high {ends[1]}")
     return low, high
 
 
@@ -185,7 +164,7 @@ def read_start(text, low, high, unit):
     for k, value in enumerate(split_list(text, len(low), "--start")):
         w = coordinate(value, unit, f"--start, coordinate {k + 1}")
         if not low[k] <= w <= high[k]:
-            raise BadInput(f"--start, coordinate {k + 1}: {value} is outside the box")
+            raise BadUse(f"--start, coordinate {k + 1}: {value} is outside the box")
         start.append(w)
     return start
 
@@ -194,7 +173,7 @@ def read_epsilon(text, unit, loss):
     epsilon = on_grid(number(text, "--epsilon"), unit, "--epsilon")
     least = 0 if loss == 0 else 1
     if not least <= epsilon <= LARGEST_EPSILON:
-        raise BadInput(
+        raise BadUse(
             f"--epsilon: {text} is not from {shown(least * unit)} to {shown(LARGEST_EPSILON * unit)}, "
             "the range of the scale and loss"
         )
@@ -205,11 +184,11 @@ def read_loss(options, unit):
     """The loss and its threshold, or in their place the number of samples that may be spoiled."""
     if options.spoiled is None:
         if options.loss is None or options.epsilon is None:
-            raise BadInput("--loss, --epsilon: both are needed, or --spoiled in place of both")
+            raise BadUse("--loss, --epsilon: both are needed, or --spoiled in place of both")
         loss = NAMED_LOSSES[options.loss]
         return loss, read_epsilon(options.epsilon, unit, loss)
     if options.loss is not None or options.epsilon is not None:
-        raise BadInput("--spoiled: takes the place of --loss and --epsilon; give the one or the two")
+        raise BadUse("--spoiled: takes the place of --loss and --epsilon; give the one or the two")
     return SPOILED, whole(options.spoiled, "--spoiled", 0, MOST_RECORDS - 1)
 
 
@@ -218,7 +197,7 @@ def read_tolerance(text, unit):
     t = number(text, "--tolerance") / unit
     t = t.numerator // t.denominator
     if not 0 <= t < 2**64:
-        raise BadInput(f"--tolerance: {text} is negative or needs more than 64 bits")
+        raise BadUse(f"--tolerance: {text} is negative or needs more than 64 bits")
     return t
 
 
@@ -227,7 +206,7 @@ def job_of(options):
     n = whole(options.lines, "--lines", 1, 4)
     d = whole(options.dimensions, "--dimensions", 1, 4)
     if n * d > 8:
-        raise BadInput(f"--lines, --dimensions: {n} lines of {d} are {n * d} coordinates, but at most 8 are taken")
+        raise BadUse(f"--lines, --dimensions: {n} lines of {d} are {n * d} coordinates, but at most 8 are taken")
     scale = whole(options.scale, "--scale", 0, 15)
     unit = Fraction(1) if options.integers else Fraction(1, 2**scale)
     loss, epsilon = read_loss(options, unit)
@@ -261,10 +240,10 @@ def run_fit(program, data):
     try:
         done = subprocess.run([program], input=data, stdout=subprocess.PIPE, check=False)
     except OSError as error:
-        raise BadInput(f"--fit: {program}: {error.strerror}") from None
+        raise BadUse(f"--fit: {program}: {error.strerror}") from None
     line = done.stdout.decode("ascii", "replace")
     if not line.endswith("\n"):
-        raise BadInput(f"--fit: {program} wrote no whole line (status {done.returncode})")
+        raise BadUse(f"--fit: {program} wrote no whole line (status {done.returncode})")
     return line.rstrip("\n")
 
 
@@ -280,24 +259,24 @@ def parse_line(line):
         answer = {name: int(fields[name]) for name in ("cost", "bound", "splits", "open", "peak")}
         return {"kind": words[0], "w": [int(w) for w in fields["w"].split(",")], **answer}
     except ValueError:
-        raise BadInput(f"not a line of fit: '{line}'") from None
+        raise BadUse(f"not a line of fit: '{line}'") from None
 
 
 def decode_answer(data):
     """The fields of an answer record, as parse_line has them, with n, d and S."""
     if len(data) != ANSWER_BYTES:
-        raise BadInput(f"an answer record has {ANSWER_BYTES} bytes, this has {len(data)}")
+        raise BadUse(f"an answer record has {ANSWER_BYTES} bytes, this has {len(data)}")
     *vector, cost, bound, count, kind, n, d, scale = struct.unpack(">8hQQI4B", data)
     if kind not in KINDS:
-        raise BadInput(f"answer record: kind {kind} is not 1, 2 or 3")
+        raise BadUse(f"answer record: kind {kind} is not 1, 2 or 3")
     if not (1 <= n <= 4 and 1 <= d <= 4 and n * d <= 8):
-        raise BadInput(f"answer record: {n} lines of {d} dimensions are out of range")
+        raise BadUse(f"answer record: {n} lines of {d} dimensions are out of range")
     if scale > 15:
-        raise BadInput(f"answer record: scale {scale} is over 15")
+        raise BadUse(f"answer record: scale {scale} is over 15")
     if any(vector[n * d :]):
-        raise BadInput("answer record: an unused coordinate is not 0")
+        raise BadUse("answer record: an unused coordinate is not 0")
     if bound > cost or cost > LARGEST_COST:
-        raise BadInput("answer record: the bound is over the cost, or the cost over its limit")
+        raise BadUse("answer record: the bound is over the cost, or the cost over its limit")
     fields = {"kind": KINDS[kind], "cost": cost, "bound": bound, "splits": count, "w": vector[: n * d]}
     return {**fields, "n": n, "d": d, "S": scale}
 
@@ -332,18 +311,14 @@ def report(answer, d, scale, loss):
 
 def command_job(options):
     if options.output is None and options.fit is None:
-        raise BadInput("nothing to do: give --output FILE, --fit PATH or both")
+        raise BadUse("nothing to do: give --output FILE, --fit PATH or both")
     outputs = Outputs([options.points], options.force)
     if options.output is not None:
         outputs.check("--output", options.output)
     job = job_of(options)
-    try:
-        text = read_bytes(options.points).decode("utf-8-sig")
-    except UnicodeDecodeError:
-        raise BadInput(f"{options.points}: not a text file") from None
-    points = read_points(text.splitlines(), job["d"], options.points)
+    points = read_points(read_table(options.points), job["d"])
     if job["p"] == SPOILED and job["epsilon"] >= len(points):
-        raise BadInput(f"--spoiled: {job['epsilon']} is not below the number of points, {len(points)}")
+        raise BadUse(f"--spoiled: {job['epsilon']} is not below the number of points, {len(points)}")
     data = job_bytes(job) + store_bytes(points)
     if options.output is not None:
         outputs.write("--output", data)
@@ -355,7 +330,7 @@ def command_job(options):
         say(f"refused {answer['refused']}, {reason}\n")
         return 1
     if len(answer["w"]) != job["n"] * job["d"]:
-        raise BadInput(f"--fit: {options.fit} gave {len(answer['w'])} coordinates where {job['n'] * job['d']} are due")
+        raise BadUse(f"--fit: {options.fit} gave {len(answer['w'])} coordinates where {job['n'] * job['d']} are due")
     say(report(answer, job["d"], job["S"], job["p"]) + "\n")
     return 0 if answer["kind"] == "solved" else 3
 

@@ -10,7 +10,11 @@ import sys
 import tempfile
 from collections import namedtuple
 
-from .problems import BadInput, BadUse, Refused
+from .problems import BadInput, Refused
+
+SHARED = "libvengutari.so"
+# The number goes up where a program that was linked before would no longer run.
+SONAME = "libvengutari.so.0"
 
 RECORD_BYTES = 12
 BEACON_RECORDS = 19
@@ -216,17 +220,19 @@ class Library:
 
 
 def find():
-    """The shared library: by VENGUTARI_LIBRARY, as installed beside the package, or of the source tree."""
+    """The shared library: by VENGUTARI_LIBRARY, as installed in or beside the package, or of the source tree."""
     named = os.environ.get("VENGUTARI_LIBRARY")
     if named:
         return Library(named)
     package = pathlib.Path(__file__).resolve().parent
-    installed = package.parents[2] / "libvengutari.so"
+    if (package / SHARED).exists():
+        return Library(package / SHARED)
+    installed = package.parents[2] / SHARED
     if package.parent.parent.name == "vengutari" and installed.exists():
         return Library(installed)
     archive = package.parents[1] / "target" / "staticlib" / "libcapi.a"
     if archive.exists():
-        return Library(linked(archive, package.parents[1] / "target" / "libvengutari.so"))
+        return Library(linked(archive, package.parents[1] / "target" / SHARED))
     known = ctypes.util.find_library("vengutari")
     if known:
         return Library(known)
@@ -243,7 +249,7 @@ def linked(archive, shared):
     try:
         with tempfile.TemporaryDirectory(dir=shared.parent) as folder:
             made = pathlib.Path(folder) / shared.name
-            words = ["cc", "-shared", "-Wl,-z,text", "-Wl,-z,defs", "-Wl,-soname,libvengutari.so", "-o", str(made)]
+            words = ["cc", "-shared", "-Wl,-z,text", "-Wl,-z,defs", f"-Wl,-soname,{SONAME}", "-o", str(made)]
             words += ["-Wl,--whole-archive", str(archive), "-Wl,--no-whole-archive"]
             done = subprocess.run(words, capture_output=True, text=True, check=False)
             if done.returncode != 0:

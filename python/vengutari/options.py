@@ -216,17 +216,6 @@ def joined(words):
 # Settings
 
 
-def values_each(values, settings, what):
-    """One value for each coefficient of a line, the same for all lines, or one for each coefficient of each line."""
-    if len(values) == settings.d:
-        values = values * settings.lines
-    if len(values) != settings.d * settings.lines:
-        each = f"{settings.d} coefficients a line" + (", the offset last" if settings.offset else "")
-        more = f" or {settings.d * settings.lines}" if settings.lines > 1 else ""
-        raise BadUse(f"{what}: {len(values)} values where there are {each}: give {settings.d}{more}")
-    return values
-
-
 def settings_of(options):
     """The settings of a fit, in the user's units."""
     if options.spoiled is not None and options.loss is not None:
@@ -241,9 +230,9 @@ def settings_of(options):
     )
     check_shape(made)
     if options.box is not None:
-        sides = values_each(options.box, made, "--box")
+        sides = made.each(options.box, "--box")
         made.box = [low for low, _ in sides], [high for _, high in sides]
     if options.start is not None:
-        made.start = values_each(options.start, made, "--start")
+        made.start = made.each(options.start, "--start")
     made.check()
     return made

@@ -67,6 +67,16 @@ class Settings:
         """The x at which the user's own offsets are a line's y."""
         return self.origin or [Fraction(0)] * len(self.x)
 
+    def each(self, values, what):
+        """One value for each coefficient of a line, the same for all lines, or one for each coefficient of each line."""
+        if len(values) == self.d:
+            values = values * self.lines
+        if len(values) != self.d * self.lines:
+            each = f"{self.d} coefficients a line" + (", the offset last" if self.offset else "")
+            more = f" or {self.d * self.lines}" if self.lines > 1 else ""
+            raise BadUse(f"{what}: {len(values)} values where there are {each}: give {self.d}{more}")
+        return values
+
     def check(self):
         """What can be said without the points."""
         check_shape(self)

@@ -13,6 +13,8 @@ sys.path.insert(0, str(ROOT / "python"))
 
 from vengutari import jobs as vengutari  # noqa: E402
 from vengutari.options import parser  # noqa: E402
+from vengutari.points import table_of  # noqa: E402
+from vengutari.problems import BadInput  # noqa: E402
 
 TOOL = str(ROOT / "tools" / "vengutari")
 
@@ -42,10 +44,10 @@ def job(*words):
 
 class Points(unittest.TestCase):
     def read(self, text, dimensions):
-        return vengutari.read_points(text.splitlines(), dimensions)
+        return vengutari.read_points(table_of(text, "points"), dimensions)
 
     def refused(self, text, dimensions, words):
-        with self.assertRaises(vengutari.BadInput) as caught:
+        with self.assertRaises(BadInput) as caught:
             self.read(text, dimensions)
         self.assertIn(words, str(caught.exception))
 
@@ -69,8 +71,8 @@ class Points(unittest.TestCase):
         self.refused(",2\n", 1, "x1: '' is not a whole number")
 
     def test_bad_files(self):
-        self.refused("", 1, "no points")
-        self.refused("x1,y\n", 1, "no points")
+        self.refused("", 1, "points: no rows")
+        self.refused("x1,y\n", 1, "a header and no rows")
         self.refused("1\n", 1, "1 columns")
         self.refused("1,2,3,4\n", 1, "4 columns")
         self.refused("x1,y\n1,2,3\n", 1, "line 2: 3 fields where 2 are due")
@@ -78,8 +80,9 @@ class Points(unittest.TestCase):
         self.refused("x1,x2,y\n1,2,3\n", 1, "column 'x2' is unknown, unused or named twice")
         self.refused("x1,y,y\n1,2,3\n", 1, "named twice")
         self.refused("1,2\n1,1.5\n", 1, "line 2, y: '1.5' is not a whole number")
-        self.refused("one,2\n", 1, "line 1, x1: 'one' is not a whole number")
-        self.refused("1_0,2\n", 1, "not a whole number")
+        self.refused("1,2\none,2\n", 1, "line 2, x1: 'one' is not a whole number")
+        self.refused("one,2\n1,2\n", 1, "no column x1")
+        self.refused("1,2\n1_0,2\n", 1, "not a whole number")
         self.refused("32768,2\n", 1, "x1: 32768 is not from -32768 to 32767")
         self.refused("1,2,-1\n", 1, "frame: -1 is not from 0 to 65535")
         self.refused("1,2\n" * 4097, 1, "4097 points")
@@ -92,7 +95,7 @@ class Points(unittest.TestCase):
 
 class Jobs(unittest.TestCase):
     def refused(self, words, *changed):
-        with self.assertRaises(vengutari.BadInput) as caught:
+        with self.assertRaises(BadInput) as caught:
             job(*changed)
         self.assertIn(words, str(caught.exception))
 
@@ -161,7 +164,7 @@ class Answers(unittest.TestCase):
         return struct.pack(">8hQQI4B", *w, *fields.values())
 
     def refused(self, data, words):
-        with self.assertRaises(vengutari.BadInput) as caught:
+        with self.assertRaises(BadInput) as caught:
             vengutari.decode_answer(data)
         self.assertIn(words, str(caught.exception))
 
@@ -204,7 +207,7 @@ class Answers(unittest.TestCase):
         self.assertEqual(vengutari.parse_line(FIT_G_LINE), expected)
         self.assertEqual(vengutari.parse_line("refused 5"), {"refused": 5})
         for line in ("", "solved", "refused", "refused x", "solved cost=2", FIT_G_LINE.replace("w=2", "w=")):
-            with self.assertRaises(vengutari.BadInput):
+            with self.assertRaises(BadInput):
                 vengutari.parse_line(line)
 
 
@@ -234,7 +237,7 @@ class Command(unittest.TestCase):
         target = self.folder / "fit.in"
         done = command("job", str(self.points), *FIT_G, "--output", str(target))
         self.assertEqual((done.returncode, done.stdout, done.stderr), (0, b"", b""))
-        points = vengutari.read_points(FIT_G_POINTS.splitlines(), 1)
+        points = vengutari.read_points(table_of(FIT_G_POINTS, "points"), 1)
         self.assertEqual(target.read_bytes(), vengutari.job_bytes(job()) + vengutari.store_bytes(points))
         piped = command("job", "-", *FIT_G, "--output", "-", stdin=FIT_G_POINTS.encode())
         self.assertEqual(piped.stdout, target.read_bytes())
@@ -254,9 +257,9 @@ class Command(unittest.TestCase):
         self.assertEqual((done.returncode, done.stdout), (1, b"refused 8, table: no row, or more rows than allowed\n"))
 
     def test_messages(self):
-        def message(words, *given):
+        def message(words, *given, status=2):
             done = command(*given)
-            self.assertEqual((done.returncode, done.stdout), (2, b""))
+            self.assertEqual((done.returncode, done.stdout), (status, b""))
             self.assertTrue(done.stderr.startswith(b"vengutari: "), done.stderr)
             self.assertEqual(done.stderr.count(b"\n"), 1)
             self.assertIn(words, done.stderr.decode())
@@ -270,8 +273,8 @@ class Command(unittest.TestCase):
         two = FIT_G_LINE + ",3\n"
         message("gave 2 coordinates where 1", "job", points, *FIT_G, "--fit", self.fit_that_writes(two))
         message("this has 3", "answer", str(self.short_record()))
-        self.points.write_bytes(b"\xff\xfe\x00")
-        message("not a text file", "job", points, *FIT_G, "--output", "-")
+        self.points.write_bytes(b"\x01\xfe\x00")
+        message("not a text file", "job", points, *FIT_G, "--output", "-", status=1)
 
     def short_record(self):
         path = self.folder / "short"

@@ -1,4 +1,4 @@
-"""The commands on files from before, the limits of a search, the wide search, the user's own box, and the Python interface."""
+"""The commands on files from before, the limits of a search, the wide search, the user's own box, and the calls of the library."""
 
 import ctypes
 import json
@@ -10,7 +10,6 @@ from fractions import Fraction
 
 from made_points import Made, run, store_of
 
-import vengutari
 from vengutari import fitting, library, points, scaling
 from vengutari.problems import Refused
 from vengutari.settings import Limits, Settings
@@ -218,14 +217,6 @@ class Ends(unittest.TestCase):
 
 
 class Interface(unittest.TestCase):
-    def test_fit_from_python(self):
-        with tempfile.TemporaryDirectory() as folder:
-            path = pathlib.Path(folder) / "points.csv"
-            path.write_text(TWO.text(), encoding="utf-8")
-            for x in ("x1", ["x1"]):
-                found = vengutari.fit(path, x=x, y="y", lines=2, epsilon=3)
-                self.assertIn("solved", vengutari.summary(found))
-
     def test_calls(self):
         """Every call once, on the paper's fits and on values by hand."""
         calls = library.find()
@@ -257,6 +248,11 @@ class Interface(unittest.TestCase):
         self.assertEqual(calls.write_line(1, 1, [-3]), [0xBFC00000, 0, 0, 0])
         self.assertEqual(calls.read_line(1, 1, [0xBFC00000, 0, 0, 0]), [-3])
         self.assertEqual(calls.take_in(bytes(24), 12, store[:12]), (bytes(12) + store[:12], 24))
+        self.assertEqual(calls.merge(store[:12] + store[24:], store[12:24]), store)
+        self.assertEqual([calls.merge(store, b""), calls.merge(b"", store)], [store, store])
+        with self.assertRaises(Refused) as caught:
+            calls.merge(store[:12], b"\0\2" + store[2:12])
+        self.assertEqual(caught.exception.number, 16)
 
     def test_stray_record(self):
         """Refusal 7 names the record, the first and the last of a store among them, from every call that makes it."""
