@@ -95,7 +95,7 @@ def table_fit(data, x, y, rows, every, given):
     if hasattr(data, "read"):
         text = data.read()
         name = str(getattr(data, "name", "file"))
-        table = points.table_of(text if isinstance(text, str) else points.text_of(bytes(text), name), name)
+        table = points.table_of_bytes(text.encode("utf-8") if isinstance(text, str) else bytes(text), name)
     elif isinstance(data, (str, os.PathLike)):
         table = points.read_table(os.fspath(data))
     else:

@@ -65,6 +65,7 @@ def run_command(words, stop):
 
         words = with_config(words)
     options = parser().parse_args(words)
+    options.words = words
     if options.command == "fit" and (len(options.data) > 1 or options.summary):
         from .many import command_many
 

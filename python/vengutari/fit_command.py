@@ -1,12 +1,14 @@
 """The command fit: the answer on the screen first, then each file by itself."""
 
+import shlex
+
 from . import fitting, library, points, result, run, saved
 from .command import NOT_SOLVED, REFUSED, SOLVED, WARNED, complain
 from .options import settings_of
 from .outputs import Outputs, say, tell
 from .problems import Error
 
-FILES = ("json", "labels", "coefficients", "record", "report")
+FILES = ("json", "labels", "coefficients", "record", "report", "picture")
 
 
 def labels_text(table, rows):
@@ -17,7 +19,20 @@ def labels_text(table, rows):
     return points.with_columns(table, ["label", "fitted", "residual"], [label, fitted, residual])
 
 
-def made_files(calls, table, found):
+def picture_of(found, path):
+    """The pictures as SVG, or as PNG where the name ends so."""
+    from .picture import figure
+    from .pictures import Pictures
+
+    drawing = figure(Pictures(found).all())
+    if not path.lower().endswith(".png"):
+        return drawing
+    from .raster import png
+
+    return png(drawing)
+
+
+def made_files(options, calls, table, found):
     """What each output is made by; nothing is made that is not asked for."""
     def coefficients():
         from .coefficients import text
@@ -34,6 +49,7 @@ def made_files(calls, table, found):
         "--coefficients": coefficients,
         "--record": lambda: calls.write_answer(found.answer, found.model.n, found.model.d, found.model.scale),
         "--report": report,
+        "--picture": lambda: picture_of(found, options.picture),
         "--json": lambda: saved.as_json(found),
     }
 
@@ -59,6 +75,10 @@ def checked_outputs(options):
     for name in FILES:
         if getattr(options, name) is not None:
             outputs.check(f"--{name}", getattr(options, name))
+    if options.picture is not None and options.picture.lower().endswith(".png"):
+        from .raster import program_here
+
+        program_here()
     return outputs
 
 
@@ -66,7 +86,9 @@ def fit_file(options, progress, stop):
     """The fit of the one file that is given, and its table."""
     calls = library.find()
     table = points.read_table(options.data[0]).part(*options.rows, options.every)
-    return calls, table, fitting.fit_table(calls, table, settings_of(options), progress, stop)
+    found = fitting.fit_table(calls, table, settings_of(options), progress, stop)
+    found.command = shlex.join(["vengutari", *options.words])
+    return calls, table, found
 
 
 def status_of(options, found):
@@ -82,7 +104,7 @@ def command_fit(options, stop):
     taken = "-" in outputs.paths.values()
     text = result.summary(found)
     done = show(text, taken, options.quiet)
-    written = outputs.write_all(made_files(calls, table, found), complain)
+    written = outputs.write_all(made_files(options, calls, table, found), complain)
     if not written and taken and options.quiet:
         tell(text)
     return status_of(options, found) if done and written else REFUSED

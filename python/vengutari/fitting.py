@@ -1,5 +1,7 @@
 """From points to a certified fit: scaling, guess, box, search and labels, one after another."""
 
+import datetime
+import hashlib
 from dataclasses import dataclass, field
 from fractions import Fraction
 from functools import cached_property
@@ -43,6 +45,9 @@ class Fit:
     wide: object = None
     source: str = ""
     warnings: list = field(default_factory=list)
+    date: str = field(default_factory=lambda: datetime.datetime.now().astimezone().isoformat(" ", "seconds"))
+    command: str = None
+    data_sum: str = None
 
     @property
     def answer(self):
@@ -69,6 +74,12 @@ class Fit:
             residuals = result.residuals_of(self, j)
             made.append(Line(result.equation(self.scaling, self.vector, j), values, len(residuals), result.root_mean_square(residuals)))
         return made
+
+    @property
+    def settings_sum(self):
+        """The SHA-256 of all that was asked for and of the box and grid that came of it; the same for the same, whatever the day."""
+        asked = [*sorted(vars(self.settings).items(), key=lambda pair: pair[0]), self.scaling, self.model, self.low, self.high]
+        return hashlib.sha256(repr(asked).encode()).hexdigest()
 
     @property
     def certificate(self):
@@ -258,7 +269,7 @@ def fit_table(library, table, settings, progress=None, stop=None):
     settings.y = name_of(table, settings.y)
     settings.frame = name_of(table, settings.frame) or found_frame(table, [*settings.x, settings.y])
     found = fit(library, read_points(table, settings.x, settings.y, settings.frame), settings, progress, stop)
-    found.source = table.name
+    found.source, found.data_sum = table.name, table.sum
     return found
 
 

@@ -65,7 +65,7 @@ def fit_one(options):
     stop, problems = Interrupts(), []
     try:
         calls, table, found = fit_file(options, None, stop)
-        written = checked_outputs(options).write_all(made_files(calls, table, found), problems.append)
+        written = checked_outputs(options).write_all(made_files(options, calls, table, found), problems.append)
         row = row_of(found, status_of(options, found) if written else REFUSED)
         return {**row, "problem": "; ".join(map(str, problems))}
     except Error as problem:

@@ -163,6 +163,7 @@ def add_outputs(fit):
     files.add_argument("--coefficients", metavar="FILE", help="single-precision coefficients for flight software, read back and compared")
     files.add_argument("--record", metavar="FILE", help="the answer record of 40 bytes")
     files.add_argument("--report", metavar="FILE", help="one HTML page with pictures and the certificate")
+    files.add_argument("--picture", metavar="FILE", help="the pictures of the report: SVG, or PNG where the name ends so")
     files.add_argument("--force", action="store_true", help="write over files that are there")
 
 

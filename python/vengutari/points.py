@@ -5,6 +5,7 @@ header where one of its fields is no number. With semicolons or tabs a decimal c
 """
 
 import csv
+import hashlib
 import io
 import re
 import sys
@@ -19,7 +20,7 @@ FRAME = "frame"
 
 @dataclass
 class Table:
-    """The rows of a file as text, with their line numbers, and with their own numbers from 1."""
+    """The rows of a file as text, with their line numbers, and with their own numbers from 1; sum is the SHA-256 of the file's bytes."""
 
     name: str
     names: list
@@ -28,6 +29,7 @@ class Table:
     places: list
     delimiter: str
     numbers: range = None
+    sum: str = None
 
     def __post_init__(self):
         if self.numbers is None:
@@ -120,8 +122,14 @@ def delimiter_of(line):
     return next((c for c in "\t;," if c in line), ",")
 
 
+def table_of_bytes(data, name):
+    made = table_of(text_of(data, name), name)
+    made.sum = hashlib.sha256(data).hexdigest()
+    return made
+
+
 def read_table(path):
-    return table_of(read_text(path), "standard input" if path == "-" else path)
+    return table_of_bytes(read_bytes(path), "standard input" if path == "-" else path)
 
 
 def table_of(text, name):

@@ -81,7 +81,8 @@ def wide_json(wide):
 def as_dictionary(fit):
     """Everything about a fit."""
     return {
-        "format": FORMAT, "version": __version__, "source": fit.source,
+        "format": FORMAT, "version": __version__, "source": fit.source, "date": fit.date, "command": fit.command,
+        "data_sha256": fit.data_sum, "settings_sha256": fit.settings_sum,
         **answer_json(fit.answer, fit.scaling.cost_unit(fit.model.p)),
         "stopped": fit.outcome.stopped, "seconds": round(fit.outcome.seconds, 3), "certificate": certificate(fit),
         "lines": [line_json(fit, j) for j in range(fit.model.n)],
