@@ -251,7 +251,7 @@ def check_far(model, scales, vector, k, points):
     reach = model.epsilon * scales.y.unit / 2**scales.scale
     for j in range(model.n):
         if abs(points.y.exact(k) - sum(a * v for a, v in zip(scales.line(vector, j), x))) <= reach:
-            raise BadInput(f"row {points.numbers[k]} lies on line {j + 1} but does not fit in 16 bits: give a larger --x-step or --y-step")
+            raise BadInput(f"row {points.numbers[k]} lies on line {j + 1} but does not fit in 16 bits: fit with a larger --x-step or --y-step")
 
 
 def check_count(count):

@@ -10,6 +10,7 @@ A coordinate w of a vector stands for w / 2^S * (step of y) / (step / factor of 
 """
 
 import math
+import statistics
 import struct
 from dataclasses import dataclass
 from fractions import Fraction
@@ -209,12 +210,6 @@ def power_near(ratio):
     return 2 ** max(0, round(math.log2(ratio))) if ratio > 0 else 1
 
 
-def median_size(values):
-    """The upper median of the sizes of numbers other than 0."""
-    ordered = sorted(abs(value) for value in values if value)
-    return ordered[len(ordered) // 2]
-
-
 def check_varies(column, decimals, values, used, offset):
     """A column of which something can be said."""
     if sum(used) == 1 and offset:
@@ -239,7 +234,7 @@ def columns_for(points, settings, notes):
     whole = whole_points(points, Scaling(x, y)).samples()
     for column, decimals, values in zip(x, points.x, whole.x):
         check_varies(column, decimals, values, used, settings.offset)
-    middles = [median_size(values) for values in whole.x]
+    middles = [statistics.median_high(abs(value) for value in values if value) for values in whole.x]
     common = max(LEAST_SIZE, *middles)
     for column, values, middle in zip(x, whole.x, middles):
         column.factor = power_near(common / middle)

@@ -62,6 +62,15 @@ class FarFromZero(Files):
                 for v in (x[0], x[-1]):
                     self.assertLess(abs(float(slope * Fraction(v) + offset) - line(v)), noise)
                 self.shown(out, found, [x[0], x[-1]], epsilon)
+                self.exact(found)
+
+    def exact(self, found):
+        """The cost is that of the lines as they are given and of the samples as they stand in the file, to the last digit."""
+        slope, offset = (Fraction(value) for value in found["lines"][0]["exact"].values())
+        unit = Fraction(found["scaling"]["y"]["step"]) / 2 ** found["scaling"]["scale"]
+        rows = [map(Fraction, row.split(",")) for row in self.data.read_text().splitlines()[1:]]
+        cost = sum(min(abs(y - slope * x - offset), found["settings"]["epsilon_whole"] * unit) ** 2 for x, y in rows)
+        self.assertEqual(cost, found["cost"] * unit**2)
 
     def shown(self, out, found, ends, epsilon):
         """The equation is that line up to its last digit, and the box names the x that its offset is of."""

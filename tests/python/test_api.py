@@ -74,8 +74,9 @@ class Inputs(unittest.TestCase):
         """Numbers of every kind, as they are written; nan and None are gaps."""
         gaps = [float("nan") if y is None else y for y in Y]
         for x in (X, tuple(X), [X], array.array("d", X), Series("raw", X), [Fraction(v) for v in X], [str(v) for v in X]):
-            for y in (Y, array.array("d", gaps), [None if v is None else Decimal(str(v)) for v in Y], Series("current", gaps)):
-                self.same(vengutari.fit(x=x, y=y, **ASKED))
+            self.same(vengutari.fit(x=x, y=Y, **ASKED))
+        for y in (array.array("d", gaps), [None if v is None else Decimal(str(v)) for v in Y], Series("current", gaps)):
+            self.same(vengutari.fit(x=X, y=y, **ASKED))
         self.same(vengutari.fit(x=array.array("f", X), y=array.array("f", gaps), **ASKED))
         self.same(vengutari.fit(x=[Single(v) for v in X], y=[None if v is None else Single(v) for v in Y], **ASKED))
         self.same(vengutari.fit(x=table([[v] for v in X]), y=Y, frame=range(60), **ASKED))

@@ -189,6 +189,13 @@ class Package(unittest.TestCase):
         done = subprocess.run([str(self.prefix / "bin" / "fit")], input=job, capture_output=True, check=True)
         self.assertEqual(done.stdout, (ROOT / "examples" / "fits" / "G.out").read_bytes())
 
+    def test_the_version_is_said_at_once(self):
+        """Without the modules that take long to load."""
+        code = ("import sys; before = set(sys.modules); sys.argv = ['vengutari', '--version']; from vengutari.command import main; main()\n"
+                "print(sorted({'argparse', 'ctypes', 'dataclasses', 'decimal', 'fractions', 'subprocess'} & (set(sys.modules) - before)))")
+        said = self.said(sys.executable, "-c", code, PYTHONPATH=str(ROOT / "python"))
+        self.assertEqual(said, f"vengutari {vengutari.__version__}\n[]\n")
+
     def test_signatures_are_those_of_the_header(self):
         """Python has every call of the header, with the same arguments."""
         kinds = {"uint8_t": ctypes.c_uint8, "uint32_t": ctypes.c_uint32, "uint64_t": ctypes.c_uint64, "int64_t": ctypes.c_int64,
