@@ -47,7 +47,8 @@ def shared_library():
 def contents(made, tag):
     """The files of the wheel by their names."""
     info = f"{made['name']}-{made['version']}.dist-info"
-    files = {f"vengutari/{path.name}": path.read_bytes() for path in sorted(PACKAGE.iterdir()) if path.suffix == ".py" or path.name == "py.typed"}
+    sources = [path for path in sorted(PACKAGE.iterdir()) if path.suffix == ".py" or path.name == "py.typed"]
+    files = {f"vengutari/{path.name}": path.read_bytes() for path in sources}
     files["vengutari/libvengutari.so"] = shared_library()
     scripts = "".join(f"{name} = {place}\n" for name, place in made["scripts"].items())
     files[f"{info}/METADATA"] = metadata(made).encode()

@@ -69,10 +69,12 @@ def settings_of(x, y, frame, given):
         limits.splits = min(library.MOST_SPLITS, whole(given["splits"], "splits", least=0))
     made = Settings(
         x=x, y=y, frame=frame, lines=whole(given["lines"], "lines"), epsilon=checked(exact, given["epsilon"], "epsilon"),
-        spoiled=checked(whole, given["spoiled"], "spoiled"), loss=given["loss"], offset=None if given["offset"] is None else bool(given["offset"]),
+        spoiled=checked(whole, given["spoiled"], "spoiled"), loss=given["loss"],
+        offset=None if given["offset"] is None else bool(given["offset"]),
         x_steps=checked(each, given["x_step"], "x_step", positive=True), y_step=checked(exact, given["y_step"], "y_step", positive=True),
         origin=checked(each, given["origin"], "origin"), scale=checked(whole, given["scale"], "scale"),
-        margin=MARGIN if given["margin"] is None else exact(given["margin"], "margin", positive=True), wide=bool(given["wide"]), limits=limits,
+        margin=MARGIN if given["margin"] is None else exact(given["margin"], "margin", positive=True),
+        wide=bool(given["wide"]), limits=limits,
     )
     made.check()
     if given["box"] is not None:
@@ -124,7 +126,8 @@ def numbers_fit(_, x, y, rows, every, given):
     fitting.check_count(len(counted))
     if not counted:
         raise BadInput("no rows")
-    made = [decimals.decimals_of([decimal_of(value, name) for value in values[chosen]]) for name, values in [*columns.items(), ("y", height)]]
+    made = [decimals.decimals_of([decimal_of(value, name) for value in values[chosen]])
+            for name, values in [*columns.items(), ("y", height)]]
     frames = [number - 1 for number in counted] if frames is None else frames[chosen]
     read = points.points_of(made[:-1], made[-1], frames, [], counted, settings.x)
     found = fitting.fit(library.find(), read, settings)

@@ -57,8 +57,8 @@ def text(library, fit):
     except OverflowError:
         most = 0
     if scaling.shifted and most > scaling.grid(scaling.d - 1) / 2:
-        lines.append(f"# by units a line is off by {digits_of(most, 2)} in the middle of these points, since single precision has too few digits "
-                     "that far from 0: take the numbers by steps")
+        lines.append(f"# by units a line is off by {digits_of(most, 2)} in the middle of these points, since single precision has too few "
+                     "digits that far from 0: take the numbers by steps")
     lines.append("# line, by units: bits, decimal, by steps: bits, decimal, column")
     try:
         for j, column, units, by_steps in entries(library, fit):

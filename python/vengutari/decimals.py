@@ -44,7 +44,7 @@ def number(text, what, decimal_comma=False):
 
 @dataclass
 class Decimals:
-    """The numbers of a column: each is a whole number of 1 / 10^digits, with as few digits as all of them need; None where there is none."""
+    """The numbers of a column: each is a whole number of 1 / 10^digits, with as few digits as they need; None where there is none."""
 
     values: list
     digits: int

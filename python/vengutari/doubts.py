@@ -16,7 +16,8 @@ def outlier_doubts(fit, samples):
     count = fit.labels.count(OUTLIER)
     if count <= MOST_OUTLIERS * samples:
         return []
-    return [f"{count} of {samples} samples are outliers, {100 * count / samples:.0f} percent: epsilon may be too small, or the lines too few"]
+    return [f"{count} of {samples} samples are outliers, {100 * count / samples:.0f} percent: epsilon may be too small, or the lines "
+            "too few"]
 
 
 def line_doubts(fit):
@@ -26,13 +27,13 @@ def line_doubts(fit):
         residuals = [row.residual for row in fit.rows if row.label == j]
         rms = root_mean_square(residuals)
         if len(residuals) < POINTS_EACH * fit.model.d:
-            made.append(f"line {j} has {len(residuals)} point{'' if len(residuals) == 1 else 's'}, fewer than {POINTS_EACH} for each of its "
-                        f"{fit.model.d} coefficients: little can be said of it")
+            made.append(f"line {j} has {len(residuals)} point{'' if len(residuals) == 1 else 's'}, fewer than {POINTS_EACH} for each of "
+                        f"its {fit.model.d} coefficients: little can be said of it")
         elif fit.model.p != SPOILED and rms > epsilon:
             made.append(f"line {j} has an RMS of {digits_of(rms, 3)}, over epsilon, {shown(fit.reach)}: its samples are rounded too much")
         elif fit.model.p != SPOILED and rms < epsilon / LEAST_NOISE:
-            made.append(f"line {j} has an RMS of {digits_of(rms, 3)}, under a tenth of epsilon, {shown(fit.reach)}: a smaller epsilon, 3 to 4 "
-                        "times the RMS, leaves fewer outliers in")
+            made.append(f"line {j} has an RMS of {digits_of(rms, 3)}, under a tenth of epsilon, {shown(fit.reach)}: a smaller epsilon, "
+                        "3 to 4 times the RMS, leaves fewer outliers in")
     return made
 
 

@@ -71,7 +71,7 @@ def show(text, taken, quiet):
 
 def checked_outputs(options):
     """The places of the output files, looked at before the work."""
-    outputs = Outputs(options.data, options.force)
+    outputs = Outputs(getattr(options, "inputs", options.data), options.force)
     for name in FILES:
         if getattr(options, name) is not None:
             outputs.check(f"--{name}", getattr(options, name))

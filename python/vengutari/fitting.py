@@ -207,9 +207,9 @@ def check_rounding(settings, scales, vector=None):
     for j in range(settings.lines if vector else 0):
         for column, value in zip(scales.x, scales.line(vector, j)):
             if abs(value) * column.rounding > most:
-                raise BadInput(f"{column.name} has more digits than 16 bits hold: in steps of {shown(column.step)} it moves line {j + 1} by up "
-                               f"to {digits_of(abs(value) * column.rounding, 2)}, {close}: give a larger --epsilon, a smaller --x-step, "
-                               f"a part of the rows{centred}")
+                raise BadInput(f"{column.name} has more digits than 16 bits hold: in steps of {shown(column.step)} it moves line {j + 1} "
+                               f"by up to {digits_of(abs(value) * column.rounding, 2)}, {close}: give a larger --epsilon, "
+                               f"a smaller --x-step, a part of the rows{centred}")
 
 
 def offset_notes(settings):
@@ -251,7 +251,8 @@ def check_far(model, scales, vector, k, points):
     reach = model.epsilon * scales.y.unit / 2**scales.scale
     for j in range(model.n):
         if abs(points.y.exact(k) - sum(a * v for a, v in zip(scales.line(vector, j), x))) <= reach:
-            raise BadInput(f"row {points.numbers[k]} lies on line {j + 1} but does not fit in 16 bits: fit with a larger --x-step or --y-step")
+            raise BadInput(f"row {points.numbers[k]} lies on line {j + 1} but does not fit in 16 bits: fit with a larger --x-step "
+                           "or --y-step")
 
 
 def check_count(count):

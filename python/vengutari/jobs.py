@@ -88,7 +88,8 @@ def read_points(table, dimensions):
     for row, place in zip(table.rows, table.places):
         if len(row) != len(columns):
             raise BadUse(f"{table.name}, line {place}: {len(row)} fields where {len(columns)} are due")
-    return [read_point(row, columns, dimensions, k, f"{table.name}, line {place}") for k, (row, place) in enumerate(zip(table.rows, table.places))]
+    places = [f"{table.name}, line {place}" for place in table.places]
+    return [read_point(row, columns, dimensions, k, place) for k, (row, place) in enumerate(zip(table.rows, places))]
 
 
 def column_names(table, dimensions):

@@ -29,7 +29,7 @@ def placed(options, path):
     """The options for one file: in the names of output files {} stands for its name."""
     stem = "standard-input" if path == "-" else pathlib.Path(path).stem
     made = {name: getattr(options, name).replace("{}", stem) for name in FILES if getattr(options, name) is not None}
-    return Namespace(**{**vars(options), **made, "data": [path]})
+    return Namespace(**{**vars(options), **made, "data": [path], "inputs": options.data})
 
 
 def check(options):

@@ -101,10 +101,12 @@ def add_fit(commands):
     fit = commands.add_parser("fit", help="fit lines to the points of a file, with a certificate", description=GUIDE,
                               formatter_class=argparse.RawDescriptionHelpFormatter, allow_abbrev=False)
     fit.add_argument("data", metavar="DATA.csv", nargs="+",
-                     help="the points: comma, semicolon or tab between columns; - for standard input; of several files each is fitted by itself")
+                     help="the points: comma, semicolon or tab between columns; - for standard input; of several files each is fitted by "
+                     "itself")
     fit.add_argument("--config", metavar="FILE", help="options from a TOML file, by their names without --; those given here come first")
     points = fit.add_argument_group("points")
-    points.add_argument("--x", required=True, type=names, metavar="COLUMN[,..]", help="the columns that y depends on, by name or number from 1")
+    points.add_argument("--x", required=True, type=names, metavar="COLUMN[,..]",
+                        help="the columns that y depends on, by name or number from 1")
     points.add_argument("--y", required=True, metavar="COLUMN",
                         help="the column to be explained; a row where it or an x is empty is a gap: it costs nothing and is counted")
     points.add_argument("--frame", metavar="COLUMN",
@@ -113,7 +115,8 @@ def add_fit(commands):
     points.add_argument("--every", type=whole(1, 10**9), default=1, metavar="K", help="of these every K-th row, beginning with the first")
     points.add_argument("--x-step", type=several(decimal(positive=True)), metavar="STEP[,..]",
                         help="what x is a multiple of, one for each column (default: found from the data)")
-    points.add_argument("--y-step", type=decimal(positive=True), metavar="STEP", help="what y is a multiple of (default: found from the data)")
+    points.add_argument("--y-step", type=decimal(positive=True), metavar="STEP",
+                        help="what y is a multiple of (default: found from the data)")
     lines = fit.add_argument_group("lines")
     lines.add_argument("--lines", type=whole(1, 4), default=1, metavar="N", help="how many lines, 1 to 4 (default 1)")
     limit = lines.add_mutually_exclusive_group(required=True)
@@ -145,15 +148,18 @@ def add_search(fit):
                      help="the box reaches so many epsilon around the first guess (default 4)")
     box.add_argument("--start", type=several(decimal()), metavar="W[,..]",
                      help="coefficients to start from, line after line (default: the first guess)")
-    box.add_argument("--scale", type=whole(0, 15), metavar="S", help="0 to 15: the grid has steps of 1 / 2^S (default: by epsilon and the box)")
+    box.add_argument("--scale", type=whole(0, 15), metavar="S",
+                     help="0 to 15: the grid has steps of 1 / 2^S (default: by epsilon and the box)")
     box.add_argument("--wide", action="store_true", help="also search a wide box and say whether other lines there fit more points")
     limits = fit.add_argument_group("limits")
-    limits.add_argument("--time-limit", type=decimal(least=0), default="60", metavar="SECONDS", help="for each search (default 60; 0 for none)")
+    limits.add_argument("--time-limit", type=decimal(least=0), default="60", metavar="SECONDS",
+                        help="for each search (default 60; 0 for none)")
     limits.add_argument("--gap", type=decimal(least=0, below=100), default="0", metavar="PERCENT",
                         help="solved when the bound is at most so much below the cost; 0 (default) asks for the first of the best lines")
     limits.add_argument("--table", type=whole(1, MOST_TABLE), metavar="R",
                         help="open boxes kept at most (default: as many as needed, up to half of the free memory)")
-    limits.add_argument("--splits", type=whole(0, MOST_SPLITS), default=MOST_SPLITS, metavar="B", help="splits at most (default: as many as needed)")
+    limits.add_argument("--splits", type=whole(0, MOST_SPLITS), default=MOST_SPLITS, metavar="B",
+                        help="splits at most (default: as many as needed)")
 
 
 def add_outputs(fit):

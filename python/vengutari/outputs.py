@@ -61,8 +61,8 @@ class Outputs:
         for option in self.paths:
             try:
                 self.write(option, makers[option]())
-            except Error as problem:
-                complain(f"{option}: {problem}")
+            except (Error, OSError, MemoryError) as problem:
+                complain(f"{option}: {problem or 'not enough memory'}")
                 whole = False
         return whole
 

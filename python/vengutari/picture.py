@@ -65,7 +65,8 @@ class Picture:
     def bar(self, x, y, colour, tip):
         """A bar between two x and two y."""
         (a, b), (c, d) = self.place(x[0], y[1]), self.place(x[1], y[0])
-        shape = f'<rect x="{a + 0.5:.2f}" y="{b:.2f}" width="{max(0.5, c - a - 1):.2f}" height="{d - b:.2f}" fill="{colour}" fill-opacity="0.8"/>'
+        place = f'x="{a + 0.5:.2f}" y="{b:.2f}" width="{max(0.5, c - a - 1):.2f}" height="{d - b:.2f}"'
+        shape = f'<rect {place} fill="{colour}" fill-opacity="0.8"/>'
         self.parts.append(f"<g>{shape}<title>{html.escape(tip)}</title></g>")
 
     def axes(self):

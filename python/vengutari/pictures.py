@@ -50,7 +50,8 @@ class Pictures:
         fit, y = self.fit, self.fit.points.y.floats()
         if len(fit.settings.x) == 1:
             x = fit.points.x[0].floats()
-            picture = Picture(reach(x[k] for k in self.samples), reach(y[k] for k in self.samples), (fit.settings.x[0], fit.settings.y), "points and lines")
+            across, up = (reach(values[k] for k in self.samples) for values in (x, y))
+            picture = Picture(across, up, (fit.settings.x[0], fit.settings.y), "points and lines")
             for j in range(fit.model.n):
                 line = fit.line(j)
                 ends = [(v, float(line[0] * Fraction(v) + (line[1] if len(line) > 1 else 0))) for v in picture.x]
@@ -73,7 +74,8 @@ class Pictures:
         title = f"residuals{f' of line {j + 1}' if several else ''} by {name}"
         names = name, f"residual, {self.fit.settings.y}"
         used = [k for k, row in enumerate(self.rows) if row.line == j or (row.line is None and name == "frame")]
-        picture = Picture(reach(values[k] for k in used if values[k] is not None), (-most, most), names, title, PANEL, self.residual_ticks())
+        across = reach(values[k] for k in used if values[k] is not None)
+        picture = Picture(across, (-most, most), names, title, PANEL, self.residual_ticks())
         picture.band([(v, 0.0) for v in picture.x], float(self.fit.reach), MARKS[j + 1][0], f"within {self.near}")
         edge, places = 0.95 * most, []
         for k in used:

@@ -40,7 +40,8 @@ class Table:
         chosen = slice((first or 1) - 1, last, every)
         made = replace(self, rows=self.rows[chosen], places=self.places[chosen], numbers=self.numbers[chosen])
         if not made.rows:
-            raise BadInput(f"{self.name}: there are {len(self.rows):,} rows, and none of them from {first or 1:,} to {last or len(self.rows):,}")
+            count = len(self.rows)
+            raise BadInput(f"{self.name}: there are {count:,} rows, and none of them from {first or 1:,} to {last or count:,}")
         return made
 
     @property
@@ -59,7 +60,7 @@ class Table:
 class Points:
     """The columns in use as exact numbers, one entry for each row; a row whose y is None is a gap, one without an x too.
 
-    counted has the frame numbers as they are in the file, numbers those of the rows there, from 1, and without_x how many lack an x.
+    counted has the frame numbers as they are in the file, and numbers those of the rows there, from 1.
     """
 
     x: list
@@ -67,7 +68,6 @@ class Points:
     counted: list
     notes: list = field(default_factory=list)
     numbers: range = None
-    without_x: int = 0
 
     @property
     def frame(self):
@@ -229,7 +229,8 @@ def check_marks(table, places):
                 if mark in text and mark not in first:
                     first[mark] = f"'{text[:40]}' in line {place}, {table.names[k]}"
     if len(first) == 2:
-        raise BadInput(f"{table.name}: a decimal comma and a decimal point in one file: {first[',']}; {first['.']}; write all numbers alike")
+        raise BadInput(f"{table.name}: a decimal comma and a decimal point in one file: {first[',']}; {first['.']}; "
+                       "write all numbers alike")
 
 
 def frames_of(table, wanted, notes):
@@ -272,7 +273,7 @@ def points_of(x, y, frames, notes, numbers, x_names):
     for name, count in lacking.items():
         if count:
             notes.append(f"{count} row{'s have' if count > 1 else ' has'} no {name}: left out, as gaps are")
-    return Points(x, y, frames, notes, numbers, sum(without))
+    return Points(x, y, frames, notes, numbers)
 
 
 def with_columns(table, names, columns):

@@ -29,7 +29,8 @@ def program_here():
     """The program that is used; said before a long search where there is none."""
     found = next((program for program in PROGRAMS if shutil.which(program)), None)
     if found is None:
-        raise BadInput(f"no program here makes a PNG of a drawing: install one of {', '.join(PROGRAMS[:3])}, or name a file that ends in .svg")
+        raise BadInput(f"no program here makes a PNG of a drawing: install one of {', '.join(PROGRAMS[:3])}, or name a file that ends in "
+                       ".svg")
     return found
 
 

@@ -21,10 +21,12 @@ h1 { font-size: 1.5rem; margin-bottom: 0; } h2 { font-size: 1.15rem; margin: 2re
 .solved { border-color: #1a7f37; } .open { border-color: #bf8700; } .warning { color: #9a3412; font-weight: 600; }
 .scroll { overflow-x: auto; } table { border-collapse: collapse; width: 100%; } #lines, #beacons { min-width: 36rem; }
 th, td { text-align: left; padding: .3rem .6rem; border-bottom: 1px solid #ddd; vertical-align: top; }
-td.number, th.number { text-align: right; font-variant-numeric: tabular-nums; white-space: nowrap; } .quiet { color: #666; font-size: .9rem; }
+td.number, th.number { text-align: right; font-variant-numeric: tabular-nums; white-space: nowrap; }
+.quiet { color: #666; font-size: .9rem; }
 svg { width: 100%; height: auto; border: 1px solid #ddd; background: #fff; box-sizing: border-box; display: block; }
 svg text { font-family: system-ui, sans-serif; font-size: 13px; fill: #333; }
-.legend svg { display: inline-block; width: 1rem; border: 0; vertical-align: middle; } .legend span { white-space: nowrap; margin-right: 1.2rem; }
+.legend svg { display: inline-block; width: 1rem; border: 0; vertical-align: middle; }
+.legend span { white-space: nowrap; margin-right: 1.2rem; }
 .panels { display: grid; grid-template-columns: repeat(auto-fit, minmax(min(100%, 22rem), 1fr)); gap: .6rem; }
 ul { padding-left: 1.2rem; }
 @media (max-width: 40rem) { body { margin: 1rem auto; } svg.wide text { font-size: 19px; } }
@@ -107,8 +109,8 @@ class Report:
         parts = [f"<strong>{escaped(headline(fit))}</strong>", f'<span id="certificate">Certificate: {escaped(certificate(fit))}.</span>']
         parts.append("The certificate speaks of the searched box and of the grid named below, not of lines outside them.")
         if fit.scaling.shifted:
-            parts.append(f"Inside, columns are counted from other numbers than 0: {escaped(fit.scaling.steps())}. That is an exact shift, undone in all "
-                         "that is shown, and changes no residual.")
+            parts.append(f"Inside, columns are counted from other numbers than 0: {escaped(fit.scaling.steps())}. That is an exact shift, "
+                         "undone in all that is shown, and changes no residual.")
         if fit.wide is not None:
             wide = box_text(fit.wide.scaling, fit.wide.low, fit.wide.high)[0]
             parts.append(f'<span id="wide">Wide search: {escaped(wide_sentence(fit.wide))}. Its box for each line: {escaped(wide)}; '
@@ -132,8 +134,8 @@ class Report:
         panels = "\n".join(picture.svg("panel") for picture in [*self.pictures.panels(), self.pictures.histogram()])
         return (f"<h2>Points</h2>\n{self.legend()}\n{self.pictures.points().svg('wide')}\n"
                 f'<p class="quiet">{caption} Point at a mark for its row.</p>\n<h2>Residuals</h2>\n<div class="panels">\n{panels}\n</div>\n'
-                f'<p class="quiet">The distance to the nearest line, each sample at its own; the axis goes by {self.pictures.near}, and marks at its '
-                "edge lie farther out.</p>\n")
+                f'<p class="quiet">The distance to the nearest line, each sample at its own; the axis goes by {self.pictures.near}, and '
+                "marks at its edge lie farther out.</p>\n")
 
     def page(self):
         title = f"{self.fit.settings.y}: {self.n} line{'s' if self.n > 1 else ''} from {os.path.basename(self.fit.source)}"

@@ -21,7 +21,7 @@ def minus(text):
 
 
 def equation(scaling, vector, j):
-    """A line as a formula: y = 0.8062 · x − 13.5. Where x is shifted, all have digits enough for an offset that is far from the points."""
+    """A line as a formula: y = 0.8062 · x − 13.5. Where x is shifted, with digits enough for an offset that is far from the points."""
     text, last = "", scaling.grid(scaling.d - 1) / 8
     for k, (column, value) in enumerate(zip(scaling.x, scaling.line(vector, j))):
         sign = "−" if value < 0 else "+"

@@ -11,7 +11,6 @@ import sys
 import threading
 import time
 from dataclasses import dataclass
-from fractions import Fraction
 
 from .library import LARGEST_TOLERANCE, ROW_BYTES, Model
 

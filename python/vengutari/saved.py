@@ -88,7 +88,8 @@ def as_dictionary(fit):
         "lines": [line_json(fit, j) for j in range(fit.model.n)],
         "labels": counts_of(fit.labels, fit.model.n),
         "beacons": beacons_json(fit), "box": box_json(fit.scaling, fit.low, fit.high), "settings": settings_json(fit),
-        "scaling": scaling_json(fit.scaling), "warnings": fit.warnings, "notes": fit.notes, "next": advice(fit), "wide": wide_json(fit.wide),
+        "scaling": scaling_json(fit.scaling), "warnings": fit.warnings, "notes": fit.notes, "next": advice(fit),
+        "wide": wide_json(fit.wide),
     }
 
 
@@ -127,7 +128,9 @@ def saved_from(text, name):
         vector = [int(w) for w in made["vector"]]
         saved = Saved(scaling, model, vector, [str(n) for n in settings["x"]], str(settings["y"]), settings["frame"])
         sound = 1 <= len(x) <= 4 and len(vector) == model.n * model.d <= 8 and all(-32768 <= w <= 32767 for w in vector)
-        if not sound or any(c.unit <= 0 for c in [*x, scaling.y]) or not 0 <= scaling.scale <= 15 or (scaling.shifted and not scaling.offset):
+        if not sound or any(c.unit <= 0 for c in [*x, scaling.y]) or not 0 <= scaling.scale <= 15:
+            raise ValueError
+        if scaling.shifted and not scaling.offset:
             raise ValueError
         return saved
     except (ValueError, KeyError, TypeError, AttributeError, ZeroDivisionError, RecursionError):

@@ -157,7 +157,7 @@ def shortest(ordered):
 def found(values, origin, unit, least):
     """An origin, where none is given, and the coarsest step that all numbers are multiples of, or one with which 16 bits hold them.
 
-    A few numbers far beyond the others do not count, and the others have as much room again: a spike would else take the digits of the rest.
+    A few numbers far beyond the others do not count, and the others have as much room again: a spike would else take their digits.
     """
     if origin is None:
         ordered = sorted(values)
@@ -175,7 +175,8 @@ def found(values, origin, unit, least):
 
 
 def whole_column(decimals, column):
-    """The numbers of a column in whole steps from its origin, halves away from 0, 0 for none; how much each is rounded, and in which part of the unit."""
+    """The numbers of a column in whole steps from its origin, halves away from 0, and 0 for none; how much each is rounded, and in
+    which part of the unit."""
     shift, step = column.origin / decimals.unit, column.step / decimals.unit
     times = shift.denominator * step.denominator
     less, part = int(shift * times), int(step * times)

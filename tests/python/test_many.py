@@ -5,7 +5,6 @@ import io
 import json
 import os
 import pathlib
-import signal
 import subprocess
 import sys
 import tempfile
@@ -126,6 +125,8 @@ class Several(Folder):
         self.write("other/a.csv", TEXT)
         self.refused("would be written for a.csv and for other/a.csv", "a.csv", "other/a.csv", *ONE, "--labels={}.txt")
         self.refused("is the input", "a.csv", "b.csv", *ONE, "--labels={}.csv")
+        self.write("other/b.csv", TEXT)
+        self.refused("other/b.csv is the input", "b.csv", "other/b.csv", *ONE, "--labels=other/{}.csv", "--force")
         self.refused("--jobs: 0 is not from 1", "a.csv", "b.csv", *ONE, "--jobs=0")
         self.refused("is there already", "a.csv", "b.csv", *ONE, "--summary=c.csv")
 

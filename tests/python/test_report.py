@@ -136,8 +136,9 @@ class Report(unittest.TestCase):
                 for panel in panels:
                     self.assertIn(f">{epsilon}</text>", panel)
                     self.assertIn(f">−{epsilon}</text>", panel)
-                    low, high = min(ys := [float(y) for y in re.search('polygon points="([^"]*)"', panel).group(1).replace(" ", ",").split(",")[1::2]]), max(ys)
-                    self.assertAlmostEqual((high - low) / (230 - 78), 1 / 1.6, delta=0.01)
+                    corners = re.search('polygon points="([^"]*)"', panel).group(1).split()
+                    heights = [float(corner.split(",")[1]) for corner in corners]
+                    self.assertAlmostEqual((max(heights) - min(heights)) / (230 - 78), 1 / 1.6, delta=0.01)
 
     def test_where_it_comes_from(self):
         """Date, command, version and the sums of the data and of the settings, in the page and in the JSON."""
