@@ -136,7 +136,8 @@ class FarFromZero(Files):
                      "give a larger --epsilon", "--epsilon=5")
         self.assertIn("y is rounded to multiples of 20 from", " ".join(self.fitted(wide, "--epsilon=90")[0]["notes"]))
         steep = "x,y\n" + "".join(f"{k * 12345.678:.3f},{300 * k}\n" for k in range(1, 100))
-        self.refused(steep, "x has more digits than 16 bits hold: in steps of 20 it moves line 1 by up to 0.24, over a quarter of epsilon", "--epsilon=0.5")
+        self.refused(steep, "x has more digits than 16 bits hold: in steps of 20 it moves line 1 by up to 0.24, over a quarter of epsilon",
+                     "--epsilon=0.5")
 
 
 class EmptyFields(Files):

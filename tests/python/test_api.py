@@ -87,13 +87,15 @@ class Inputs(unittest.TestCase):
         self.assertTrue(found.lines[0].equation.startswith("current = "))
         other = [(7 * k) % 50 for k in range(60)]
         both = [2 * a + 3 * b + 5 for a, b in zip(X, other)]
-        for x in ([X, other], [Series("a", X), Series("b", other)], table(list(zip(X, other))), [array.array("d", X), array.array("h", other)]):
+        arrays = [array.array("d", X), array.array("h", other)]
+        for x in ([X, other], [Series("a", X), Series("b", other)], table(list(zip(X, other))), arrays):
             found = vengutari.fit(x=x, y=both, epsilon=1, offset=True)
             self.assertEqual([round(value, 1) for value in found.lines[0].coefficients.values()], [2, 3, 5])
 
     def test_parts(self):
         chosen = slice(10, 50, 2)
-        self.assertEqual(vengutari.fit(x=X, y=Y, rows=(11, 50), every=2, **ASKED).vector, vengutari.fit(x=X[chosen], y=Y[chosen], **ASKED).vector)
+        part = vengutari.fit(x=X, y=Y, rows=(11, 50), every=2, **ASKED)
+        self.assertEqual(part.vector, vengutari.fit(x=X[chosen], y=Y[chosen], **ASKED).vector)
         self.assertEqual(vengutari.fit(io.StringIO(TEXT), "x1", "y", rows=(11, None), **ASKED).labels[:3],
                          vengutari.fit(x=X[10:], y=Y[10:], **ASKED).labels[:3])
 
@@ -124,16 +126,20 @@ class Checks(unittest.TestCase):
         for words, said in (
             ({"epsilon": None}, "epsilon, spoiled: give one of the two"), ({"spoiled": 3}, "epsilon, spoiled: give one of the two"),
             ({"x": None}, "x, y: give both"), ({"y": Y[:5]}, "different lengths"), ({"x": "raw"}, "columns go by name where data is given"),
-            ({"lines": 5}, "lines: 5 is not from 1 to 4"), ({"lines": 1.5}, "lines: 1.5 is not a whole number"), ({"x": []}, "x: no numbers"),
+            ({"lines": 5}, "lines: 5 is not from 1 to 4"), ({"lines": 1.5}, "lines: 1.5 is not a whole number"),
+            ({"x": []}, "x: no numbers"),
             ({"epsilon": "small"}, "epsilon: 'small' is not a number"), ({"epsilon": float("nan")}, "epsilon: nan is not a number"),
-            ({"epsilon": -1}, "epsilon: a threshold is more than 0"), ({"loss": "cubic"}, "loss: cubic is none of"), ({"scale": 16}, "scale: 16"),
+            ({"epsilon": -1}, "epsilon: a threshold is more than 0"), ({"loss": "cubic"}, "loss: cubic is none of"),
+            ({"scale": 16}, "scale: 16"),
             ({"y_step": 0}, "y_step: 0 is not more than 0"), ({"x_step": [1, 2]}, "x_step: 2 values where x names 1 columns"),
             ({"box": [(0, 1)]}, "box: 1 values where there are 2 coefficients a line"), ({"box": [(1, 0), (0, 1)]}, "low is not over high"),
-            ({"box": [(0, 1), (0, 1)], "margin": 3}, "margin, box"), ({"gap": 100}, "gap: 100 percent"), ({"every": 0}, "every: 0 is less than 1"),
-            ({"time_limit": -1}, "time_limit: -1 is not at least 0"), ({"data": 7}, "data: int is no path"), ({"y": 5}, "y: int is no sequence"),
-            ({"x": [X, X[:3]]}, "different lengths"), ({"frame": [0.5] * 60}, "frame: 0.5 is not a whole number"), ({"table": 0}, "table: 0"),
-            ({"x": [object()] * 60}, "is not a number"), ({"x": [1e300] * 60}, "out of range"), ({"y": [None] * 60}, "no row has both x and y"),
-            ({"x": range(5000), "y": range(5000)}, "5,000 rows, but a search takes at most 4,096: every 2"), ({"rows": (99, None)}, "no rows"),
+            ({"box": [(0, 1), (0, 1)], "margin": 3}, "margin, box"), ({"gap": 100}, "gap: 100 percent"),
+            ({"every": 0}, "every: 0 is less than 1"), ({"table": 0}, "table: 0"), ({"rows": (99, None)}, "no rows"),
+            ({"time_limit": -1}, "time_limit: -1 is not at least 0"), ({"data": 7}, "data: int is no path"),
+            ({"y": 5}, "y: int is no sequence"), ({"x": [X, X[:3]]}, "different lengths"),
+            ({"frame": [0.5] * 60}, "frame: 0.5 is not a whole number"), ({"x": [object()] * 60}, "is not a number"),
+            ({"x": [1e300] * 60}, "out of range"), ({"y": [None] * 60}, "no row has both x and y"),
+            ({"x": range(5000), "y": range(5000)}, "5,000 rows, but a search takes at most 4,096: every 2"),
             ({"x": [Fraction(1, 3)] * 60}, "is not a number"), ({"data": "nothing.csv", "x": "a", "y": "b"}, "No such file"),
         ):
             with self.subTest(said):
@@ -157,7 +163,8 @@ class Checks(unittest.TestCase):
             self.assertRegex(vengutari.fit.__doc__, rf"\b{name}\b")
         self.assertEqual(signature.parameters["time_limit"].default, 60)
         self.assertTrue((ROOT / "python" / "vengutari" / "py.typed").exists())
-        files = {"json", "labels", "coefficients", "record", "report", "picture", "force", "quiet", "strict", "summary", "jobs", "config", "help"}
+        files = {"json", "labels", "coefficients", "record", "report", "picture", "force", "quiet", "strict", "summary", "jobs", "config",
+                 "help"}
         known = {option[2:].replace("-", "_") for option in options.fit_options() if re.match("--(?!no-)", option)} - files
         self.assertEqual(known - set(signature.parameters), set())
 

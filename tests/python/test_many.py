@@ -42,8 +42,8 @@ class Parts(Folder):
     def test_rows_and_every(self):
         head, rows = TEXT.splitlines()[:2], TEXT.splitlines()[2:]
         self.write("all.csv", TEXT)
-        for words, chosen in ((["--rows=11:60"], slice(10, 60)), (["--every=3"], slice(0, None, 3)), (["--rows=5:", "--every=2"], slice(4, None, 2)),
-                              (["--rows=:40"], slice(0, 40)), (["--rows=41:99999"], slice(40, None))):
+        for words, chosen in ((["--rows=11:60"], slice(10, 60)), (["--every=3"], slice(0, None, 3)), (["--rows=:40"], slice(0, 40)),
+                              (["--rows=5:", "--every=2"], slice(4, None, 2)), (["--rows=41:99999"], slice(40, None))):
             with self.subTest(words):
                 self.write("part.csv", "\n".join([*head, *rows[chosen]]) + "\n")
                 part = run("fit", "part.csv", *ONE, "--json", "--labels=part.txt", "--force")
@@ -54,21 +54,23 @@ class Parts(Folder):
                     self.assertEqual(first[key], second[key])
                 self.assertEqual((self.folder / "part.txt").read_text(), (self.folder / "whole.txt").read_text())
                 numbers = range(1, 81)[chosen]
-                self.assertEqual(second["beacons"][0]["rows"], [numbers[0], numbers[18]] if len(numbers) > 18 else [numbers[0], numbers[-1]])
+                self.assertEqual(second["beacons"][0]["rows"], [numbers[0], numbers[18]])
                 page = (self.folder / "page.html").read_text(encoding="utf-8")
                 self.assertIn(f"row {numbers[-1]}, frame {numbers[-1] - 1}: ", page)
 
     def test_more_rows_than_a_search_takes(self):
         self.write("all.csv", "x1,y\n" + "".join(f"{k % 700},{2 * (k % 700) + k % 3}\n" for k in range(9000)))
-        self.refused("9,000 rows, but a search takes at most 4,096: --every 3 takes one row in 3, --rows 1:4096 a part", "all.csv", *ONE, status=1)
+        self.refused("9,000 rows, but a search takes at most 4,096: --every 3 takes one row in 3, --rows 1:4096 a part", "all.csv", *ONE,
+                     status=1)
         for words, count in ((["--every=3"], 3000), (["--rows=1:4096"], 4096), (["--rows=2001:9000", "--every=2"], 3500)):
             status, out, _ = run("fit", "all.csv", *ONE, *words, "--json", "--gap=20")
             self.assertEqual((status, sum(json.loads(out)["labels"].values())), (0, count))
 
     def test_bad_parts(self):
         self.write("all.csv", TEXT)
-        for words, said in ((["--rows=5"], "'5' is not A:B"), (["--rows=9:5"], "the first is not behind the last"), (["--rows=0:5"], "rows count from 1"),
-                            (["--rows=:"], "is not A:B"), (["--every=0"], "--every: 0 is not from 1"), (["--rows=-3:5"], "is not A:B")):
+        for words, said in ((["--rows=5"], "'5' is not A:B"), (["--rows=9:5"], "the first is not behind the last"),
+                            (["--rows=0:5"], "rows count from 1"), (["--rows=:"], "is not A:B"), (["--rows=-3:5"], "is not A:B"),
+                            (["--every=0"], "--every: 0 is not from 1")):
             self.refused(said, "all.csv", *ONE, *words)
         self.refused("there are 80 rows, and none of them from 81 to 80", "all.csv", *ONE, "--rows=81:", status=1)
 
@@ -162,7 +164,8 @@ class Config(Folder):
         self.assertEqual((status, err), (0, ""))
         found = json.loads(out)
         self.assertEqual(found["lines"][0]["points"], plain["lines"][0]["points"])
-        self.assertEqual([side["low"] <= low and high <= side["high"] for side, (low, high) in zip(found["box"], [(0.4, 0.6), (0, 20)])], [True] * 2)
+        for side, (low, high) in zip(found["box"], [(0.4, 0.6), (0, 20)]):
+            self.assertTrue(side["low"] <= low and high <= side["high"])
 
     def test_the_command_line_comes_first(self):
         config = self.config('x = ["x1"]\ny = "y"\nepsilon = 50\nloss = "count"\nquiet = true\nmargin = 2\nlines = 2\n')
@@ -171,8 +174,9 @@ class Config(Folder):
         self.assertEqual(json.loads(run("fit", "a.csv", config, "--json", "--epsilon=2", "--gap=1")[1])["settings"]["epsilon"], "2")
 
     def test_bad_files(self):
-        for text, said in (("x = ", "fit.toml: "), ("colour = 3\n", "'colour' is no option of fit"), ("x = {a = 1}\n", "is no number or text"),
-                           ('x = "x1"\ny = "y"\nepsilon = "small"\n', "'small' is not a number"), ('config = "other"\n', "'config' is no option")):
+        for text, said in (("x = ", "fit.toml: "), ("colour = 3\n", "'colour' is no option of fit"),
+                           ("x = {a = 1}\n", "is no number or text"), ('config = "other"\n', "'config' is no option"),
+                           ('x = "x1"\ny = "y"\nepsilon = "small"\n', "'small' is not a number")):
             self.refused(said, "a.csv", self.config(text))
         self.refused("No such file", "a.csv", "--config=nothing.toml")
         self.refused("give one file", "a.csv", "--config=a", "--config=b")

@@ -136,7 +136,8 @@ class Package(unittest.TestCase):
             project.mkdir()
             (project / "CMakeLists.txt").write_text(
                 "cmake_minimum_required(VERSION 3.5)\nproject(p C)\nfind_package(vengutari 0.1 REQUIRED)\nadd_executable(p ../program.c)\n"
-                "target_link_libraries(p vengutari::vengutari)\nadd_executable(q ../program.c)\ntarget_link_libraries(q vengutari::static)\n")
+                "target_link_libraries(p vengutari::vengutari)\nadd_executable(q ../program.c)\n"
+                "target_link_libraries(q vengutari::static)\n")
             self.said("cmake", "-S", project, "-B", project / "build", f"-DCMAKE_PREFIX_PATH={self.prefix}")
             self.said("cmake", "--build", project / "build")
             self.assertEqual(self.said(project / "build" / "p"), self.said(project / "build" / "q"))
@@ -171,7 +172,8 @@ class Package(unittest.TestCase):
         if importlib.util.find_spec("pip"):
             shutil.rmtree(place)
             self.said(sys.executable, "-m", "pip", "install", "-q", "--no-index", "--no-deps", "--no-compile", "--target", place, wheel)
-            self.assertEqual(self.said(place / "bin" / "vengutari", "--version", PYTHONPATH=str(place)), f"vengutari {vengutari.__version__}\n")
+            said = self.said(place / "bin" / "vengutari", "--version", PYTHONPATH=str(place))
+            self.assertEqual(said, f"vengutari {vengutari.__version__}\n")
         code = "import vengutari; c = vengutari.library.find(); print(c.path, c.loss(2, 4, -5))"
         said = self.said(sys.executable, "-c", code, PYTHONPATH=str(place))
         self.assertEqual(said, f"{(place / 'vengutari').resolve() / 'libvengutari.so'} 16\n")

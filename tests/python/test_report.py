@@ -158,7 +158,8 @@ class Report(unittest.TestCase):
         rows = [f"{100 + k},{k},{2 * k + k % 3}" for k in range(30)]
         with tempfile.TemporaryDirectory() as folder:
             data = pathlib.Path(folder) / "points.csv"
-            for head, last, frame in (("Frame,x,y", "130,30,60", "Frame"), ("Frame,x,y", "late,30,60", None), ("number,x,y", "130,30,60", None)):
+            for head, last, frame in (("Frame,x,y", "130,30,60", "Frame"), ("Frame,x,y", "late,30,60", None),
+                                      ("number,x,y", "130,30,60", None)):
                 data.write_text("\n".join([head, *rows, last]) + "\n")
                 found = json.loads(run("fit", data, "--x=x", "--y=y", "--epsilon=3", "--json", "--quiet")[1])
                 self.assertEqual(found["settings"]["frame"], frame)
@@ -185,7 +186,8 @@ class Report(unittest.TestCase):
                 self.assertEqual((folder / "all.png").read_bytes(), b"\x89PNG")
                 program.write_text(f"#!{sys.executable}\nraise SystemExit(1)\n")
                 status, out, err = run(*words, "--picture", folder / "other.png")
-                self.assertEqual((status, err), (1, "vengutari: --picture: rsvg-convert made no PNG of the drawing; name a file that ends in .svg\n"))
+                self.assertEqual(status, 1)
+                self.assertEqual(err, "vengutari: --picture: rsvg-convert made no PNG of the drawing; name a file that ends in .svg\n")
                 self.assertIn("certificate: ", out)
                 program.unlink()
                 status, out, err = run(*words, "--picture", folder / "other.png")

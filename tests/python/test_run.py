@@ -97,7 +97,8 @@ class Runs(unittest.TestCase):
         """Twice the splits while two runs more have room; then as many as the rest holds, up to a quarter; none for hardly more."""
         made = runs.Runs(Played(9), JOB, Limits(seconds=60))
         made.best, made.lengths = answer("spent", 9, 0), [1.0, 2.0, 4.0]
-        for left, splits in ((25, 8192), (24, 8192), (20, 8192 * 15 // 8), (12, 8192 * 9 // 8), (8, 6144), (6, None), (0, None), (-1, None)):
+        for left, splits in ((25, 8192), (24, 8192), (20, 8192 * 15 // 8), (12, 8192 * 9 // 8), (8, 6144), (6, None), (0, None),
+                             (-1, None)):
             with unittest.mock.patch.object(made, "left", lambda left=left: left):
                 self.assertEqual(made.next_splits(4096), splits)
         made.lengths = [1.0, 1.0, 3.0]
