@@ -139,9 +139,10 @@ def values_of(values, name):
     """The numbers of a sequence or buffer, as a list."""
     try:
         view = memoryview(values)
-        single = view.format == "f"
         made = view.tolist()
-        return [shortest(value) for value in made] if single and view.ndim == 1 else made
+        if view.format == "f":
+            made = [[shortest(value) for value in row] if view.ndim == 2 else shortest(row) for row in made]
+        return made
     except (TypeError, NotImplementedError, ValueError):
         pass
     try:

@@ -4,6 +4,7 @@ import contextlib
 import io
 import pathlib
 import random
+import signal
 import struct
 import sys
 from dataclasses import dataclass, field
@@ -71,6 +72,13 @@ def store_of(rows, frames=None):
     """A store of rows (x, y), with y None for a gap."""
     records = zip(rows, frames or range(len(rows)))
     return b"".join(struct.pack(">5hH", *x, *[0] * (4 - len(x)), -32768 if y is None else y, frame) for (x, y), frame in records)
+
+
+def heeding():
+    """In a new process: signals as a terminal leaves them, whatever the tests run under."""
+    signal.signal(signal.SIGINT, signal.default_int_handler)
+    for number in (signal.SIGTERM, signal.SIGHUP):
+        signal.signal(number, signal.SIG_DFL)
 
 
 def run(*words):

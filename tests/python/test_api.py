@@ -1,7 +1,6 @@
 """The package from Python: every kind of input gives the same fit, arguments are checked, and errors are one family."""
 
 import array
-import ctypes
 import inspect
 import io
 import pathlib
@@ -45,11 +44,10 @@ class Single:
         return float(self.value)
 
 
-def table(rows):
-    """A two-dimensional buffer of doubles, as numpy has it."""
-    width = len(rows[0])
-    flat = (ctypes.c_double * (len(rows) * width))(*(value for row in rows for value in row))
-    return memoryview(flat).cast("B").cast("d", (len(rows), width))
+def table(rows, kind="d"):
+    """A two-dimensional buffer, as numpy has it."""
+    flat = array.array(kind, [value for row in rows for value in row])
+    return memoryview(flat).cast("B").cast(kind, (len(rows), len(rows[0])))
 
 
 class Inputs(unittest.TestCase):
@@ -79,7 +77,10 @@ class Inputs(unittest.TestCase):
             self.same(vengutari.fit(x=X, y=y, **ASKED))
         self.same(vengutari.fit(x=array.array("f", X), y=array.array("f", gaps), **ASKED))
         self.same(vengutari.fit(x=[Single(v) for v in X], y=[None if v is None else Single(v) for v in Y], **ASKED))
-        self.same(vengutari.fit(x=table([[v] for v in X]), y=Y, frame=range(60), **ASKED))
+        for kind in "df":
+            self.same(vengutari.fit(x=table([[v] for v in X], kind), y=Y, frame=range(60), **ASKED))
+        tenths = vengutari.fit(x=table([[v / 10] for v in X], "f"), y=Y, **ASKED)
+        self.assertEqual((tenths.scaling.x[0].step, tenths.scaling.x[0].rounding), (Fraction(1, 10), 0))
 
     def test_names_and_several_columns(self):
         found = vengutari.fit(x=Series("raw", X), y=Series("current", Y), **ASKED)

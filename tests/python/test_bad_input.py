@@ -9,7 +9,7 @@ import tempfile
 import unittest
 import unittest.mock
 
-from made_points import ROOT, TOOL, Made, run
+from made_points import ROOT, TOOL, Made, heeding, run
 
 from vengutari import command, fitting
 
@@ -232,10 +232,10 @@ class Process(unittest.TestCase):
         made = Made([(0.9, -20.0), (0.4, 100.0), (-0.3, 300.0)], [(0, 1000)], 300, noise=1.5, seed=5)
         self.path.write_text(made.text(), encoding="utf-8")
         words = ["fit", str(self.path), "--x=x1", "--y=y", "--lines=3", "--epsilon=5", "--loss=absolute", "--scale=10", "--time-limit=0"]
-        running = [(number, subprocess.Popen([sys.executable, TOOL, *words], stdout=subprocess.PIPE, stderr=subprocess.PIPE,
-                                             preexec_fn=lambda: signal.signal(signal.SIGINT, signal.default_int_handler)))
-                   for number in (signal.SIGINT, signal.SIGTERM, signal.SIGHUP)]
-        for number, process in running:
+        pipes = {"stdout": subprocess.PIPE, "stderr": subprocess.PIPE}
+        numbers = (signal.SIGINT, signal.SIGTERM, signal.SIGHUP)
+        running = [subprocess.Popen([sys.executable, TOOL, *words], **pipes, preexec_fn=heeding) for _ in numbers]
+        for number, process in zip(numbers, running):
             with process:
                 line = process.stderr.readline()
                 process.send_signal(number)
@@ -293,7 +293,7 @@ class Process(unittest.TestCase):
                 labels, made = folder / f"{name}.csv", folder / f"{name}.json"
                 words = ["fit", self.path, *ONE, "--quiet", "--labels", labels, "--json", made]
                 ran = subprocess.run([sys.executable, "-c", code.format(str(ROOT / "python"), module, name), *map(str, words)],
-                                     capture_output=True, text=True, check=False)
+                                     capture_output=True, text=True, check=False, preexec_fn=heeding)
                 if steps.index((module, name)) < 3:
                     self.assertEqual((ran.returncode, ran.stdout, ran.stderr), (130, "", "vengutari: interrupted\n"))
                     self.assertFalse(labels.exists() or made.exists())

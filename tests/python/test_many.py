@@ -10,7 +10,7 @@ import sys
 import tempfile
 import unittest
 
-from made_points import TOOL, Made, run
+from made_points import TOOL, Made, heeding, run
 
 ONE = ["--x=x1", "--y=y", "--epsilon=2", "--quiet"]
 TEXT = Made([(0.5, 12.0)], [(0, 1000)], 80, noise=0.5, seed=21).text()
@@ -142,7 +142,7 @@ class Several(Folder):
                 "m.search = played\nfrom vengutari.command import main\nsys.exit(main())")
         words = ["fit", "a.csv", "b.csv", "--x=x1", "--y=y", "--lines=3", "--epsilon=5", "--loss=absolute", "--scale=10", "--time-limit=0"]
         place = str(pathlib.Path(TOOL).parents[1] / "python")
-        done = subprocess.run([sys.executable, "-c", code, place, *words], capture_output=True, text=True, check=False)
+        done = subprocess.run([sys.executable, "-c", code, place, *words], capture_output=True, text=True, check=False, preexec_fn=heeding)
         first, second = done.stdout.splitlines()
         self.assertEqual((done.returncode, done.stderr), (130, ""))
         self.assertTrue(first.startswith("a.csv: spent, gap "), first)
