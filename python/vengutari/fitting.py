@@ -224,12 +224,11 @@ def far_notes(whole):
             f"outlier{'s' if far > 1 else ''}; the certificate is of the rest"] if far else []
 
 
-def row_labels(library, model, scales, vector, points, whole):
+def row_labels(library, model, vector, points, whole):
     """A label for each row: the library's; where a row is not in the store, an outlier's if 16 bits do not hold it, or that of a gap."""
     store, kept = scaling.store_of(whole, points.frame)
     labels = [calls.GAP] * len(whole)
     for k in far_rows(whole):
-        check_far(model, scales, vector, k, points)
         labels[k] = calls.OUTLIER
     if store:
         for k, label in zip(kept, library.labels(store, model, vector)):
@@ -245,14 +244,16 @@ def beacons_of(library, model, vector, store, kept):
     return [Beacon(rows[0], rows[-1], cost) for rows, cost in zip(groups, library.cost_by_beacon(store, model, vector))]
 
 
-def check_far(model, scales, vector, k, points):
-    """A row that 16 bits do not hold is an outlier unless a line runs through it."""
-    x = [*(values.exact(k) for values in points.x), Fraction(1)][: scales.d]
-    reach = model.epsilon * scales.y.unit / 2**scales.scale
-    for j in range(model.n):
-        if abs(points.y.exact(k) - sum(a * v for a, v in zip(scales.line(vector, j), x))) <= reach:
-            raise BadInput(f"row {points.numbers[k]} lies on line {j + 1} but does not fit in 16 bits: fit with a larger --x-step "
-                           "or --y-step")
+def far_on_lines(model, scales, vector, points, whole):
+    """A row that 16 bits do not hold is an outlier unless a line runs through it: those that are none, in words."""
+    made, reach = [], model.epsilon * scales.y.unit / 2**scales.scale
+    for k in far_rows(whole):
+        x = [*(values.exact(k) for values in points.x), Fraction(1)][: scales.d]
+        for j in range(model.n):
+            if abs(points.y.exact(k) - sum(a * v for a, v in zip(scales.line(vector, j), x))) <= reach:
+                made.append(f"row {points.numbers[k]} lies on line {j + 1} but does not fit in 16 bits: fit with a larger --x-step "
+                            "or --y-step")
+    return made
 
 
 def check_count(count):
@@ -296,14 +297,15 @@ def fit(library, points, settings, progress=None, stop=None):
     stop.begin()
     outcome = run.search(library, job, settings.limits, progress and progress(scales.cost_unit(model.p)), stop)
     notes += label_notes(model, scales, outcome.answer.cost)
-    labels = row_labels(library, label_model(model, outcome.answer.cost), scales, outcome.answer.vector, points, whole)
+    labelled = label_model(model, outcome.answer.cost)
+    labels = row_labels(library, labelled, outcome.answer.vector, points, whole)
     beacons = beacons_of(library, model, outcome.answer.vector, store, kept)
     made = Fit(settings, scales, model, job.low, job.high, outcome, notes, points, labels, beacons)
     if settings.wide and outcome.stopped != "interrupt":
         from .wide import wide_search
 
         made.wide = wide_search(library, made, samples, store, progress, stop)
-    made.warnings = doubts_of(made)
+    made.warnings = doubts_of(made) + far_on_lines(labelled, scales, outcome.answer.vector, points, whole)
     return made
 
 

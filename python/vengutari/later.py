@@ -25,7 +25,11 @@ def command_label(options):
     kept = fit.frame if options.x is None and fit.frame in table.names else None
     read = points.read_points(table, x, options.y or fit.y, options.frame or kept)
     model = fit.model._replace(p=0)
-    labels = fitting.row_labels(library.find(), model, fit.scaling, fit.vector, read, scaling.whole_points(read, fit.scaling))
+    whole = scaling.whole_points(read, fit.scaling)
+    far = fitting.far_on_lines(model, fit.scaling, fit.vector, read, whole)
+    if far:
+        raise BadInput(far[0])
+    labels = fitting.row_labels(library.find(), model, fit.vector, read, whole)
     rows = result.rows_of(fit.scaling, model.n, fit.vector, read, labels)
     outputs.write("--labels", labels_text(table, rows))
     if options.labels != "-":

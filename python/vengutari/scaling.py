@@ -187,11 +187,16 @@ def whole_column(decimals, column):
     return whole, [abs(count - part * number) for count, number in zip(counts, whole)], times
 
 
+def whole_if_it_is(value):
+    """A fraction as a whole number where it is one: arithmetic is then far quicker."""
+    return int(value) if value.denominator == 1 else value
+
+
 def column_for(name, decimals, used, step, origin, least, notes):
     """The column with the step and the origin given, or found by the rows in use; what it rounds is noted."""
     values = list(compress(decimals.values, used))
     unit = 1 if step is None else step / decimals.unit
-    middle, wide = found(values, None if origin is None else origin / decimals.unit, unit, least)
+    middle, wide = found(values, None if origin is None else whole_if_it_is(origin / decimals.unit), unit, least)
     made = Column(name, (wide if step is None else unit) * decimals.unit, origin=Fraction(middle) * decimals.unit)
     whole, rounding, times = whole_column(decimals, made)
     inside = [row and -least <= value <= LARGEST for row, value in zip(used, whole)]

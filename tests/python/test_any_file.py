@@ -203,6 +203,12 @@ class Warnings(Files):
     def test_fewer_rows_than_coefficients(self):
         self.warned("3 samples for 4 coefficients", [(0, 1), (10, 5), (20, 40)], "--epsilon=1", "--lines=2", "--gap=50", count=None)
 
+    def test_a_far_row_that_lies_on_a_line(self):
+        """It is set aside before the lines are known; that it was none is said with the answer, which is not lost."""
+        far = [*self.LINE, (2_000_000, 1_000_010)]
+        self.warned("row 61 lies on line 1 but does not fit in 16 bits: fit with a larger --x-step or --y-step", far, "--epsilon=3000",
+                    "--margin=0.01", count=None)
+
     def test_rms_over_epsilon(self):
         """Only rounding can do that, which is refused where it is given in time; the lines of a box of one's own are known afterwards."""
         from vengutari import doubts
