@@ -37,6 +37,8 @@ def check(options):
     settings_of(options)
     for name in FILES:
         place = getattr(options, name)
+        if place == "-":
+            raise BadUse(f"--{name}: with several files, or --summary, it needs a file, not standard output")
         if place is not None and "{}" not in place and len(options.data) > 1:
             raise BadUse(f"--{name}: several files need a place each: write {{}} where the file's name belongs")
     outputs = Outputs(options.data, options.force)
@@ -64,8 +66,9 @@ def fit_one(options):
     """One file with its outputs, as a row of the table."""
     stop, problems = Interrupts(), []
     try:
+        outputs = checked_outputs(options)
         calls, table, found = fit_file(options, None, stop)
-        written = checked_outputs(options).write_all(made_files(options, calls, table, found), problems.append)
+        written = outputs.write_all(made_files(options, calls, table, found), problems.append)
         row = row_of(found, status_of(options, found) if written else REFUSED)
         return {**row, "problem": "; ".join(map(str, problems))}
     except Error as problem:

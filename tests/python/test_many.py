@@ -111,6 +111,14 @@ class Several(Folder):
         rows = json.loads((self.folder / "table.json").read_text())
         self.assertEqual([row["status"] for row in rows], [0, 1, 1, 0])
 
+    def test_a_file_that_cannot_be_written_costs_no_answer(self):
+        (self.folder / "a.pipe").symlink_to("/dev/full")
+        status, out, err = run("fit", "a.csv", "b.csv", *ONE, "--labels={}.pipe", "--json={}.json", "--force")
+        first, second = out.splitlines()
+        self.assertEqual((status, err), (1, ""))
+        self.assertTrue(first.startswith("a.csv: solved, gap 0 %") and "--labels: a.pipe: No space left on device" in first, first)
+        self.assertTrue(second.startswith("b.csv: solved") and (self.folder / "a.json").exists(), second)
+
     def test_status_is_the_worst(self):
         for words, status in (([], 0), (["--splits=1"], 3), (["--epsilon=0.3", "--strict"], 4), (["--json=nowhere/{}"], 2)):
             self.assertEqual(run("fit", "a.csv", "b.csv", *ONE, *words)[0], status, words)
@@ -123,6 +131,7 @@ class Several(Folder):
 
     def test_bad_use(self):
         self.refused("--report: several files need a place each: write {}", "a.csv", "b.csv", *ONE, "--report=page.html")
+        self.refused("--json: with several files, or --summary, it needs a file", "a.csv", "b.csv", *ONE, "--json")
         (self.folder / "other").mkdir()
         self.write("other/a.csv", TEXT)
         self.refused("would be written for a.csv and for other/a.csv", "a.csv", "other/a.csv", *ONE, "--labels={}.txt")
