@@ -17,7 +17,6 @@ import zipfile
 
 ROOT = pathlib.Path(__file__).resolve().parent.parent
 PACKAGE = ROOT / "python" / "vengutari"
-ARCHIVE = ROOT / "target" / "staticlib" / "libcapi.a"
 # The oldest time that a zip file can hold: the same files make the same wheel.
 TIME = (1980, 1, 1, 0, 0, 0)
 
@@ -38,10 +37,10 @@ def metadata(made):
 def shared_library():
     """The shared library of the static one, as bytes."""
     sys.path.insert(0, str(ROOT / "python"))
-    from vengutari.library import linked
+    from vengutari.library import ARCHIVE, SHARED, linked
 
     with tempfile.TemporaryDirectory() as folder:
-        return linked(ARCHIVE, pathlib.Path(folder) / "libvengutari.so").read_bytes()
+        return linked(ROOT / ARCHIVE, pathlib.Path(folder) / SHARED).read_bytes()
 
 
 def contents(made, tag):

@@ -13,6 +13,8 @@ from collections import namedtuple
 from .problems import BadInput, Refused
 
 SHARED = "libvengutari.so"
+# The static library, below the source tree.
+ARCHIVE = "target/staticlib/libcapi.a"
 # The number goes up where a program that was linked before would no longer run.
 SONAME = "libvengutari.so.0"
 
@@ -230,7 +232,7 @@ def find():
     installed = package.parents[2] / SHARED
     if package.parent.parent.name == "vengutari" and installed.exists():
         return Library(installed)
-    archive = package.parents[1] / "target" / "staticlib" / "libcapi.a"
+    archive = package.parents[1] / ARCHIVE
     if archive.exists():
         return Library(linked(archive, package.parents[1] / "target" / SHARED))
     known = ctypes.util.find_library("vengutari")
