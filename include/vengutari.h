@@ -12,8 +12,8 @@
  *
  * A length counts elements, not bytes. No pointer is null, each points to as many elements as its length says, and what one argument
  * lends for writing no other argument reaches. Nothing is allocated or kept, so calls on different memory may run at the same time.
- * A search takes less than 190,000 bytes of stack, with p = 3 less than 220,000; a cost or bound with p = 3 less than 45,000, every other
- * call less than 8,000.
+ * A search, or a pass through windows, takes less than 190,000 bytes of stack, with p = 3 less than 220,000; a cost or bound with p = 3 less
+ * than 45,000, every other call less than 8,000.
  *
  * store    point records of 12 bytes, 1 to 4,096 of them; one whose y is -32,768 is a gap, a sample that the board didn't take: it adds 0
  *          to every cost and bound, and is a record as any other: it counts, and its x after the d-th are 0
@@ -106,6 +106,19 @@ uint32_t vengutari_search(const uint8_t *store, size_t store_len, uint8_t n, uin
                           uint64_t t, uint32_t budget, const int16_t *corners, size_t corners_len, const int16_t *start, size_t start_len,
                           int16_t *table, size_t table_len, uint64_t *bounds, size_t bounds_len, int16_t *vector, size_t vector_len,
                           uint64_t *numbers, size_t numbers_len, uint64_t *value);
+
+/* Searches every window of a store, as vengutari_search does: k records each, from record 0, h, 2 h and so on as long as they lie wholly in
+ * the store. The first search starts at start, each later one at the vector of the one before, whatever its kind, and each has the whole
+ * budget and the table. out takes an answer record of 40 bytes for each window, in order (vengutari_read_answer reads one), and keeps its
+ * rest; *value is the number of windows. The first rows of table are then the last search's open boxes, and the first entries of bounds
+ * their bounds; those from there up to the largest peak of all searches may hold leftovers; everything behind keeps what it held.
+ * Refusals, all before the first search: 1 to 7 over the whole store (with p = 3, 4 where q is not below k), 17 where k or h is 0 or k is
+ * more than the store's records, 8, 14 where bounds has fewer entries than table has rows, and 10 where out has fewer than 40 bytes for
+ * each window; 255 where corners_len is not 16 or start_len not 8. */
+uint32_t vengutari_windows(const uint8_t *store, size_t store_len, uint8_t n, uint8_t d, uint8_t scale, uint8_t p, uint32_t eps,
+                           uint64_t t, uint32_t budget, const int16_t *corners, size_t corners_len, const int16_t *start, size_t start_len,
+                           size_t k, size_t h, int16_t *table, size_t table_len, uint64_t *bounds, size_t bounds_len, uint8_t *out,
+                           size_t out_len, uint64_t *value);
 
 /* Copies a beacon into the store from byte mark on; *value is the new mark. The store may have any length. Refusals 1, 10 and 11. */
 uint32_t vengutari_take_in(uint8_t *store, size_t store_len, size_t mark, const uint8_t *beacon, size_t beacon_len, uint64_t *value);

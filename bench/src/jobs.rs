@@ -131,6 +131,15 @@ pub const fn growing(splits: u32) -> Shape {
     )
 }
 
+/// A job with 4,096 points whose windows are searched; with p = 3 a window has at most 13 spoiled samples.
+pub const fn passing(n: usize, d: usize, p: u8, splits: u32) -> Shape {
+    let shape = rows(128, budget(splits, noisy(lines(n, d, p, 4096))));
+    match p {
+        3 => spoiled(13, shape),
+        _ => shape,
+    }
+}
+
 const SCALE: u32 = 7;
 /// The last x where there are several, so that a line has an offset.
 const OFFSET: i16 = 100;

@@ -88,6 +88,30 @@ extern "C" {
         numbers_len: usize,
         value: *mut u64,
     ) -> u32;
+    fn vengutari_windows(
+        store: *const u8,
+        store_len: usize,
+        n: u8,
+        d: u8,
+        scale: u8,
+        p: u8,
+        eps: u32,
+        t: u64,
+        budget: u32,
+        corners: *const i16,
+        corners_len: usize,
+        start: *const i16,
+        start_len: usize,
+        k: usize,
+        h: usize,
+        table: *mut i16,
+        table_len: usize,
+        bounds: *mut u64,
+        bounds_len: usize,
+        out: *mut u8,
+        out_len: usize,
+        value: *mut u64,
+    ) -> u32;
 }
 
 /// Eighty points in five columns.
@@ -228,6 +252,48 @@ pub fn search(job: &Job, table: &mut [i16], bounds: &mut [u64]) -> Answer {
     };
     assert_eq!(code, 0);
     answer(kind, vector, numbers)
+}
+
+/// A whole pass through windows of k records, h apart: how many there are.
+pub fn windows(
+    job: &Job,
+    [k, h]: [usize; 2],
+    table: &mut [i16],
+    bounds: &mut [u64],
+    out: &mut [u8],
+) -> u64 {
+    let m = job.model;
+    let corners = job.domain.corners();
+    let mut value = 0;
+    // As above.
+    let code = unsafe {
+        vengutari_windows(
+            job.store.as_ptr(),
+            job.store.len(),
+            m.n as u8,
+            m.d as u8,
+            m.scale as u8,
+            m.p,
+            m.eps,
+            job.t,
+            job.budget,
+            corners.as_ptr(),
+            corners.len(),
+            job.start.as_ptr(),
+            job.start.len(),
+            k,
+            h,
+            table.as_mut_ptr(),
+            table.len(),
+            bounds.as_mut_ptr(),
+            bounds.len(),
+            out.as_mut_ptr(),
+            out.len(),
+            &mut value,
+        )
+    };
+    assert_eq!(code, 0);
+    value
 }
 
 /// An answer from what a search has put into lent memory.

@@ -77,6 +77,7 @@ SIGNATURES = {
     "vengutari_split": [_U8, _U8, *_NUMBERS, *_NUMBERS],
     "vengutari_labels": [*_BYTES, *_MODEL, *_NUMBERS, *_BYTES, *_VALUE],
     "vengutari_search": [*_BYTES, *_MODEL, _U64, _U32, *_NUMBERS, *_NUMBERS, *_NUMBERS, *_WIDE, *_NUMBERS, *_WIDE, *_VALUE],
+    "vengutari_windows": [*_BYTES, *_MODEL, _U64, _U32, *_NUMBERS, *_NUMBERS, _SIZE, _SIZE, *_NUMBERS, *_WIDE, *_BYTES, *_VALUE],
     "vengutari_cost_by_beacon": [*_BYTES, *_MODEL, *_NUMBERS, *_WIDE, *_VALUE],
     "vengutari_take_in": [*_BYTES, _SIZE, *_BYTES, *_VALUE],
     "vengutari_merge": [*_BYTES, *_BYTES, *_BYTES, *_VALUE],
@@ -172,6 +173,16 @@ class Library:
         given = [_bytes(store), *model, t, budget, _corners(low, high), _numbers(start), table, bounds]
         kind = self._call("vengutari_search", *given, vector, numbers)
         return Answer(KINDS[kind], list(vector[: model.n * model.d]), *numbers)
+
+    def windows(self, store, model, t, budget, low, high, start, length, hop, rows):
+        """An answer for each window of `length` records, `hop` apart, each search from the vector before it."""
+        records = len(store) // RECORD_BYTES
+        count = (records - length) // hop + 1 if hop and 0 < length <= records else 0
+        out = _bytes(bytes(count * ANSWER_BYTES))
+        table, bounds = _zeros(ctypes.c_int16, rows * ROW_NUMBERS), _zeros(ctypes.c_uint64, rows)
+        given = [_bytes(store), *model, t, budget, _corners(low, high), _numbers(start), length, hop, table, bounds, out]
+        self._call("vengutari_windows", *given)
+        return [self.read_answer(bytes(out[k : k + ANSWER_BYTES]))[0] for k in range(0, len(out), ANSWER_BYTES)]
 
     def take_in(self, store, mark, beacon):
         lent = _bytes(store)

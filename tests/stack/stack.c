@@ -8,7 +8,7 @@
 enum { ROOM = 1 << 20, RECORDS = 4096, ROWS = 64, FILLED = 0xA5 };
 
 static unsigned char stack[ROOM];
-static uint8_t store[12 * RECORDS], labels[RECORDS];
+static uint8_t store[12 * RECORDS], labels[RECORDS], records[40 * 3];
 static int16_t table[16 * ROWS], found[8];
 static uint64_t bounds[ROWS], sums[216], numbers[5], value;
 static const int16_t vector[8] = {3, -2, 5, 1}, corners[16] = {-4, -4, -4, -4, 0, 0, 0, 0, 7, 7, 7, 7};
@@ -24,6 +24,11 @@ static void search(void)
 {
     code = vengutari_search(store, sizeof store, 2, 2, 7, p, eps, 0, 40, corners, 16, vector, 8, table, 16 * ROWS, bounds, ROWS, found, 8,
                             numbers, 5, &value);
+}
+static void windows(void)
+{
+    code = vengutari_windows(store, sizeof store, 2, 2, 7, p, eps, 0, 40, corners, 16, vector, 8, RECORDS - 2, 1, table, 16 * ROWS, bounds,
+                             ROWS, records, sizeof records, &value);
 }
 
 /* How many bytes of stack a call takes, or ROOM where it is refused. */
@@ -46,7 +51,7 @@ int main(void)
 {
     static const struct { const char *name; void (*call)(void); size_t sum, rank; } calls[] = {
         {"cost", cost, 8000, 45000}, {"bound", bound, 8000, 45000}, {"search", search, 190000, 220000},
-        {"cost_by_beacon", by_beacon, 8000, 0}, {"labels", label, 8000, 0},
+        {"windows", windows, 190000, 220000}, {"cost_by_beacon", by_beacon, 8000, 0}, {"labels", label, 8000, 0},
     };
     int passed = 0, failed = 0;
     for (size_t i = 0; i < RECORDS; i++)

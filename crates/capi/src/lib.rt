@@ -11,6 +11,8 @@ ghost use Rattle.c_beacon_costs.specs.Calls.{costByBeaconCall, sumsAfterCall};
 ghost use Rattle.c_search.specs.Calls.{searchCall, vectorAfter, numbersAfter, TableAfterCall, BoundsAfterCall, CertifiedCall};
 ghost use Rattle.merge.specs.Merge.{outputAfter};
 ghost use Rattle.c_stores.specs.Calls.{mergeCall, takeInCall};
+ghost use Rattle.sharing.specs.Sharing.{SharedTable, SharedBounds};
+ghost use Rattle.c_windows.specs.Calls.{windowsCall, searchesOfCall, outAfterCall, CertifiedWindows};
 ghost use Rattle.c_jobs.specs.Calls.{readJobCall, jobNumbersAfter, cornersAfter, startAfter, writeJobCall, jobRecordAfter};
 ghost use Rattle.c_answers.specs.Calls.{readAnswerCall, answerVectorAfter, answerNumbersAfter, writeAnswerCall, answerRecordAfter};
 ghost use Rattle.c_lines.specs.Calls.{writeLineCall, patternsAfter, readLineCall, coordinatesAfter};
@@ -177,6 +179,68 @@ pub extern "C" fn vengutari_search(
         bounds,
         vector,
         numbers,
+        value,
+    )
+}
+
+// Searches each window of k records, h records apart, with the rows of a lent table and a lent list of bounds, each from the vector found
+// before it. An answer record for each goes into the front of `out`; the value is their number.
+#[no_mangle]
+pub extern "C" fn vengutari_windows(
+    store: &[u8],
+    n: u8,
+    d: u8,
+    scale: u8,
+    p: u8,
+    eps: u32,
+    t: u64,
+    budget: u32,
+    corners: &[i16],
+    start: &[i16],
+    k: usize,
+    h: usize,
+    table: &mut [i16],
+    bounds: &mut [u64],
+    out: &mut [u8],
+    value: &mut u64,
+) -> u32
+    ensures code { λ r. ⌜ r
+        ≡ codeOf (windowsCall (now (store .entry)) (modelOf n d scale p eps) t budget (now (corners .entry)) (now (start .entry)) k h
+        (now (table .entry)) (now (bounds .entry)) (now (out .entry))) ⌝ }
+    ensures value { λ _. ⌜ now (value .exit)
+        ≡ valueAfter (windowsCall (now (store .entry)) (modelOf n d scale p eps) t budget (now (corners .entry)) (now (start .entry)) k h
+        (now (table .entry)) (now (bounds .entry)) (now (out .entry))) (now (value .entry)) ⌝ }
+    ensures output { λ _. ⌜ now (out .exit)
+        ≡ outAfterCall (now (store .entry)) (modelOf n d scale p eps) t budget (now (corners .entry)) (now (start .entry)) k h
+        (now (table .entry)) (now (bounds .entry)) (now (out .entry)) ⌝ }
+    ensures table { λ _. ⌜
+        SharedTable
+        (searchesOfCall (now (store .entry)) (modelOf n d scale p eps) t budget (now (corners .entry)) (now (start .entry)) k h
+        (now (table .entry)) (now (bounds .entry)) (now (out .entry))) (now (table .entry)) (now (table .exit)) ⌝ }
+    ensures bounds { λ _. ⌜
+        SharedBounds
+        (searchesOfCall (now (store .entry)) (modelOf n d scale p eps) t budget (now (corners .entry)) (now (start .entry)) k h
+        (now (table .entry)) (now (bounds .entry)) (now (out .entry))) (now (bounds .entry)) (now (bounds .exit)) ⌝ }
+    ensures certificate { λ r. ⌜ (r ≡ 0 →
+        CertifiedWindows (now (store .entry)) (modelOf n d scale p eps) t budget (now (corners .entry)) (now (start .entry)) k h
+        (now (table .entry)) (now (bounds .entry)) (now (out .entry)) (now (value .exit)) (now (out .exit))) ⌝ }
+{
+    c_windows::windows(
+        store,
+        n,
+        d,
+        scale,
+        p,
+        eps,
+        t,
+        budget,
+        corners,
+        start,
+        k,
+        h,
+        table,
+        bounds,
+        out,
         value,
     )
 }

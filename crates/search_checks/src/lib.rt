@@ -11,7 +11,7 @@ ghost use Rattle.codes.specs.declared.Refusal.{Refusal};
 ghost use Rattle.search_checks.specs.Checks.{checkJob, checkSearch};
 
 // Check 8, of the numbers that the table has.
-fn check_table(numbers: usize) -> Check
+pub fn check_table(numbers: usize) -> Check
     ensures { λ r. ⌜ r ≡ passIf (leb 16 numbers) Refusal.Table ⌝ }
 {
     if 16 <= numbers {
@@ -22,7 +22,7 @@ fn check_table(numbers: usize) -> Check
 }
 
 // Check 14, of the entries beside a table of so many numbers.
-fn check_bounds(numbers: usize, entries: usize) -> Check
+pub fn check_bounds(numbers: usize, entries: usize) -> Check
     ensures { λ r. ⌜ r ≡ passIf (leb (numbers / 16) entries) Refusal.Bounds ⌝ }
 {
     if numbers / 16 <= entries {

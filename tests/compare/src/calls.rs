@@ -22,6 +22,15 @@ pub struct Found {
     pub value: u64,
 }
 
+/// What a pass through windows is lent: the table and the list of bounds of its searches, the output, and the number of
+/// windows.
+pub struct Passed {
+    pub table: Lent<i16>,
+    pub bounds: Lent<u64>,
+    pub out: Lent<u8>,
+    pub value: u64,
+}
+
 pub trait Calls {
     fn loss(&self, p: u8, epsilon: u32, e: i64, value: &mut u64) -> u32;
     fn cost(&self, store: &[u8], model: &Model, vector: &[i16], value: &mut u64) -> u32;
@@ -46,6 +55,16 @@ pub trait Calls {
         table: &mut [i16],
         bounds: &mut [u64],
         found: &mut Found,
+    ) -> u32;
+    /// Windows of k records, h apart, [k, h] in `window`, with the box in `corners` and the first start vector in `start`.
+    fn windows(
+        &self,
+        store: &[u8],
+        job: &Job,
+        corners: &[i16],
+        start: &[i16],
+        window: [usize; 2],
+        lent: &mut Passed,
     ) -> u32;
     /// The numbers are n, d, S, p, ε, t, budget and r.
     fn read_job(&self, bytes: &[u8], numbers: &mut [u64], corners: &mut [i16], start: &mut [i16]) -> u32;

@@ -1,7 +1,7 @@
 //! The product: its library through include/vengutari.h, and its program fit. All declarations for C stand
 //! in this file.
 
-use compare::calls::{Calls, Found};
+use compare::calls::{Calls, Found, Passed};
 use oracle::{AnswerRecord, Job, Model};
 use std::io::{Read, Write};
 use std::process::{Command, Stdio};
@@ -113,6 +113,30 @@ extern "C" {
         vector_len: usize,
         numbers: *mut u64,
         numbers_len: usize,
+        value: *mut u64,
+    ) -> u32;
+    fn vengutari_windows(
+        store: *const u8,
+        store_len: usize,
+        n: u8,
+        d: u8,
+        s: u8,
+        p: u8,
+        epsilon: u32,
+        t: u64,
+        budget: u32,
+        corners: *const i16,
+        corners_len: usize,
+        start: *const i16,
+        start_len: usize,
+        k: usize,
+        h: usize,
+        table: *mut i16,
+        table_len: usize,
+        bounds: *mut u64,
+        bounds_len: usize,
+        out: *mut u8,
+        out_len: usize,
         value: *mut u64,
     ) -> u32;
     fn vengutari_read_job(
@@ -297,6 +321,45 @@ impl Calls for Library {
                 numbers.as_mut_ptr(),
                 numbers.len(),
                 &mut found.value,
+            )
+        }
+    }
+
+    fn windows(
+        &self,
+        store: &[u8],
+        job: &Job,
+        corners: &[i16],
+        start: &[i16],
+        [k, h]: [usize; 2],
+        lent: &mut Passed,
+    ) -> u32 {
+        let Model { n, d, s, p, epsilon } = job.model;
+        let (table, bounds, out) = (lent.table.part(), lent.bounds.part(), lent.out.part());
+        unsafe {
+            vengutari_windows(
+                store.as_ptr(),
+                store.len(),
+                n,
+                d,
+                s,
+                p,
+                epsilon,
+                job.t,
+                job.budget,
+                corners.as_ptr(),
+                corners.len(),
+                start.as_ptr(),
+                start.len(),
+                k,
+                h,
+                table.as_mut_ptr(),
+                table.len(),
+                bounds.as_mut_ptr(),
+                bounds.len(),
+                out.as_mut_ptr(),
+                out.len(),
+                &mut lent.value,
             )
         }
     }

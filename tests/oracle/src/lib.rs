@@ -13,6 +13,7 @@ pub mod points;
 pub mod records;
 pub mod refusal;
 pub mod search;
+pub mod windows;
 
 #[cfg(test)]
 mod bench_fits;
@@ -27,3 +28,4 @@ pub use points::take_in;
 pub use records::{read_answer, read_job, write_answer, write_job, AnswerRecord, Job};
 pub use refusal::Refusal;
 pub use search::{search, Answer, Kind};
+pub use windows::windows;

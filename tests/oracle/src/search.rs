@@ -138,8 +138,13 @@ impl State {
 
 /// Checks 1 to 7, which a search and fit share.
 pub fn check_job(job: &Job, store: &[u8]) -> Result<Vec<Point>, Refusal> {
+    check_job_over(job, store, store.len() / RECORD)
+}
+
+/// The same, with check 4 for a cost over so many records.
+pub fn check_job_over(job: &Job, store: &[u8], records: usize) -> Result<Vec<Point>, Refusal> {
     check_length(store.len())?;
-    job.model.check(store.len() / RECORD)?;
+    job.model.check(records)?;
     check_box(&job.domain, job.model.used())?;
     refuse_if(!job.domain.contains(&job.start), Refusal::Start)?;
     let points = points_of(store);
@@ -147,12 +152,17 @@ pub fn check_job(job: &Job, store: &[u8]) -> Result<Vec<Point>, Refusal> {
     Ok(points)
 }
 
+/// Checks 8 and 14.
+pub fn check_lent(numbers: usize, entries: usize) -> Result<(), Refusal> {
+    refuse_if(numbers < 16, Refusal::Table)?;
+    refuse_if(entries < numbers / 16, Refusal::Bounds)
+}
+
 /// Searches with a table of `numbers` signed 16-bit numbers and a list of `entries` bounds; makes checks 1 to 8
 /// and 14. The rows that the job record carries are fit's alone.
 pub fn search(job: &Job, store: &[u8], numbers: usize, entries: usize) -> Result<Answer, Refusal> {
     let points = check_job(job, store)?;
-    refuse_if(numbers < 16, Refusal::Table)?;
-    refuse_if(entries < numbers / 16, Refusal::Bounds)?;
+    check_lent(numbers, entries)?;
     let (kind, state) = Search { job, points, rows: numbers / 16 }.run();
     Ok(Answer {
         kind,

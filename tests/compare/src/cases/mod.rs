@@ -13,6 +13,7 @@ mod one_record;
 mod records;
 mod search;
 mod spoiled;
+mod windows;
 
 use crate::calls::{refusal_code, Calls};
 use crate::inputs::Input;
@@ -87,6 +88,10 @@ pub const GROUPS: &[Group] = &[
     group("search-one-record-cap", "search", 1, one_record::cap_reached),
     group("search-damaged", "search", 2000, search::damaged),
     group("search-long", "search", 400, search::long),
+    group("windows-by-hand", "windows", 1, windows::by_hand),
+    group("windows-alone", "windows", 1500, windows::alone),
+    group("windows-ends", "windows", 1500, windows::ends),
+    group("windows-damaged", "windows", 2000, windows::damaged),
     group("read_job", "read_job", 500, records::read_job),
     group("write_job", "write_job", 500, records::write_job),
     group("read_answer", "read_answer", 2000, records::read_answer),

@@ -8,6 +8,7 @@ mod merge;
 mod search;
 mod spoiled;
 mod stand_in;
+mod windows;
 
 use crate::cases::GROUPS;
 use crate::run_case;
@@ -128,6 +129,22 @@ enum Slip {
     EntriesZero,
     EntriesReversed,
     EntriesPastPeakWritten,
+    // A pass through windows.
+    WindowsFromTheJobsStart,
+    WindowsFromSolvedAlone,
+    WindowsOneBudget,
+    WindowsLastMissed,
+    WindowsPastTheEnd,
+    WindowsHopByLength,
+    WindowsHopPastStoreRefused,
+    WindowsRankByStore,
+    WindowsLengthFirst,
+    WindowsLengthBeforeRank,
+    WindowsStrayInFirst,
+    WindowsShortBeforeTable,
+    WindowsShortWritten,
+    WindowsClearTheRest,
+    WindowsCountInBytes,
     // Records, lines and fit.
     JobFieldsSwapped,
     JobLittleEndian,
@@ -311,6 +328,34 @@ const SLIPS: &[(&str, &[Slip])] = &[
             SpoiledAllTaken,
             SpoiledNoneRefused,
             SpoiledGapsUncounted,
+            WrongLengthTaken,
+        ],
+    ),
+    (
+        "windows",
+        &[
+            WindowsFromTheJobsStart,
+            WindowsFromSolvedAlone,
+            WindowsOneBudget,
+            WindowsLastMissed,
+            WindowsPastTheEnd,
+            WindowsHopByLength,
+            WindowsHopPastStoreRefused,
+            WindowsRankByStore,
+            WindowsLengthFirst,
+            WindowsLengthBeforeRank,
+            WindowsStrayInFirst,
+            WindowsShortBeforeTable,
+            WindowsShortWritten,
+            WindowsClearTheRest,
+            WindowsCountInBytes,
+            RowsPastPeakWritten,
+            RowsNotWritten,
+            EntriesZero,
+            EntriesPastPeakWritten,
+            CountOneMore,
+            BoundIsZero,
+            TiesIgnored,
             WrongLengthTaken,
         ],
     ),

@@ -1,7 +1,7 @@
 //! The calls of a stand-in: the oracle's, but for the slip.
 
 use super::Slip::{self, *};
-use crate::calls::{refusal_code, Calls, Found, WRONG_LENGTH};
+use crate::calls::{refusal_code, Calls, Found, Passed, WRONG_LENGTH};
 use oracle::boxes::check_box;
 use oracle::coefficients::{coordinate_of, pattern};
 use oracle::model::check_shape;
@@ -205,6 +205,25 @@ impl Calls for StandIn {
             }
             Err(refusal) => refusal_code(refusal),
         }
+    }
+
+    fn windows(
+        &self,
+        store: &[u8],
+        job: &Job,
+        corners: &[i16],
+        start: &[i16],
+        window: [usize; 2],
+        lent: &mut Passed,
+    ) -> u32 {
+        if !self.takes(&[(corners.len(), 16), (start.len(), 8)]) {
+            return WRONG_LENGTH;
+        }
+        let (Some(domain), Some(start)) = (self.row(corners), self.eight(start)) else {
+            return WRONG_LENGTH;
+        };
+        let passed = self.passed(&Job { domain, start, ..*job }, store, window, lent);
+        settle(passed, &mut lent.value)
     }
 
     fn read_job(&self, bytes: &[u8], numbers: &mut [u64], corners: &mut [i16], start: &mut [i16]) -> u32 {

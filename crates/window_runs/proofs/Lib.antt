@@ -1,0 +1,2 @@
+pub mod Windowing
+pub mod Passing
