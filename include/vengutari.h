@@ -12,8 +12,8 @@
  *
  * A length counts elements, not bytes. No pointer is null, each points to as many elements as its length says, and what one argument
  * lends for writing no other argument reaches. Nothing is allocated or kept, so calls on different memory may run at the same time.
- * A search, or a pass through windows, takes less than 190,000 bytes of stack, with p = 3 less than 220,000; a cost or bound with p = 3 less
- * than 45,000, every other call less than 8,000.
+ * A search, or a pass through windows, takes less than 190,000 bytes of stack, with p = 3 less than 220,000, and for several boards 5,000
+ * more; a cost or bound with p = 3 less than 45,000, every other call less than 8,000.
  *
  * store    point records of 12 bytes, 1 to 4,096 of them; one whose y is -32,768 is a gap, a sample that the board didn't take: it adds 0
  *          to every cost and bound, and is a record as any other: it counts, and its x after the d-th are 0
@@ -119,6 +119,23 @@ uint32_t vengutari_windows(const uint8_t *store, size_t store_len, uint8_t n, ui
                            uint64_t t, uint32_t budget, const int16_t *corners, size_t corners_len, const int16_t *start, size_t start_len,
                            size_t k, size_t h, int16_t *table, size_t table_len, uint64_t *bounds, size_t bounds_len, uint8_t *out,
                            size_t out_len, uint64_t *value);
+
+/* Searches for several boards within one split budget. jobs has count job records of 72 bytes, one behind the other, stores their stores,
+ * one behind the other, and lengths the length of each store in bytes, so that a store begins at the sum of all lengths before it. All
+ * jobs use the one table and the one list of bounds, one after the other; the rows that a job record carries are not looked at. In order,
+ * each job gets the smaller of its own budget and the splits left divided by the jobs left, itself included, rounded down; a refused job
+ * makes no splits. So the splits together are at most total, and each job gets at least the smaller of its own budget and total / count.
+ * For job i, codes[i] takes what vengutari_search would return for it: 0, or 1 to 8 or 14 (7 with the record's number), also 1 where its
+ * store reaches past the end of stores; budgets[i] takes the budget that it got; vectors[8 i] to vectors[8 i + 7] the best vector; and
+ * numbers[6 i] to numbers[6 i + 5] the kind, C, L, the splits counted, the open boxes and the peak. Of a refused job the vector and the
+ * numbers are 0, and all is 0 from count on. The first rows of table and entries of bounds are then those of the last job accepted, up to
+ * the largest peak there may be leftovers, and everything behind keeps what it held; a refused job leaves both as it found them.
+ * Refusal 18 for count outside 1 to 8, jobs_len below 72 * count or lengths_len below count; 255 where codes_len or budgets_len is not 8,
+ * vectors_len not 64 or numbers_len not 48. */
+uint32_t vengutari_boards(uint8_t count, uint32_t total, const uint8_t *jobs, size_t jobs_len, const uint8_t *stores, size_t stores_len,
+                          const uint32_t *lengths, size_t lengths_len, int16_t *table, size_t table_len, uint64_t *bounds,
+                          size_t bounds_len, uint32_t *codes, size_t codes_len, uint32_t *budgets, size_t budgets_len, int16_t *vectors,
+                          size_t vectors_len, uint64_t *numbers, size_t numbers_len);
 
 /* Copies a beacon into the store from byte mark on; *value is the new mark. The store may have any length. Refusals 1, 10 and 11. */
 uint32_t vengutari_take_in(uint8_t *store, size_t store_len, size_t mark, const uint8_t *beacon, size_t beacon_len, uint64_t *value);

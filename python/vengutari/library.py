@@ -78,6 +78,7 @@ SIGNATURES = {
     "vengutari_labels": [*_BYTES, *_MODEL, *_NUMBERS, *_BYTES, *_VALUE],
     "vengutari_search": [*_BYTES, *_MODEL, _U64, _U32, *_NUMBERS, *_NUMBERS, *_NUMBERS, *_WIDE, *_NUMBERS, *_WIDE, *_VALUE],
     "vengutari_windows": [*_BYTES, *_MODEL, _U64, _U32, *_NUMBERS, *_NUMBERS, _SIZE, _SIZE, *_NUMBERS, *_WIDE, *_BYTES, *_VALUE],
+    "vengutari_boards": [_U8, _U32, *_BYTES, *_BYTES, *_PATTERNS, *_NUMBERS, *_WIDE, *_PATTERNS, *_PATTERNS, *_NUMBERS, *_WIDE],
     "vengutari_cost_by_beacon": [*_BYTES, *_MODEL, *_NUMBERS, *_WIDE, *_VALUE],
     "vengutari_take_in": [*_BYTES, _SIZE, *_BYTES, *_VALUE],
     "vengutari_merge": [*_BYTES, *_BYTES, *_BYTES, *_VALUE],
@@ -183,6 +184,19 @@ class Library:
         given = [_bytes(store), *model, t, budget, _corners(low, high), _numbers(start), length, hop, table, bounds, out]
         self._call("vengutari_windows", *given)
         return [self.read_answer(bytes(out[k : k + ANSWER_BYTES]))[0] for k in range(0, len(out), ANSWER_BYTES)]
+
+    def boards(self, total, jobs, stores, rows):
+        """For each of 1 to 8 job records with its store: the code, the budget that it got and, where the code is 0, its answer."""
+        table, bounds = _zeros(ctypes.c_int16, rows * ROW_NUMBERS), _zeros(ctypes.c_uint64, rows)
+        codes, budgets = _array(ctypes.c_uint32, [0] * 8), _array(ctypes.c_uint32, [0] * 8)
+        vectors, numbers = _numbers([], 64), _array(ctypes.c_uint64, [0] * 48)
+        lengths = _array(ctypes.c_uint32, [len(store) for store in stores])
+        given = [len(jobs), total, _bytes(b"".join(jobs)), _bytes(b"".join(stores)), lengths, table, bounds]
+        self._call("vengutari_boards", *given, codes, budgets, vectors, numbers)
+        return [
+            (codes[i], budgets[i], None if codes[i] else Answer(KINDS[numbers[6 * i]], list(vectors[8 * i : 8 * i + 8]), *numbers[6 * i + 1 : 6 * i + 6]))
+            for i in range(len(jobs))
+        ]
 
     def take_in(self, store, mark, beacon):
         lent = _bytes(store)

@@ -249,6 +249,8 @@ class Interface(unittest.TestCase):
         self.assertEqual(calls.read_answer(record), (answer._replace(open=None, peak=None), 1, 1, 0))
         job = calls.write_job(model, 0, 10, 4, [0], [3], [0])
         self.assertEqual(calls.read_job(job), ([1, 1, 0, 1, 2, 0, 10, 4], [0] * 8, [3] + [0] * 7, [0] * 8))
+        found = calls.boards(5, [job, job[:3] + b"\4" + job[4:]], [store, store], 4)
+        self.assertEqual(found, [(0, 2, calls.search(store, model, 0, 2, [0], [3], [0], 4)._replace(vector=[2] + [0] * 7)), (4, 4, None)])
         self.assertEqual(calls.write_line(1, 1, [-3]), [0xBFC00000, 0, 0, 0])
         self.assertEqual(calls.read_line(1, 1, [0xBFC00000, 0, 0, 0]), [-3])
         self.assertEqual(calls.take_in(bytes(24), 12, store[:12]), (bytes(12) + store[:12], 24))

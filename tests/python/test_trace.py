@@ -104,7 +104,7 @@ def wrong_rows(page):
 
 # What is handed out: the calls for C, and all that the program fit computes.
 EXPORTS = ("capi/src/lib.rt", "fit_line/src/lib.rt")
-USE = re.compile(r"^(?:ghost )?use Rattle·(\w+?)(?:·specs)?\.specs\.(\w+)\.\{([^}]*)\}", re.M)
+USE = re.compile(r"^(?:ghost )?use Rattle·(\w+?)(?:·specs)?\.specs\.(\w+)(?:\.\{([^}]*)\}| as (\w+))", re.M)
 
 
 def has_one(words, names):
@@ -115,7 +115,7 @@ def has_one(words, names):
 def used_by(source, words=None):
     """The files of definitions that the `use` lines of a source name, as CRATE/FILE; where a text is given, those of which it has
     a name. Types that the code declares are no files."""
-    found = [(f"{crate}/{file}", names) for crate, file, names in USE.findall(source) if file != "declared"]
+    found = [(f"{crate}/{file}", names or whole) for crate, file, names, whole in USE.findall(source) if file != "declared"]
     return [file for file, names in found if words is None or has_one(words, names)]
 
 
@@ -163,14 +163,15 @@ class Reader(unittest.TestCase):
 
     def test_a_way_to_the_machine_is_noticed(self):
         uses = "ghost use Rattle.a.specs.Calls.{answer};\nghost use Rattle.a.specs.Inside.{held};\n"
-        export = uses + "pub fn f() -> u8\n    ensures { λ r. ⌜ r ≡ answer ⌝ }\n{\n}\n"
+        uses += "ghost use Rattle.d.specs.Whole as Whole;\n"
+        export = uses + "pub fn f() -> u8\n    ensures { λ r. ⌜ r ≡ answer Whole.kept ⌝ }\n{\n}\n"
         files = {
             "a/Calls": "use Rattle.b.specs.Words.{word}\nuse Rattle.a.specs.Other.{other}\n",
             "b/Words": "use Rattle.b.specs.declared.T.{T}\n",
             "a/Other": "use Rattle.eval_lanes.specs.Lanes.{lane}\n",
         }
         reached = reached_from([export], lambda file: files.get(file, ""))
-        self.assertEqual(set(reached), {"a/Calls", "b/Words", "a/Other", "eval_lanes/Lanes"})
+        self.assertEqual(set(reached), {"a/Calls", "b/Words", "a/Other", "d/Whole", "eval_lanes/Lanes"})
         self.assertEqual(reached["eval_lanes/Lanes"], "a/Other")
 
 

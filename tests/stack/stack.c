@@ -2,6 +2,7 @@
  * that is counted. The last line is 'N passed, M failed'. */
 #include "vengutari.h"
 #include <stdio.h>
+#include <stdlib.h>
 #include <string.h>
 #include <ucontext.h>
 
@@ -10,7 +11,10 @@ enum { ROOM = 1 << 20, RECORDS = 4096, ROWS = 64, FILLED = 0xA5 };
 static unsigned char stack[ROOM];
 static uint8_t store[12 * RECORDS], labels[RECORDS], records[40 * 3];
 static int16_t table[16 * ROWS], found[8];
-static uint64_t bounds[ROWS], sums[216], numbers[5], value;
+static uint64_t bounds[ROWS], sums[216], numbers[5], slots[48], value;
+static uint8_t job[72];
+static int16_t vectors[64];
+static uint32_t codes[8], budgets[8];
 static const int16_t vector[8] = {3, -2, 5, 1}, corners[16] = {-4, -4, -4, -4, 0, 0, 0, 0, 7, 7, 7, 7};
 static uint8_t p;
 static uint32_t eps, code;
@@ -29,6 +33,17 @@ static void windows(void)
 {
     code = vengutari_windows(store, sizeof store, 2, 2, 7, p, eps, 0, 40, corners, 16, vector, 8, RECORDS - 2, 1, table, 16 * ROWS, bounds,
                              ROWS, records, sizeof records, &value);
+}
+
+static void boards(void)
+{
+    static const uint32_t length[1] = {sizeof store};
+    if (vengutari_write_job(2, 2, 7, p, eps, 0, 40, 0, corners, 16, vector, 8, job, sizeof job) != 0)
+        abort();
+    code = vengutari_boards(1, 40, job, sizeof job, store, sizeof store, length, 1, table, 16 * ROWS, bounds, ROWS, codes, 8, budgets, 8,
+                            vectors, 64, slots, 48);
+    if (code == 0)
+        code = codes[0];
 }
 
 /* How many bytes of stack a call takes, or ROOM where it is refused. */
@@ -51,7 +66,8 @@ int main(void)
 {
     static const struct { const char *name; void (*call)(void); size_t sum, rank; } calls[] = {
         {"cost", cost, 8000, 45000}, {"bound", bound, 8000, 45000}, {"search", search, 190000, 220000},
-        {"windows", windows, 190000, 220000}, {"cost_by_beacon", by_beacon, 8000, 0}, {"labels", label, 8000, 0},
+        {"windows", windows, 190000, 220000}, {"boards", boards, 195000, 225000}, {"cost_by_beacon", by_beacon, 8000, 0},
+        {"labels", label, 8000, 0},
     };
     int passed = 0, failed = 0;
     for (size_t i = 0; i < RECORDS; i++)

@@ -9,6 +9,7 @@ ghost use Rattle.c_split.specs.Calls.{splitCall, halvesAfter};
 ghost use Rattle.c_labels.specs.Calls.{labelsCall, labelsAfter};
 ghost use Rattle.c_beacon_costs.specs.Calls.{costByBeaconCall, sumsAfterCall};
 ghost use Rattle.c_search.specs.Calls.{searchCall, vectorAfter, numbersAfter, TableAfterCall, BoundsAfterCall, CertifiedCall};
+ghost use Rattle.c_boards.specs.Calls as Boards;
 ghost use Rattle.merge.specs.Merge.{outputAfter};
 ghost use Rattle.c_stores.specs.Calls.{mergeCall, takeInCall};
 ghost use Rattle.sharing.specs.Sharing.{SharedTable, SharedBounds};
@@ -242,6 +243,65 @@ pub extern "C" fn vengutari_windows(
         bounds,
         out,
         value,
+    )
+}
+
+// Searches the stores of 1 to 8 jobs in order, in one table, within one split budget. Each job's code, budget, vector and numbers go into
+// their buffers.
+#[no_mangle]
+pub extern "C" fn vengutari_boards(
+    count: u8,
+    total: u32,
+    jobs: &[u8],
+    stores: &[u8],
+    lengths: &[u32],
+    table: &mut [i16],
+    bounds: &mut [u64],
+    codes: &mut [u32],
+    budgets: &mut [u32],
+    vectors: &mut [i16],
+    numbers: &mut [u64],
+) -> u32
+    ensures code { λ k. ⌜ k
+        ≡ codeOf (Boards.boardsCall count total (now (jobs .entry)) (now (stores .entry)) (now (lengths .entry)) (now (table .entry))
+        (now (bounds .entry)) (now (codes .entry)) (now (budgets .entry)) (now (vectors .entry)) (now (numbers .entry))) ⌝ }
+    ensures codes { λ _. ⌜ now (codes .exit)
+        ≡ Boards.codesAfter count total (now (jobs .entry)) (now (stores .entry)) (now (lengths .entry)) (now (table .entry))
+        (now (bounds .entry)) (now (codes .entry)) (now (budgets .entry)) (now (vectors .entry)) (now (numbers .entry)) ⌝ }
+    ensures budgets { λ _. ⌜ now (budgets .exit)
+        ≡ Boards.budgetsAfter count total (now (jobs .entry)) (now (stores .entry)) (now (lengths .entry)) (now (table .entry))
+        (now (bounds .entry)) (now (codes .entry)) (now (budgets .entry)) (now (vectors .entry)) (now (numbers .entry)) ⌝ }
+    ensures vectors { λ _. ⌜ now (vectors .exit)
+        ≡ Boards.vectorsAfter count total (now (jobs .entry)) (now (stores .entry)) (now (lengths .entry)) (now (table .entry))
+        (now (bounds .entry)) (now (codes .entry)) (now (budgets .entry)) (now (vectors .entry)) (now (numbers .entry)) ⌝ }
+    ensures numbers { λ _. ⌜ now (numbers .exit)
+        ≡ Boards.numbersAfter count total (now (jobs .entry)) (now (stores .entry)) (now (lengths .entry)) (now (table .entry))
+        (now (bounds .entry)) (now (codes .entry)) (now (budgets .entry)) (now (vectors .entry)) (now (numbers .entry)) ⌝ }
+    ensures table { λ _. ⌜
+        Boards.TableAfterCall count total (now (jobs .entry)) (now (stores .entry)) (now (lengths .entry)) (now (table .entry))
+        (now (bounds .entry)) (now (codes .entry)) (now (budgets .entry)) (now (vectors .entry)) (now (numbers .entry))
+        (now (table .exit)) ⌝ }
+    ensures bounds { λ _. ⌜
+        Boards.BoundsAfterCall count total (now (jobs .entry)) (now (stores .entry)) (now (lengths .entry)) (now (table .entry))
+        (now (bounds .entry)) (now (codes .entry)) (now (budgets .entry)) (now (vectors .entry)) (now (numbers .entry))
+        (now (bounds .exit)) ⌝ }
+    ensures certificate { λ k. ⌜ (k ≡ 0 →
+        Boards.CertifiedCall count total (now (jobs .entry)) (now (stores .entry)) (now (lengths .entry)) (now (table .entry))
+        (now (bounds .entry)) (now (codes .entry)) (now (budgets .entry)) (now (vectors .entry)) (now (numbers .entry))
+        (now (codes .exit)) (now (budgets .exit)) (now (vectors .exit)) (now (numbers .exit))) ⌝ }
+{
+    c_boards::boards(
+        count,
+        total,
+        jobs,
+        stores,
+        lengths,
+        table,
+        bounds,
+        codes,
+        budgets,
+        vectors,
+        numbers,
     )
 }
 

@@ -31,6 +31,24 @@ pub struct Passed {
     pub value: u64,
 }
 
+/// What several jobs are lent for their results, a slot for each of eight: codes, budgets, vectors of 8 and numbers of 6.
+pub struct Slots {
+    pub codes: Lent<u32>,
+    pub budgets: Lent<u32>,
+    pub vectors: Lent<i16>,
+    pub numbers: Lent<u64>,
+}
+
+/// Several jobs, as a call has them: the records, the stores and the stores' lengths, each one behind the other.
+#[derive(Clone)]
+pub struct Jobs {
+    pub count: u8,
+    pub total: u32,
+    pub records: Vec<u8>,
+    pub stores: Vec<u8>,
+    pub lengths: Vec<u32>,
+}
+
 pub trait Calls {
     fn loss(&self, p: u8, epsilon: u32, e: i64, value: &mut u64) -> u32;
     fn cost(&self, store: &[u8], model: &Model, vector: &[i16], value: &mut u64) -> u32;
@@ -66,6 +84,7 @@ pub trait Calls {
         window: [usize; 2],
         lent: &mut Passed,
     ) -> u32;
+    fn boards(&self, jobs: &Jobs, table: &mut [i16], bounds: &mut [u64], slots: &mut Slots) -> u32;
     /// The numbers are n, d, S, p, ε, t, budget and r.
     fn read_job(&self, bytes: &[u8], numbers: &mut [u64], corners: &mut [i16], start: &mut [i16]) -> u32;
     fn write_job(&self, job: &Job, corners: &[i16], start: &[i16], bytes: &mut [u8]) -> u32;

@@ -1,7 +1,7 @@
 //! The product: its library through include/vengutari.h, and its program fit. All declarations for C stand
 //! in this file.
 
-use compare::calls::{Calls, Found, Passed};
+use compare::calls::{Calls, Found, Jobs, Passed, Slots};
 use oracle::{AnswerRecord, Job, Model};
 use std::io::{Read, Write};
 use std::process::{Command, Stdio};
@@ -138,6 +138,28 @@ extern "C" {
         out: *mut u8,
         out_len: usize,
         value: *mut u64,
+    ) -> u32;
+    fn vengutari_boards(
+        count: u8,
+        total: u32,
+        jobs: *const u8,
+        jobs_len: usize,
+        stores: *const u8,
+        stores_len: usize,
+        lengths: *const u32,
+        lengths_len: usize,
+        table: *mut i16,
+        table_len: usize,
+        bounds: *mut u64,
+        bounds_len: usize,
+        codes: *mut u32,
+        codes_len: usize,
+        budgets: *mut u32,
+        budgets_len: usize,
+        vectors: *mut i16,
+        vectors_len: usize,
+        numbers: *mut u64,
+        numbers_len: usize,
     ) -> u32;
     fn vengutari_read_job(
         bytes: *const u8,
@@ -360,6 +382,35 @@ impl Calls for Library {
                 out.as_mut_ptr(),
                 out.len(),
                 &mut lent.value,
+            )
+        }
+    }
+
+    fn boards(&self, jobs: &Jobs, table: &mut [i16], bounds: &mut [u64], slots: &mut Slots) -> u32 {
+        let (codes, budgets) = (slots.codes.part(), slots.budgets.part());
+        let (vectors, numbers) = (slots.vectors.part(), slots.numbers.part());
+        unsafe {
+            vengutari_boards(
+                jobs.count,
+                jobs.total,
+                jobs.records.as_ptr(),
+                jobs.records.len(),
+                jobs.stores.as_ptr(),
+                jobs.stores.len(),
+                jobs.lengths.as_ptr(),
+                jobs.lengths.len(),
+                table.as_mut_ptr(),
+                table.len(),
+                bounds.as_mut_ptr(),
+                bounds.len(),
+                codes.as_mut_ptr(),
+                codes.len(),
+                budgets.as_mut_ptr(),
+                budgets.len(),
+                vectors.as_mut_ptr(),
+                vectors.len(),
+                numbers.as_mut_ptr(),
+                numbers.len(),
             )
         }
     }

@@ -4,6 +4,7 @@
 //! Every call has the paper's checks in table order and answers `Err(refusal)` for the first that fails.
 
 pub mod beacons;
+pub mod boards;
 pub mod boxes;
 pub mod coefficients;
 pub mod fit;
@@ -19,6 +20,7 @@ pub mod windows;
 mod bench_fits;
 
 pub use beacons::cost_by_beacon;
+pub use boards::{boards, Board};
 pub use boxes::{split, Box8};
 pub use coefficients::{read_line, write_line};
 pub use fit::fit;

@@ -3,6 +3,7 @@
 mod beacon;
 mod beacon_sums;
 mod bench;
+mod boards;
 mod crossings;
 mod fit;
 mod gaps;
@@ -92,6 +93,11 @@ pub const GROUPS: &[Group] = &[
     group("windows-alone", "windows", 1500, windows::alone),
     group("windows-ends", "windows", 1500, windows::ends),
     group("windows-damaged", "windows", 2000, windows::damaged),
+    group("boards", "boards", 1500, boards::mixed),
+    group("boards-alone", "boards", 300, boards::each_alone),
+    group("boards-refused", "boards", 500, boards::refused),
+    group("boards-past-32-bits", "boards", 300, boards::past_32_bits),
+    group("boards-by-hand", "boards", 1, boards::by_hand),
     group("read_job", "read_job", 500, records::read_job),
     group("write_job", "write_job", 500, records::write_job),
     group("read_answer", "read_answer", 2000, records::read_answer),

@@ -2,6 +2,7 @@
 //! "slips to expect" among them; every one must fail some case, and the one without a slip none.
 
 mod beacon_sums;
+mod boards;
 mod gaps;
 mod labels;
 mod merge;
@@ -145,6 +146,24 @@ enum Slip {
     WindowsShortWritten,
     WindowsClearTheRest,
     WindowsCountInBytes,
+    // Several boards.
+    BoardsNineTaken,
+    BoardsRecordsUnchecked,
+    BoardsStoreSkipsRefused,
+    BoardsStoreCutShort,
+    BoardsSum32Bits,
+    BoardsEqualShares,
+    BoardsOthersAlone,
+    BoardsShareRoundedUp,
+    BoardsAllThatIsLeft,
+    BoardsOwnIgnored,
+    BoardsAllottedSpent,
+    BoardsRefusedShareLost,
+    BoardsRefusedBudget0,
+    BoardsRefusedClearsTable,
+    BoardsOneBadRefusesAll,
+    BoardsRowsOfTheRecord,
+    BoardsUnused18,
     // Records, lines and fit.
     JobFieldsSwapped,
     JobLittleEndian,
@@ -356,6 +375,33 @@ const SLIPS: &[(&str, &[Slip])] = &[
             CountOneMore,
             BoundIsZero,
             TiesIgnored,
+            WrongLengthTaken,
+        ],
+    ),
+    (
+        "boards",
+        &[
+            BoardsNineTaken,
+            BoardsRecordsUnchecked,
+            BoardsStoreSkipsRefused,
+            BoardsStoreCutShort,
+            BoardsSum32Bits,
+            BoardsEqualShares,
+            BoardsOthersAlone,
+            BoardsShareRoundedUp,
+            BoardsAllThatIsLeft,
+            BoardsOwnIgnored,
+            BoardsAllottedSpent,
+            BoardsRefusedShareLost,
+            BoardsRefusedBudget0,
+            BoardsRefusedClearsTable,
+            BoardsOneBadRefusesAll,
+            BoardsRowsOfTheRecord,
+            BoardsUnused18,
+            RowsPastPeakWritten,
+            EntriesPastPeakWritten,
+            RowsNotWritten,
+            EntriesZero,
             WrongLengthTaken,
         ],
     ),

@@ -1,7 +1,7 @@
 //! The calls of a stand-in: the oracle's, but for the slip.
 
 use super::Slip::{self, *};
-use crate::calls::{refusal_code, Calls, Found, Passed, WRONG_LENGTH};
+use crate::calls::{refusal_code, Calls, Found, Jobs, Passed, Slots, WRONG_LENGTH};
 use oracle::boxes::check_box;
 use oracle::coefficients::{coordinate_of, pattern};
 use oracle::model::check_shape;
@@ -24,7 +24,7 @@ fn settle(result: Result<u64, Refusal>, value: &mut u64) -> u32 {
 }
 
 /// The front of a buffer is written, as far as it goes.
-fn put<T: Copy>(out: &mut [T], from: &[T]) {
+pub fn put<T: Copy>(out: &mut [T], from: &[T]) {
     for (to, &element) in out.iter_mut().zip(from) {
         *to = element;
     }
@@ -44,7 +44,7 @@ fn four<T: Copy + Default>(from: &[T]) -> [T; 4] {
 
 impl StandIn {
     /// Whether each buffer has its right length; with a slip every length is taken.
-    fn takes(&self, lengths: &[(usize, usize)]) -> bool {
+    pub fn takes(&self, lengths: &[(usize, usize)]) -> bool {
         self.slips(WrongLengthTaken) || lengths.iter().all(|(length, right)| length == right)
     }
 
@@ -224,6 +224,10 @@ impl Calls for StandIn {
         };
         let passed = self.passed(&Job { domain, start, ..*job }, store, window, lent);
         settle(passed, &mut lent.value)
+    }
+
+    fn boards(&self, jobs: &Jobs, table: &mut [i16], bounds: &mut [u64], slots: &mut Slots) -> u32 {
+        self.boards_of(jobs, table, bounds, slots)
     }
 
     fn read_job(&self, bytes: &[u8], numbers: &mut [u64], corners: &mut [i16], start: &mut [i16]) -> u32 {

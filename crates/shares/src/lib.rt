@@ -1,0 +1,1 @@
+// One split budget for several jobs: definitions and laws, no code.
