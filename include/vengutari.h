@@ -12,8 +12,8 @@
  *
  * A length counts elements, not bytes. No pointer is null, each points to as many elements as its length says, and what one argument
  * lends for writing no other argument reaches. Nothing is allocated or kept, so calls on different memory may run at the same time.
- * A search, or a pass through windows, takes less than 190,000 bytes of stack, with p = 3 less than 220,000, and for several boards 5,000
- * more; a cost or bound with p = 3 less than 45,000, every other call less than 8,000.
+ * A search, a pass through windows or a run by the registers takes less than 190,000 bytes of stack, with p = 3 less than 220,000, and
+ * for several boards 5,000 more; a cost or bound with p = 3 less than 45,000, every other call less than 8,000.
  *
  * store    point records of 12 bytes, 1 to 4,096 of them; one whose y is -32,768 is a gap, a sample that the board didn't take: it adds 0
  *          to every cost and bound, and is a record as any other: it counts, and its x after the d-th are 0
@@ -177,6 +177,34 @@ uint32_t vengutari_write_line(uint8_t d, uint8_t scale, const int16_t *coordinat
  * but +0; 255 where coordinates_len or patterns_len is not 4. */
 uint32_t vengutari_read_line(uint8_t d, uint8_t scale, const uint32_t *patterns, size_t patterns_len, int16_t *coordinates,
                              size_t coordinates_len);
+
+/* The fitter on the data bus: 136 register bytes, which the caller keeps and touches by these three calls alone.
+ *   0          the command: 2 runs a search of the job record, 3 clears the flags and the interrupt, others do nothing; reads 0
+ *   1          flags: bit 0 done, bit 1 refused, bit 2 interrupt pending
+ *   2          bit 0 enables the interrupt; other bits read 0
+ *   3          the last run's refusal number, 0 if it was done
+ *   8 to 47    the last run's answer record, zeros after a refusal
+ *   64 to 135  the job record
+ * Only 0, 2 and 64 to 135 take writes; everything else reads 0. Each call returns 0, or 255 where registers_len is not 136: a refused run
+ * is told by the registers. */
+#define VENGUTARI_REGISTERS 136
+#define VENGUTARI_COMMAND_RUN 2
+#define VENGUTARI_COMMAND_CLEAR 3
+#define VENGUTARI_FLAG_DONE 1
+#define VENGUTARI_FLAG_REFUSED 2
+#define VENGUTARI_FLAG_PENDING 4
+
+/* All bytes are 0 after reset. */
+uint32_t vengutari_reset(uint8_t *registers, size_t registers_len);
+
+/* *value is what a read of any offset gives, whatever the bytes hold. */
+uint32_t vengutari_read_register(const uint8_t *registers, size_t registers_len, size_t offset, uint64_t *value);
+
+/* Writes a byte to any offset. A run searches the store in table, whose rows must be the job's r, or it is refused by 8, with bounds beside
+ * it, as vengutari_search does: refusals 1 to 8 and 14, in byte 3. An answer that is spent or full is done too. Any other write leaves
+ * table and bounds as they are. */
+uint32_t vengutari_write_register(uint8_t *registers, size_t registers_len, size_t offset, uint8_t value, const uint8_t *store,
+                                  size_t store_len, int16_t *table, size_t table_len, uint64_t *bounds, size_t bounds_len);
 
 /* Writes a point record into 12 bytes. x has four numbers, those after the d-th 0; a y of VENGUTARI_GAP_Y makes it a gap. */
 static inline void vengutari_put_point(uint8_t *record, const int16_t *x, int16_t y, uint16_t frame)

@@ -23,6 +23,7 @@ BEACON_RECORDS = 19
 MOST_RECORDS = 4096
 JOB_BYTES = 72
 ANSWER_BYTES = 40
+REGISTERS = 136
 ROW_NUMBERS = 16
 ROW_BYTES = 2 * ROW_NUMBERS + 8
 LARGEST_EPSILON = 16_777_215
@@ -79,6 +80,9 @@ SIGNATURES = {
     "vengutari_search": [*_BYTES, *_MODEL, _U64, _U32, *_NUMBERS, *_NUMBERS, *_NUMBERS, *_WIDE, *_NUMBERS, *_WIDE, *_VALUE],
     "vengutari_windows": [*_BYTES, *_MODEL, _U64, _U32, *_NUMBERS, *_NUMBERS, _SIZE, _SIZE, *_NUMBERS, *_WIDE, *_BYTES, *_VALUE],
     "vengutari_boards": [_U8, _U32, *_BYTES, *_BYTES, *_PATTERNS, *_NUMBERS, *_WIDE, *_PATTERNS, *_PATTERNS, *_NUMBERS, *_WIDE],
+    "vengutari_reset": [*_BYTES],
+    "vengutari_read_register": [*_BYTES, _SIZE, *_VALUE],
+    "vengutari_write_register": [*_BYTES, _SIZE, _U8, *_BYTES, *_NUMBERS, *_WIDE],
     "vengutari_cost_by_beacon": [*_BYTES, *_MODEL, *_NUMBERS, *_WIDE, *_VALUE],
     "vengutari_take_in": [*_BYTES, _SIZE, *_BYTES, *_VALUE],
     "vengutari_merge": [*_BYTES, *_BYTES, *_BYTES, *_VALUE],
@@ -197,6 +201,22 @@ class Library:
             (codes[i], budgets[i], None if codes[i] else Answer(KINDS[numbers[6 * i]], list(vectors[8 * i : 8 * i + 8]), *numbers[6 * i + 1 : 6 * i + 6]))
             for i in range(len(jobs))
         ]
+
+    def reset(self):
+        """The registers of the fitter on the data bus, all of them 0."""
+        registers = _bytes(bytes(REGISTERS))
+        self._call("vengutari_reset", registers)
+        return bytes(registers)
+
+    def read_register(self, registers, offset):
+        return self._call("vengutari_read_register", _bytes(registers), offset)
+
+    def write_register(self, registers, offset, value, store, rows):
+        """The registers after a write; a run searches the store in a table of so many rows."""
+        made = _bytes(registers)
+        table, bounds = _zeros(ctypes.c_int16, rows * ROW_NUMBERS), _zeros(ctypes.c_uint64, rows)
+        self._call("vengutari_write_register", made, offset, value, _bytes(store), table, bounds)
+        return bytes(made)
 
     def take_in(self, store, mark, beacon):
         lent = _bytes(store)

@@ -1,5 +1,5 @@
 """The example files are those that their script makes, the tool makes the same jobs from the CSV files, and the program fit
-writes for each job the line that stands beside it."""
+writes for each job the line that stands beside it; the program bus replies to the driver's exchange as its file says."""
 
 import pathlib
 import subprocess
@@ -11,6 +11,8 @@ ROOT = pathlib.Path(__file__).resolve().parents[2]
 EXAMPLES = ROOT / "examples"
 TOOL = ROOT / "tools" / "vengutari"
 FIT = ROOT / "target" / "bin" / "fit"
+BUS = ROOT / "target" / "bin" / "bus"
+DRIVER = EXAMPLES / "driver.py"
 FITS = ["G", "H", "I", "J"]
 
 OPTIONS = {
@@ -57,6 +59,32 @@ class Examples(unittest.TestCase):
         """What the gate runs the program on is fit G."""
         for name, end in (("stdin", "job"), ("stdout", "out")):
             self.assertEqual((ROOT / "crates" / "fit" / name).read_bytes(), (EXAMPLES / "fits" / f"G.{end}").read_bytes(), name)
+
+    def test_bus_replies_to_the_driver(self):
+        """The exchange is the one that the driver makes, the replies are those beside it, and in words they are the answer of fit G."""
+        made = subprocess.run([sys.executable, str(DRIVER)], check=True, capture_output=True).stdout
+        self.assertEqual(made, (EXAMPLES / "driver.in").read_bytes())
+        replies = subprocess.run([str(BUS)], input=made, check=True, capture_output=True).stdout
+        self.assertEqual(replies, (EXAMPLES / "driver.out").read_bytes())
+        told = subprocess.run([sys.executable, str(DRIVER), "--replies"], input=replies, check=True, capture_output=True).stdout.decode()
+        self.assertIn("answer: solved, w = 2, C = 2, L = 2, 1 splits\n", told)
+        self.assertIn("flags: refused, interrupt pending\nrefusal: 4\nanswer: zeros\n", told)
+        for name, end in (("stdin", "in"), ("stdout", "out")):
+            self.assertEqual((ROOT / "crates" / "bus" / name).read_bytes(), (EXAMPLES / f"driver.{end}").read_bytes(), name)
+
+    def test_bus_says_what_it_cannot_do(self):
+        """An argument gets a usage line, an input that is too long a line, and replies that are not written too."""
+        usage = b"usage: bus < INPUT, a store's number of records, the store, and accesses of 4 bytes; bus takes no argument\n"
+        done = subprocess.run([str(BUS), "driver.in"], input=b"", capture_output=True, check=False)
+        self.assertEqual((done.stdout, done.stderr), (b"", usage))
+        longest = b"\x10\x00" + bytes(49_152) + bytes(65_536)
+        done = subprocess.run([str(BUS)], input=longest, capture_output=True, check=False)
+        self.assertEqual((done.stdout, done.stderr), (bytes(16_384), b""))
+        done = subprocess.run([str(BUS)], input=longest + b"\x00", capture_output=True, check=False)
+        self.assertEqual((done.stdout, done.stderr), (b"", b"bus: the input is longer than 114,690 bytes\n"))
+        with open(EXAMPLES / "driver.in", "rb") as exchange, open("/dev/full", "wb") as full:
+            done = subprocess.run([str(BUS)], stdin=exchange, stdout=full, stderr=subprocess.PIPE, check=False)
+        self.assertEqual(done.stderr, b"bus: the replies could not be written\n")
 
 
 if __name__ == "__main__":

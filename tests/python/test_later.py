@@ -251,6 +251,11 @@ class Interface(unittest.TestCase):
         self.assertEqual(calls.read_job(job), ([1, 1, 0, 1, 2, 0, 10, 4], [0] * 8, [3] + [0] * 7, [0] * 8))
         found = calls.boards(5, [job, job[:3] + b"\4" + job[4:]], [store, store], 4)
         self.assertEqual(found, [(0, 2, calls.search(store, model, 0, 2, [0], [3], [0], 4)._replace(vector=[2] + [0] * 7)), (4, 4, None)])
+        registers = calls.reset()
+        for offset, byte in [*enumerate(job, 64), (0, 2)]:
+            registers = calls.write_register(registers, offset, byte, store, 4)
+        self.assertEqual([calls.read_register(registers, k) for k in (0, 1, 3, 136)], [0, 1, 0, 0])
+        self.assertEqual(bytes(calls.read_register(registers, k) for k in range(8, 48)), record)
         self.assertEqual(calls.write_line(1, 1, [-3]), [0xBFC00000, 0, 0, 0])
         self.assertEqual(calls.read_line(1, 1, [0xBFC00000, 0, 0, 0]), [-3])
         self.assertEqual(calls.take_in(bytes(24), 12, store[:12]), (bytes(12) + store[:12], 24))

@@ -103,7 +103,7 @@ def wrong_rows(page):
 
 
 # What is handed out: the calls for C, and all that the program fit computes.
-EXPORTS = ("capi/src/lib.rt", "fit_line/src/lib.rt")
+EXPORTS = ("capi/src/lib.rt", "fit_line/src/lib.rt", "bus_exchange/src/lib.rt")
 USE = re.compile(r"^(?:ghost )?use Rattle·(\w+?)(?:·specs)?\.specs\.(\w+)(?:\.\{([^}]*)\}| as (\w+))", re.M)
 
 

@@ -9,7 +9,7 @@
 enum { ROOM = 1 << 20, RECORDS = 4096, ROWS = 64, FILLED = 0xA5 };
 
 static unsigned char stack[ROOM];
-static uint8_t store[12 * RECORDS], labels[RECORDS], records[40 * 3];
+static uint8_t store[12 * RECORDS], labels[RECORDS], records[40 * 3], registers[VENGUTARI_REGISTERS];
 static int16_t table[16 * ROWS], found[8];
 static uint64_t bounds[ROWS], sums[216], numbers[5], slots[48], value;
 static uint8_t job[72];
@@ -46,6 +46,21 @@ static void boards(void)
         code = codes[0];
 }
 
+/* The same search by the registers of the data bus. */
+static void run(void)
+{
+    uint8_t record[72];
+    vengutari_reset(registers, sizeof registers);
+    vengutari_write_job(2, 2, 7, p, eps, 0, 40, ROWS, corners, 16, vector, 8, record, sizeof record);
+    for (size_t k = 0; k < sizeof record; k++)
+        vengutari_write_register(registers, sizeof registers, 64 + k, record[k], store, sizeof store, table, 16 * ROWS, bounds, ROWS);
+    code = vengutari_write_register(registers, sizeof registers, 0, VENGUTARI_COMMAND_RUN, store, sizeof store, table, 16 * ROWS, bounds,
+                                    ROWS);
+    vengutari_read_register(registers, sizeof registers, 1, &value);
+    if (value != VENGUTARI_FLAG_DONE)
+        code = 1;
+}
+
 /* How many bytes of stack a call takes, or ROOM where it is refused. */
 static size_t taken(void (*call)(void))
 {
@@ -66,8 +81,8 @@ int main(void)
 {
     static const struct { const char *name; void (*call)(void); size_t sum, rank; } calls[] = {
         {"cost", cost, 8000, 45000}, {"bound", bound, 8000, 45000}, {"search", search, 190000, 220000},
-        {"windows", windows, 190000, 220000}, {"boards", boards, 195000, 225000}, {"cost_by_beacon", by_beacon, 8000, 0},
-        {"labels", label, 8000, 0},
+        {"windows", windows, 190000, 220000}, {"boards", boards, 195000, 225000}, {"write_register", run, 190000, 220000},
+        {"cost_by_beacon", by_beacon, 8000, 0}, {"labels", label, 8000, 0},
     };
     int passed = 0, failed = 0;
     for (size_t i = 0; i < RECORDS; i++)

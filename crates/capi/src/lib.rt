@@ -3,7 +3,7 @@
 // a buffer of the wrong length. What it answers goes into lent memory, which a refusal leaves as it is.
 ghost use mathlib.Core.Path.{_≡_};
 ghost use Rattle.beacon.specs.Beacon.{storeAfter};
-ghost use Rattle.c_boundary.specs.Boundary.{modelOf, codeOf, valueAfter};
+ghost use Rattle.c_boundary.specs.Boundary.{modelOf, codeOf, valueAfter, ifAccepted};
 ghost use Rattle.c_evaluation.specs.Calls.{lossCall, costCall, boundCall};
 ghost use Rattle.c_split.specs.Calls.{splitCall, halvesAfter};
 ghost use Rattle.c_labels.specs.Calls.{labelsCall, labelsAfter};
@@ -14,6 +14,8 @@ ghost use Rattle.merge.specs.Merge.{outputAfter};
 ghost use Rattle.c_stores.specs.Calls.{mergeCall, takeInCall};
 ghost use Rattle.sharing.specs.Sharing.{SharedTable, SharedBounds};
 ghost use Rattle.c_windows.specs.Calls.{windowsCall, searchesOfCall, outAfterCall, CertifiedWindows};
+ghost use Rattle.registers.specs.Registers.{cleared};
+ghost use Rattle.c_bus.specs.Calls.{registersCall, readCall, registersAfterWrite, TableAfterWrite, BoundsAfterWrite, CertifiedWrite};
 ghost use Rattle.c_jobs.specs.Calls.{readJobCall, jobNumbersAfter, cornersAfter, startAfter, writeJobCall, jobRecordAfter};
 ghost use Rattle.c_answers.specs.Calls.{readAnswerCall, answerVectorAfter, answerNumbersAfter, writeAnswerCall, answerRecordAfter};
 ghost use Rattle.c_lines.specs.Calls.{writeLineCall, patternsAfter, readLineCall, coordinatesAfter};
@@ -439,4 +441,49 @@ pub extern "C" fn vengutari_read_line(
     ensures coordinates { λ _. ⌜ now (coordinates .exit) ≡ coordinatesAfter d scale (now (coordinates .entry)) (now (patterns .entry)) ⌝ }
 {
     c_lines::read_line(d, scale, patterns, coordinates)
+}
+
+// Resets the registers of the fitter on the data bus.
+#[no_mangle]
+pub extern "C" fn vengutari_reset(registers: &mut [u8]) -> u32
+    ensures code { λ k. ⌜ k ≡ codeOf (registersCall (now (registers .entry))) ⌝ }
+    ensures registers { λ _. ⌜ now (registers .exit)
+        ≡ ifAccepted (registersCall (now (registers .entry))) cleared (now (registers .entry)) ⌝ }
+{
+    c_bus::reset(registers)
+}
+
+// Reads the register at an offset.
+#[no_mangle]
+pub extern "C" fn vengutari_read_register(registers: &[u8], offset: usize, value: &mut u64) -> u32
+    ensures code { λ k. ⌜ k ≡ codeOf (readCall (now (registers .entry)) offset) ⌝ }
+    ensures value { λ _. ⌜ now (value .exit) ≡ valueAfter (readCall (now (registers .entry)) offset) (now (value .entry)) ⌝ }
+{
+    c_bus::read_register(registers, offset, value)
+}
+
+// Writes the register at an offset; where that is a run, it searches.
+#[no_mangle]
+pub extern "C" fn vengutari_write_register(
+    registers: &mut [u8],
+    offset: usize,
+    value: u8,
+    store: &[u8],
+    table: &mut [i16],
+    bounds: &mut [u64],
+) -> u32
+    ensures code { λ k. ⌜ k ≡ codeOf (registersCall (now (registers .entry))) ⌝ }
+    ensures registers { λ _. ⌜ now (registers .exit)
+        ≡ registersAfterWrite (now (registers .entry)) offset value (now (store .entry)) (now (table .entry)) (now (bounds .entry)) ⌝ }
+    ensures table { λ _. ⌜
+        TableAfterWrite (now (registers .entry)) offset value (now (store .entry)) (now (table .entry)) (now (bounds .entry))
+        (now (table .exit)) ⌝ }
+    ensures bounds { λ _. ⌜
+        BoundsAfterWrite (now (registers .entry)) offset value (now (store .entry)) (now (table .entry)) (now (bounds .entry))
+        (now (bounds .exit)) ⌝ }
+    ensures certificate { λ k. ⌜ (k ≡ 0 →
+        CertifiedWrite (now (registers .entry)) offset value (now (store .entry)) (now (table .entry)) (now (bounds .entry))
+        (now (registers .exit))) ⌝ }
+{
+    c_bus::write_register(registers, offset, value, store, table, bounds)
 }

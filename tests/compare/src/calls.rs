@@ -93,6 +93,20 @@ pub trait Calls {
     fn write_answer(&self, answer: &AnswerRecord, vector: &[i16], bytes: &mut [u8]) -> u32;
     fn write_line(&self, d: u8, s: u8, coordinates: &[i16], patterns: &mut [u32]) -> u32;
     fn read_line(&self, d: u8, s: u8, patterns: &[u32], coordinates: &mut [i16]) -> u32;
+    fn reset(&self, registers: &mut [u8]) -> u32;
+    /// The value is the byte at the offset.
+    fn read_register(&self, registers: &[u8], offset: usize, value: &mut u64) -> u32;
+    fn write_register(
+        &self,
+        registers: &mut [u8],
+        offset: usize,
+        value: u8,
+        store: &[u8],
+        table: &mut [i16],
+        bounds: &mut [u64],
+    ) -> u32;
     /// The program fit: what it writes for this input.
     fn fit(&self, input: &[u8]) -> Vec<u8>;
+    /// The program bus: what it writes for this input.
+    fn bus(&self, input: &[u8]) -> Vec<u8>;
 }

@@ -1,4 +1,4 @@
-//! The product: its library through include/vengutari.h, and its program fit. All declarations for C stand
+//! The product: its library through include/vengutari.h, and its programs fit and bus. All declarations for C stand
 //! in this file.
 
 use compare::calls::{Calls, Found, Jobs, Passed, Slots};
@@ -6,9 +6,25 @@ use oracle::{AnswerRecord, Job, Model};
 use std::io::{Read, Write};
 use std::process::{Command, Stdio};
 
-/// The product, with the path of its program fit.
+/// The product, with the paths of its programs.
 pub struct Library {
     pub fit: String,
+    pub bus: String,
+}
+
+/// What a program writes for this input.
+fn output_of(path: &str, input: &[u8]) -> Vec<u8> {
+    let started = Command::new(path).stdin(Stdio::piped()).stdout(Stdio::piped()).spawn();
+    let mut program = started.unwrap_or_else(|error| panic!("{path}: {error}"));
+    // It may stop reading where its input is too long.
+    let _ = program.stdin.take().unwrap().write_all(input);
+    let mut output = Vec::new();
+    program.stdout.take().unwrap().read_to_end(&mut output).unwrap();
+    let status = program.wait().unwrap();
+    if !status.success() {
+        output.extend(format!("{path} ended with {status}").bytes());
+    }
+    output
 }
 
 #[link(name = "capi", kind = "static")]
@@ -207,6 +223,20 @@ extern "C" {
         s: u8,
         bytes: *mut u8,
         bytes_len: usize,
+    ) -> u32;
+    fn vengutari_reset(registers: *mut u8, registers_len: usize) -> u32;
+    fn vengutari_read_register(registers: *const u8, registers_len: usize, offset: usize, value: *mut u64) -> u32;
+    fn vengutari_write_register(
+        registers: *mut u8,
+        registers_len: usize,
+        offset: usize,
+        value: u8,
+        store: *const u8,
+        store_len: usize,
+        table: *mut i16,
+        table_len: usize,
+        bounds: *mut u64,
+        bounds_len: usize,
     ) -> u32;
     fn vengutari_write_line(
         d: u8,
@@ -496,17 +526,44 @@ impl Calls for Library {
         }
     }
 
-    fn fit(&self, input: &[u8]) -> Vec<u8> {
-        let started = Command::new(&self.fit).stdin(Stdio::piped()).stdout(Stdio::piped()).spawn();
-        let mut program = started.unwrap_or_else(|error| panic!("{}: {error}", self.fit));
-        // fit may stop reading where its input is too long.
-        let _ = program.stdin.take().unwrap().write_all(input);
-        let mut output = Vec::new();
-        program.stdout.take().unwrap().read_to_end(&mut output).unwrap();
-        let status = program.wait().unwrap();
-        if !status.success() {
-            output.extend(format!("fit ended with {status}").bytes());
+    fn reset(&self, registers: &mut [u8]) -> u32 {
+        unsafe { vengutari_reset(registers.as_mut_ptr(), registers.len()) }
+    }
+
+    fn read_register(&self, registers: &[u8], offset: usize, value: &mut u64) -> u32 {
+        unsafe { vengutari_read_register(registers.as_ptr(), registers.len(), offset, value) }
+    }
+
+    fn write_register(
+        &self,
+        registers: &mut [u8],
+        offset: usize,
+        value: u8,
+        store: &[u8],
+        table: &mut [i16],
+        bounds: &mut [u64],
+    ) -> u32 {
+        unsafe {
+            vengutari_write_register(
+                registers.as_mut_ptr(),
+                registers.len(),
+                offset,
+                value,
+                store.as_ptr(),
+                store.len(),
+                table.as_mut_ptr(),
+                table.len(),
+                bounds.as_mut_ptr(),
+                bounds.len(),
+            )
         }
-        output
+    }
+
+    fn fit(&self, input: &[u8]) -> Vec<u8> {
+        output_of(&self.fit, input)
+    }
+
+    fn bus(&self, input: &[u8]) -> Vec<u8> {
+        output_of(&self.bus, input)
     }
 }

@@ -16,6 +16,7 @@ const USAGE: &str = "usage: compare [OPTIONS]
   --seed S        this seed alone, for each group
   --only GROUP    one group
   --fit PATH      the program fit
+  --bus PATH      the program bus
   --trace         name each case before it is run";
 
 struct Options {
@@ -23,11 +24,13 @@ struct Options {
     from: Option<u64>,
     only: Option<String>,
     fit: String,
+    bus: String,
     trace: bool,
 }
 
 fn options() -> Result<Options, String> {
-    let mut options = Options { seeds: None, from: None, only: None, fit: "fit".to_string(), trace: false };
+    let mut options =
+        Options { seeds: None, from: None, only: None, fit: "fit".to_string(), bus: "bus".to_string(), trace: false };
     let mut words = std::env::args().skip(1);
     while let Some(word) = words.next() {
         let mut value = || words.next().ok_or(format!("{word} needs a value"));
@@ -38,6 +41,7 @@ fn options() -> Result<Options, String> {
             "--seed" => (options.seeds, options.from) = (Some(1), Some(number(value()?)?)),
             "--only" => options.only = Some(value()?),
             "--fit" => options.fit = value()?,
+            "--bus" => options.bus = value()?,
             "--trace" => options.trace = true,
             _ => return Err(format!("unknown option {word}")),
         }
@@ -78,7 +82,7 @@ fn run_group(calls: &dyn Calls, group: &Group, seeds: std::ops::Range<u64>, trac
 
 /// Runs the groups that the options name and counts their cases.
 fn run(options: Options) -> (u64, u64) {
-    let calls = library::Library { fit: options.fit };
+    let calls = library::Library { fit: options.fit, bus: options.bus };
     let from = options.from.unwrap_or_else(|| if options.seeds.is_some() { fresh_seed() } else { 0 });
     if options.seeds.is_some() {
         println!("seeds from {from}");

@@ -6,6 +6,7 @@
 pub mod beacons;
 pub mod boards;
 pub mod boxes;
+pub mod bus;
 pub mod coefficients;
 pub mod fit;
 pub mod merge;

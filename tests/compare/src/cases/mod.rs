@@ -4,6 +4,7 @@ mod beacon;
 mod beacon_sums;
 mod bench;
 mod boards;
+mod bus;
 mod crossings;
 mod fit;
 mod gaps;
@@ -108,6 +109,12 @@ pub const GROUPS: &[Group] = &[
     group("read_line-all", "read_line", 1, lines::read_all),
     group("fit-any", "fit", 600, fit::any),
     group("fit-sound", "fit", 400, fit::sound),
+    group("bus-by-hand", "write_register", 1, bus::by_hand),
+    group("bus-lengths", "write_register", 40, bus::lengths),
+    group("bus-histories", "write_register", 400, bus::histories),
+    group("bus-program", "bus", 200, bus::program),
+    group("bus-program-cut", "bus", 60, bus::program_cut),
+    group("example-driver", "bus", 1, bus::driver),
     group("example-modes_2d", "fit", 1, fit::modes_2d),
     group("example-modes_4d", "fit", 1, fit::modes_4d),
 ];

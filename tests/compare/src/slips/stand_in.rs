@@ -3,6 +3,7 @@
 use super::Slip::{self, *};
 use crate::calls::{refusal_code, Calls, Found, Jobs, Passed, Slots, WRONG_LENGTH};
 use oracle::boxes::check_box;
+use oracle::bus::REGISTERS;
 use oracle::coefficients::{coordinate_of, pattern};
 use oracle::model::check_shape;
 use oracle::points::{check_length, points_of, STORE_LIMIT};
@@ -361,6 +362,34 @@ impl Calls for StandIn {
             }
             Err(refusal) => refusal_code(refusal),
         }
+    }
+
+    fn reset(&self, registers: &mut [u8]) -> u32 {
+        self.reset_registers(registers)
+    }
+
+    fn read_register(&self, registers: &[u8], offset: usize, value: &mut u64) -> u32 {
+        if registers.len() != REGISTERS {
+            return WRONG_LENGTH;
+        }
+        *value = self.register(registers, offset) as u64;
+        0
+    }
+
+    fn write_register(
+        &self,
+        registers: &mut [u8],
+        offset: usize,
+        value: u8,
+        store: &[u8],
+        table: &mut [i16],
+        bounds: &mut [u64],
+    ) -> u32 {
+        self.set_register(registers, offset, value, store, table, bounds)
+    }
+
+    fn bus(&self, input: &[u8]) -> Vec<u8> {
+        self.exchange(input)
     }
 
     fn fit(&self, input: &[u8]) -> Vec<u8> {

@@ -1,0 +1,33 @@
+-- By the kind.
+use borrow.Author.Needs.{needs}
+use Rattle.bus_runs.proofs.check_for.Statement.{statement}
+use Rattle.bus_runs.proofs.check_for.Tie as tie
+
+enum-told : tie.Need-enum-told
+enum-told c = search needs
+
+enum-told-2 : tie.Need-enum-told-2
+enum-told-2 c = search needs
+
+enum-told-3 : tie.Need-enum-told-3
+enum-told-3 c = search needs
+
+enum-known-kind : tie.Need-enum-known-kind
+enum-known-kind c = search needs
+
+returns : tie.Need-returns
+returns c = search needs
+
+returns-2 : tie.Need-returns-2
+returns-2 c = search needs
+
+returns-3 : tie.Need-returns-3
+returns-3 c = search needs
+
+returns-4 : tie.Need-returns-4
+returns-4 c = rw (c .before .kind .given .1)
+
+pub check-for-spec : {M : Type 1} → statement M
+check-for-spec =
+    tie.close
+    (tie.spec enum-told enum-told-2 enum-told-3 enum-known-kind returns returns-2 returns-3 returns-4)
