@@ -33,7 +33,7 @@ use Rattle.list_blocks.specs.Blocks.{gone}
 use Rattle.list_running.specs.declared.Found.{Found}
 use Rattle.list_running.specs.Listing.{FoundBy}
 use Rattle.list_running.proofs.Finding.{Lowest-of, found}
-use Rattle.replacing.specs.Replacing.{Memory, memory, listIn, ChosenIn, Within}
+use Rattle.replacing.specs.Replacing.{Memory, listIn, ChosenIn, LateLong, Within}
 use Rattle.search.specs.declared.step.State.{State}
 use Rattle.search.specs.declared.step.Stepped.{Stepped}
 use Rattle.search.specs.Search.{kindOf}
@@ -261,3 +261,16 @@ module _ (r : Run) (ready : Ready r) (s : State) (k : Memory) (g : Going r s k)
                               ∙ rest-later (r .h .bounds) (k .bounds) (s .peak) (z .state .peak) peaks (g .within .rest-entries);
                         };
                   }
+
+-- memory that is the same is as long
+pub as-long :
+    (h k : Memory) → k ≡ h →
+    (length (k .table) ≡ length (h .table))
+    × (length (k .bounds) ≡ length (h .bounds))
+    × (length (k .late) ≡ length (h .late))
+    × (length (k .beside) ≡ length (h .beside))
+as-long h k e = rw e (refl, refl, refl, refl)
+
+-- late rows that are as many as there are
+pub late-same : (h k : Memory) → LateLong h → LateLong k → (length (k .late) ≡ length (h .late)) × (length (k .beside) ≡ length (h .beside))
+late-same h k x y = (y .0 ∙ sym (x .0), y .1 ∙ sym (x .1))

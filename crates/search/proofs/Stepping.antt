@@ -24,16 +24,19 @@ use Rattle.incumbent.specs.Incumbent.{aheadOf, keptBy, Tested}
 use Rattle.branching.specs.declared.Branches.{Branches}
 use Rattle.branching.specs.Branching.{Cut}
 use Rattle.list_rows.specs.Rows.{rowCount, rowAt}
-use Rattle.list_rows.proofs.Rows.{rest-later}
+use Rattle.list_rows.proofs.Rows.{Whole, rest-later}
 use Rattle.list_open_boxes.specs.OpenBoxes.{keptAt, picked, roomIn}
 use Rattle.list_open_boxes.proofs.Picking.{picked-length}
 use Rattle.list_running.specs.declared.Found.{Found}
 use Rattle.list_running.specs.declared.Listing.{Listing}
+use Rattle.list_running.proofs.Entries.{one-answer}
 use Rattle.list_running.proofs.Settling.{boxes-are}
-use Rattle.replacing.specs.Replacing.{Memory, listIn, boxFound, moreOf, keptNumber, tooMany, Replaceable, remaining, ReplacedIn}
-use Rattle.replacing.proofs.Replacing.{all-kept}
+use Rattle.replacing.specs.declared.Replaced.{Replaced}
+use Rattle.replacing.specs.Replacing.{Memory, listIn, boxFound, moreOf, keptNumber, tooMany, Replaceable, remaining, ReplacedBy}
+use Rattle.replacing.specs.Replacing.{ReplacedIn}
+use Rattle.replacing.proofs.Replacing.{all-kept, replaced}
 use Rattle.search.specs.declared.step.State.{State}
-use Rattle.search.specs.Inside.{stateIn, Steppable, Moved}
+use Rattle.search.specs.Inside.{stateIn, Steppable, Moved, StepOutcome}
 
 -- how many are kept, one by one
 count-kept : (keep : Box → Bool) (bs : List Box) → sum (λ b. cond (keep b) 1 0) bs ≡ length (keepIf keep bs)
@@ -96,7 +99,7 @@ module _
     unfolding split
     split-is = rw (made .left .half, made .right .half, is .chosen .box, made .new)
 
-    pub replaceable : rows < 1152921504606846976 → Replaceable bound h g found br
+    replaceable : rows < 1152921504606846976 → Replaceable bound h g found br
     replaceable small =
         record {
           listed = is .stands .listed;
@@ -172,7 +175,7 @@ module _
         ))
 
     -- whether the table is too small
-    pub room-told : tooMany (h .table) (h .bounds) (h .late) (h .beside) g found br ≡ ltb rows (length (after .list))
+    room-told : tooMany (h .table) (h .bounds) (h .late) (h .beside) g found br ≡ ltb rows (length (after .list))
     unfolding tooMany
     room-told = rw (split-is, le-ltb rows (g .number) (is .room)) (by (leb (g .number + moreOf br) (rows + 1)) refl)
       where
@@ -201,7 +204,7 @@ module _
         by false e = exact (br .stays) refl (leb-false (g .number + moreOf br) (rows + 1) e)
 
     module _ (r : Listing) (k : Memory) (out : ReplacedIn bound h g br r k) where
-      pub step-moved :
+      step-moved :
           (count peak : ℕ) → count ≡ s .count + 1 → peak ≡ max (s .peak) (r .number) →
           Moved cost bound h s (record { mark = mark; list = r; count = count; peak = peak }) k
       step-moved count peak counts peaks =
@@ -225,3 +228,23 @@ module _
                   rest-entries = rest-later (h .bounds) (k .bounds) (max (g .rows) (g .number)) peak longest (out .within .rest-entries);
                 };
           }
+
+    -- there is no room, and nothing changed
+    pub step-full : (out : Replaced) (k : Memory) → ReplacedBy h g found br out k → out .full ≡ true
+        → StepOutcome cost bound h s (record { full = true; state = s }) k
+    step-full out k by so =
+        record { kept = λ e. (by .kept so) .1; told = sym so ∙ (by .told ∙ room-told); moved = λ e. absurd (one-answer e) }
+
+    -- the split is made
+    pub step-done :
+        (out : Replaced) (k : Memory) → ReplacedBy h g found br out k → out .full ≡ false → Whole (br .left .half) → Whole (br .right .half) →
+        rows < 1152921504606846976 → (count peak : ℕ) → count ≡ s .count + 1 → peak ≡ max (s .peak) (out .list .number) →
+        StepOutcome cost bound h s (record { full = false; state = record { mark = mark; list = out .list; count = count; peak = peak } }) k
+    step-done out k by so left right small count peak counts peaks =
+        record {
+          kept = λ e. absurd (one-answer (sym e));
+          told = sym so ∙ (by .told ∙ room-told);
+          moved = λ e.
+              step-moved (out .list) k (replaced bound h g found br (replaceable small) left right (out .list) k (by .made so)) count peak counts
+              peaks;
+        }

@@ -1,5 +1,5 @@
 -- The beginning, step after step, and in the end all open boxes move into the table.
-use mathlib.Core.Path.{_≡_, sym, _∙_}
+use mathlib.Core.Path.{_≡_}
 use lib.ListN.{length}
 use Rattle.points.specs.Points.{pointsOf}
 use Rattle.residuals.specs.Cost.{bound}
@@ -7,6 +7,7 @@ use Rattle.list_rows.specs.Rows.{rowCount}
 use Rattle.replacing.specs.Replacing.{Memory, memory}
 use Rattle.search.specs.Inside.{Ran}
 use Rattle.search.specs.Search.{searched}
+use Rattle.search.proofs.Going.{late-same}
 use Rattle.search.proofs.Ending.{ran}
 use borrow.Author.Needs.{needs}
 use Rattle.search.proofs.run.run.Statement.{statement}
@@ -59,8 +60,9 @@ module _ (c : tie.After-answer) where
 
   same-late : (length (last .late) ≡ length (start .args .late .now)) × (length (last .beside) ≡ length (start .args .beside .now))
   same-late =
-      let late = went .steps .ensures .late in
-      (late .0 ∙ sym (start .pre .6), late .1 ∙ sym (start .pre .7))
+      let a = start .args in
+      late-same (memory (a .table .now) (a .bounds .now) (a .leasts .now) (a .places .now) (a .late .now) (a .beside .now)) last
+      (start .pre .6, start .pre .7) (went .steps .ensures .late)
 
 same-length : tie.Need-same-length
 same-length c = done c .long

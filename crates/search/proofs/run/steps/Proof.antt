@@ -17,7 +17,7 @@ use Rattle.replacing.specs.Replacing.{Memory, memory, LateLong}
 use Rattle.search.specs.declared.step.State.{State}
 use Rattle.search.specs.Search.{searched}
 use Rattle.search.proofs.Going.{Run, Ready, Going, going-begins, low-le, going-solved, going-spent, going-steppable, going-full}
-use Rattle.search.proofs.Going.{going-on, going-counts}
+use Rattle.search.proofs.Going.{going-on, going-counts, as-long, late-same}
 use borrow.Author.Needs.{needs}
 use Rattle.search.proofs.run.steps.Statement.{statement}
 use Rattle.search.proofs.run.steps.Tie as tie
@@ -93,9 +93,7 @@ module _ (c : tie.After-lowest Inv-loop μ-loop) where
 
   still-late : (length (turn .loop .late) ≡ length (begun .args .late .now))
       × (length (turn .loop .beside) ≡ length (begun .args .beside .now))
-  still-late =
-      let late = turn .loop .inv .stands .late in
-      (late .0 ∙ sym (late-long begun .0), late .1 ∙ sym (late-long begun .1))
+  still-late = late-same (first begun) held (late-long begun) (turn .loop .inv .stands .late)
 
 -- and where the search is not solved
 module _ (c : tie.Else1 Inv-loop μ-loop) where
@@ -194,25 +192,25 @@ ended-requires-3 c κs = search needs
 same-length-9 : tie.Need-same-length-9 Inv-loop μ-loop
 same-length-9 c =
     let q = c .before .before .before .before .before .before .before .before in
-    ap (λ (m : Memory). length (m .table)) (q .step .ensures .kept (c .before .if3 .taken))
+    as-long (held (lows (q .before .before .before .before .before .before .before .before))) (stepped q) (q .step .ensures .kept (c .before .if3 .taken)) .0
     ∙ turn (lows (q .before .before .before .before .before .before .before .before)) .loop .inv .within .long
 
 same-length-10 : tie.Need-same-length-10 Inv-loop μ-loop
 same-length-10 c =
     let q = c .before .before .before .before .before .before .before .before in
-    ap (λ (m : Memory). length (m .bounds)) (q .step .ensures .kept (c .before .if3 .taken))
+    as-long (held (lows (q .before .before .before .before .before .before .before .before))) (stepped q) (q .step .ensures .kept (c .before .if3 .taken)) .1
     ∙ turn (lows (q .before .before .before .before .before .before .before .before)) .loop .inv .within .long-entries
 
 same-length-11 : tie.Need-same-length-11 Inv-loop μ-loop
 same-length-11 c =
     let q = c .before .before .before .before .before .before .before .before in
-    ap (λ (m : Memory). length (m .late)) (q .step .ensures .kept (c .before .if3 .taken))
+    as-long (held (lows (q .before .before .before .before .before .before .before .before))) (stepped q) (q .step .ensures .kept (c .before .if3 .taken)) .2
     ∙ still-late (lows (q .before .before .before .before .before .before .before .before)) .0
 
 same-length-12 : tie.Need-same-length-12 Inv-loop μ-loop
 same-length-12 c =
     let q = c .before .before .before .before .before .before .before .before in
-    ap (λ (m : Memory). length (m .beside)) (q .step .ensures .kept (c .before .if3 .taken))
+    as-long (held (lows (q .before .before .before .before .before .before .before .before))) (stepped q) (q .step .ensures .kept (c .before .if3 .taken)) .3
     ∙ still-late (lows (q .before .before .before .before .before .before .before .before)) .1
 
 returns-3 : tie.Need-returns-3 Inv-loop μ-loop

@@ -1,24 +1,19 @@
 -- The box that was found is the first with the smallest bound, so what its halves leave is what the definition's split leaves.
-use mathlib.Core.Path.{_≡_, sym, subst, _∙_}
+use mathlib.Core.Path.{subst}
 use mathlib.Core.List.{List}
 use Prim.Native.Nat.{ℕ, _<_}
 use native.Mathlib.Omega.{arith}
-use lib.Dec.{ltb}
 use lib.IntN.{ℤ}
 use lib.ListN.{length}
 use borrow.Author.Tests.{eqb-false}
 use Rattle.boxes.specs.declared.Box.{Box}
 use Rattle.points.specs.Points.{pointsOf}
 use Rattle.residuals.specs.Cost.{cost, bound}
-use Rattle.certificate.specs.Search.{split}
 use Rattle.branching.specs.Branching.{Cut}
 use Rattle.list_rows.specs.Rows.{rowCount}
 use Rattle.list_rows.proofs.Rows.{Whole}
-use Rattle.list_running.proofs.Entries.{one-answer}
 use Rattle.replacing.specs.Replacing.{Memory, memory, boxFound}
-use Rattle.replacing.proofs.Replacing.{replaced}
-use Rattle.search.specs.Inside.{stateIn}
-use Rattle.search.proofs.Stepping.{replaceable, room-told, step-moved}
+use Rattle.search.proofs.Stepping.{step-full, step-done}
 use borrow.Author.Needs.{needs}
 use Rattle.search.proofs.step.step.Statement.{statement}
 use Rattle.search.proofs.step.step.Tie as tie
@@ -67,6 +62,10 @@ module _ (c : tie.After-cut-box) where
   right-whole : Whole (c .cut-box .result .right .half)
   right-whole = let half = c .cut-box .ok .1 .1 .1 .1 .1 .0 in record { low = search (needs, half); high = search (needs, half) }
 
+-- the memory after it
+abbrev after : tie.After-replace → Memory
+after q = let x = q .replace .last in memory (x .0) (x .1 .0) (x .1 .1 .0) (x .1 .1 .1 .0) (x .1 .1 .1 .1 .0) (x .1 .1 .1 .1 .1 .0)
+
 no-room-requires : tie.Need-no-room-requires
 no-room-requires c κs = search needs
 
@@ -84,16 +83,12 @@ same-length-4 c = search needs
 
 returns : tie.Need-returns
 returns c =
-    let q = c .before .before .before .before .before .before .before .before .replace in
+    let q = c .before .before .before .before .before .before .before .before in
     let cut = c .before .before .before .before .before .before .before .before .before .before .before .before .before .before .before in
     let a = start cut .args in
     rw (c .no-room .ensures)
-    (record {
-      kept = λ e. q .ensures .kept (c .before .if1 .taken) .1;
-      told = sym (c .before .if1 .taken) ∙ (q .ensures .told ∙ room-told (C cut) (B cut) (held cut) (a .s) (a .found) (start cut .pre .1)
-          (cut .cut-box .result) (made cut));
-      moved = λ e. absurd (one-answer e);
-    })
+    (step-full (C cut) (B cut) (held cut) (a .s) (a .found) (start cut .pre .1) (cut .cut-box .result) (made cut) (q .replace .result) (after q)
+    (q .replace .ensures) (c .before .if1 .taken))
 
 add-t34 : tie.Need-add-t34
 add-t34 c =
@@ -119,24 +114,12 @@ same-length-8 c = search needs
 
 returns-2 : tie.Need-returns-2
 returns-2 c =
-    let q = c .before .before .before .before .before .before .before .before .before .before .before .replace in
+    let q = c .before .before .before .before .before .before .before .before .before .before .before in
     let cut = c .before .before .before .before .before .before .before .before .before .before .before .before .before .before .before .before .before .before in
-    let else = c .before .before .before .before in
     let a = start cut .args in
-    let is = start cut .pre .1 in
-    let br = cut .cut-box .result in
-    let x = q .last in
-    let k = memory (x .0) (x .1 .0) (x .1 .1 .0) (x .1 .1 .1 .0) (x .1 .1 .1 .1 .0) (x .1 .1 .1 .1 .1 .0) in
-    record {
-      kept = λ e. absurd (one-answer (sym e));
-      told = sym (else .if1 .left) ∙ (q .ensures .told ∙ room-told (C cut) (B cut) (held cut) (a .s) (a .found) is br (made cut));
-      moved = λ e.
-          step-moved (C cut) (B cut) (held cut) (a .s) (a .found) is br (made cut) (q .result .list) k
-          (replaced (B cut) (held cut) (a .s .list) (a .found) br
-          (replaceable (C cut) (B cut) (held cut) (a .s) (a .found) is br (made cut) (few cut)) (left-whole cut) (right-whole cut)
-          (q .result .list) k (q .ensures .made (else .if1 .left)))
-          _ (c .larger .result) (omega arith) (omega (arith, c .larger .ensures));
-    }
+    step-done (C cut) (B cut) (held cut) (a .s) (a .found) (start cut .pre .1) (cut .cut-box .result) (made cut) (q .replace .result) (after q)
+    (q .replace .ensures) (c .before .before .before .before .if1 .left) (left-whole cut) (right-whole cut) (few cut) _ (c .larger .result)
+    (omega arith) (omega (arith, c .larger .ensures))
 
 pub step-spec : {M : Type 1} → statement M
 step-spec =
