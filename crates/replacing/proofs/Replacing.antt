@@ -30,8 +30,8 @@ use Rattle.list_running.proofs.Adding.{added}
 use Rattle.certificate.specs.Search.{firstSmallest, keepIf, without}
 use Rattle.certificate.proofs.Ahead.{ahead-le}
 use Rattle.certificate.proofs.Lists.{append-kept, length-kept, takes-at, takes-all}
-use Rattle.replacing.specs.Replacing.{Memory, takesIn, putLate, putRow, putEntry, listWith, memoryWith, listIn, HeldIn, RoomMade, Made}
-use Rattle.replacing.specs.Replacing.{LateLong, Within, Replaceable, remaining, ReplacedIn}
+use Rattle.replacing.specs.Replacing.{Memory, takesIn, putLate, putRow, putEntry, listWith, memoryWith, listIn, HeldIn, RoomMade}
+use Rattle.replacing.specs.Replacing.{Made, LateLong, Within, Replaceable, remaining, ReplacedIn}
 
 -- a half, kept or not, for any test
 pub half-box : (bound : Box → ℕ) (keep : Box → Bool) (b : Box) (child : Child) → Tested bound keep b child
@@ -214,7 +214,8 @@ module _
 
     abbrev Settles : Type 0
     Settles =
-        SettledBy (h₁ .table) (h₁ .bounds) (h₁ .leasts) (h₁ .places) (h₁ .late) (h₁ .beside) a₁ mark a₂ (h₂ .table) (h₂ .bounds) (h₂ .leasts)
+        SettledBy (h₁ .table) (h₁ .bounds) (h₁ .leasts) (h₁ .places) (h₁ .late) (h₁ .beside) a₁ mark a₂ (h₂ .table) (h₂ .bounds)
+        (h₂ .leasts)
         (h₂ .places)
         × (h₂ .late ≡ h₁ .late)
         × (h₂ .beside ≡ h₁ .beside)
@@ -224,14 +225,17 @@ module _
         let fits : length rest ≤ roomIn (h₁ .table) (h₁ .bounds) =
         omega (arith, fewer, is .room, entries-within .0, ap (λ (t : List ℤ). length t) same-table) in
         let g₂ =
-        settled-together bound (h₁ .table) (h₁ .bounds) (h₁ .leasts) (h₁ .places) (h₁ .late) (h₁ .beside) a₁ rest without-it mark (is .below)
+        settled-together bound (h₁ .table) (h₁ .bounds) (h₁ .leasts) (h₁ .places) (h₁ .late) (h₁ .beside) a₁ rest without-it mark
+        (is .below)
         fits a₂ (h₂ .table) (h₂ .bounds) (h₂ .leasts) (h₂ .places) (by .0) in
         let some : a₂ .rows ≤ n = omega (arith, g₂ .number, length-kept keep rest, fewer) in
         record {
           held =
-              subst₂ (λ (v : List ℤ) (f : List ℕ). Listed bound (h₂ .table) (h₂ .bounds) (h₂ .leasts) (h₂ .places) v f a₂ (keepIf keep rest))
+              subst₂ (λ (v : List ℤ) (f : List ℕ). Listed bound (h₂ .table) (h₂ .bounds) (h₂ .leasts) (h₂ .places) v f a₂
+              (keepIf keep rest))
               (sym (by .1)) (sym (by .2))
-              (settled bound (h₁ .table) (h₁ .bounds) (h₁ .leasts) (h₁ .places) (h₁ .late) (h₁ .beside) a₁ rest without-it mark (is .below) fits
+              (settled bound (h₁ .table) (h₁ .bounds) (h₁ .leasts) (h₁ .places) (h₁ .late) (h₁ .beside) a₁ rest without-it mark (is .below)
+              fits
               a₂ (h₂ .table) (h₂ .bounds) (h₂ .leasts) (h₂ .places) (by .0));
           roomy = omega (arith, g₂ .none-late);
           rows = some;

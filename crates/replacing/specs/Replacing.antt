@@ -94,7 +94,8 @@ tooMany t d v f g found br =
 abbrev pub RoomMade : Memory → Listing → Mark → Bool → Listing → Memory → Type 0
 RoomMade h g mark stays r k =
     ((stays ≡ true) × (g .late ≤ 126) × (r ≡ g) × (k ≡ h))
-    ⊎ (SettledBy (h .table) (h .bounds) (h .leasts) (h .places) (h .late) (h .beside) g mark r (k .table) (k .bounds) (k .leasts) (k .places)
+    ⊎ (SettledBy (h .table) (h .bounds) (h .leasts) (h .places) (h .late) (h .beside) g mark r (k .table) (k .bounds) (k .leasts)
+    (k .places)
     × (k .late ≡ h .late)
     × (k .beside ≡ h .beside))
 

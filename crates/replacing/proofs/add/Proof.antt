@@ -21,7 +21,8 @@ returns-2 : tie.Need-returns-2
 returns-2 c =
     let a = c .before .before .before .before .before .before .before .before .before .before .before .args in
     let put = c .before .before .before .before .before .put in
-    put-none (a .late .now) (a .beside .now) (a .list) (a .child) (put .result) _ _ (c .before .before .before .before .before .before .before .before .if1 .left) (put .ensures .0) (put .ensures .1 .0)
+    put-none (a .late .now) (a .beside .now) (a .list) (a .child) (put .result) _ _
+    (c .before .before .before .before .before .before .before .before .if1 .left) (put .ensures .0) (put .ensures .1 .0)
     (put .ensures .1 .1) (c .if2 .taken)
 
 nearest-requires : tie.Need-nearest-requires
@@ -40,7 +41,9 @@ returns-3 : tie.Need-returns-3
 returns-3 c =
     let a = c .before .before .before .before .before .before .before .before .before .before .before .before .before .before .args in
     let put = c .before .before .before .before .before .before .before .before .put in
-    put-one (a .late .now) (a .beside .now) (a .list) (a .child) (put .result) _ _ (c .before .before .before .before .before .before .before .before .before .before .before .if1 .left) (put .ensures .0) (put .ensures .1 .0)
+    put-one (a .late .now) (a .beside .now) (a .list) (a .child) (put .result) _ _
+    (c .before .before .before .before .before .before .before .before .before .before .before .if1 .left) (put .ensures .0)
+    (put .ensures .1 .0)
     (put .ensures .1 .1) (c .before .before .before .if2 .left) (c .before .nearest .result) (c .before .nearest .ensures)
 
 pub add-spec : {M : Type 1} → statement M

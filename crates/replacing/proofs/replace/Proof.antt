@@ -54,7 +54,8 @@ module _ (r : tie.After-make-room) where
   took = r .before .before .before .before .before .before .before .before .before .before .before .before
 
   abbrev begun : tie.Start
-  begun = took .before .before .before .before .before .before .before .before .before .before .before .before .before .before .before .before .before
+  begun = took .before .before .before .before .before .before .before .before .before .before .before .before .before .before .before
+      .before .before
 
   abbrev left-over : Memory
   left-over =
@@ -83,7 +84,8 @@ module _ (c : tie.After-slice-known7) where
 
   right-whole : Whole (start .args .br .right .half)
   right-whole =
-      let half = start .good .1 .1 .1 .1 .1 .1 .1 .1 .0 .1 .1 .1 .1 .1 .0 in record { low = search (needs, half); high = search (needs, half) }
+      let half = start .good .1 .1 .1 .1 .1 .1 .1 .1 .0 .1 .1 .1 .1 .1 .0 in record
+      { low = search (needs, half); high = search (needs, half) }
 
   abbrev one : tie.After-add
   one = c .before .before .before .before .before .before .before .before .before
@@ -92,21 +94,25 @@ module _ (c : tie.After-slice-known7) where
   two = c .before .before .before
 
   -- lengths after the box is taken out, after the left half is added, and after the right one
-  out-long : (length (left-over rooms .late) ≡ length (start .args .late .now)) × (length (left-over rooms .beside) ≡ length (start .args .beside .now))
+  out-long : (length (left-over rooms .late) ≡ length (start .args .late .now)) ×
+      (length (left-over rooms .beside) ≡ length (start .args .beside .now))
   out-long =
       let a = start .args in
       let h = left-over rooms in
-      late-long (a .bounds .now) (a .leasts .now) (a .places .now) (a .late .now) (a .beside .now) (a .list) (a .found) (takes .take .result)
+      late-long (a .bounds .now) (a .leasts .now) (a .places .now) (a .late .now) (a .beside .now) (a .list) (a .found)
+      (takes .take .result)
       (h .bounds) (h .leasts) (h .places) (h .late) (h .beside) (takes .take .ensures)
 
   entries-same : length (left-over rooms .bounds) ≡ length (start .args .bounds .now)
   entries-same =
       let a = start .args in
       let h = left-over rooms in
-      entries-long (a .bounds .now) (a .leasts .now) (a .places .now) (a .late .now) (a .beside .now) (a .list) (a .found) (takes .take .result)
+      entries-long (a .bounds .now) (a .leasts .now) (a .places .now) (a .late .now) (a .beside .now) (a .list) (a .found)
+      (takes .take .result)
       (h .bounds) (h .leasts) (h .places) (h .late) (h .beside) (takes .take .ensures)
 
-  one-long : (length (one .add .last .0) ≡ length (left-over rooms .late)) × (length (one .add .last .1 .0) ≡ length (left-over rooms .beside))
+  one-long : (length (one .add .last .0) ≡ length (left-over rooms .late)) × (length (one .add .last .1 .0) ≡ length
+      (left-over rooms .beside))
   one-long =
       added-long (left-over rooms .late) (left-over rooms .beside) (rooms .make-room .result) (start .args .br .left) (one .add .last .0)
       (one .add .last .1 .0) (one .add .ensures .1 .0) (one .add .ensures .1 .1) left-whole
@@ -136,13 +142,17 @@ same-length-8 c = two-long c .1 ∙ one-long c .1 ∙ out-long c .1
 
 returns-2 : tie.Need-returns-2
 returns-2 c =
-    let else = c .before .before .before .before .before .before .before .before .before .before .before .before .before .before .before .before .before .before .before .before .before .before .before .before .before .before .before .before .before .before .before .before .before .before .before .before in
+    let else = c .before .before .before .before .before .before .before .before .before .before .before .before .before .before .before
+    .before .before .before .before .before .before .before .before .before .before .before .before .before .before .before .before
+    .before .before .before .before .before in
     let h = roomy (rooms c) in
     let first = one c .add in
     let second = two c .add2 in
-    let both = two-added h (rooms c .make-room .result) (start c .args .br .left) (start c .args .br .right) (first .result) (first .last .0) (first .last .1 .0) (second .result)
+    let both = two-added h (rooms c .make-room .result) (start c .args .br .left) (start c .args .br .right) (first .result)
+    (first .last .0) (first .last .1 .0) (second .result)
     (second .last .0) (second .last .1 .0)
-    (first .ensures .0) (first .ensures .1 .0) (first .ensures .1 .1) (second .ensures .0) (second .ensures .1 .0) (second .ensures .1 .1) in
+    (first .ensures .0) (first .ensures .1 .0) (first .ensures .1 .1) (second .ensures .0) (second .ensures .1 .0) (second .ensures .1 .1)
+    in
     record {
       told = sym (else .if1 .left) ∙ else .before .too-many .ensures;
       kept = λ e. absurd (one-answer (sym e));

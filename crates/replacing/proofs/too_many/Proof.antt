@@ -19,15 +19,23 @@ one-if-requires-2 c κs = search needs
 more : (c : tie.Else1) → c .before .before .before .one-if .result + c .before .before .one-if2 .result ≤ 2
 more c =
     let br = c .before .before .before .before .before .before .before .before .before .args .br in
-    omega (arith, c .before .before .before .one-if .ensures, c .before .before .one-if2 .ensures, one-at-most (br .left .kept), one-at-most (br .right .kept))
+    omega (
+      arith,
+      c .before .before .before .one-if .ensures,
+      c .before .before .one-if2 .ensures,
+      one-at-most (br .left .kept),
+      one-at-most (br .right .kept),
+    )
 
 -- and of the others no more than rows and late rows
-few : (c : tie.After-keeping2) → let a = c .before .before .before .before .before .before .before .before .before .before .before .before .before .before .before .before .args in
+few : (c : tie.After-keeping2) → let a = c .before .before .before .before .before .before .before .before .before .before .before .before
+    .before .before .before .before .args in
     (c .before .keeping .result + c .keeping2 .result ≤ length (a .table .now) / 16 + length (a .late .now) / 16)
     × (length (a .table .now) < 18446744073709551616)
     × (length (a .late .now) < 18446744073709551616)
 few c =
-    let s = c .before .before .before .before .before .before .before .before .before .before .before .before .before .before .before .before in
+    let s = c .before .before .before .before .before .before .before .before .before .before .before .before .before .before .before
+    .before in
     let a = s .args in
     let mark = a .br .mark in
     let long : length (a .table .now) < 18446744073709551616 = search (needs, s .good .0) in
@@ -101,7 +109,8 @@ returns-4 c =
     let e = c .before .before .before .before .before .before .before in
     let a = e .before .before .before .before .before .before .before .before .before .args in
     counted (a .table .now) (a .bounds .now) (a .late .now) (a .beside .now) (a .list) (a .found) (a .br) (e .if1 .left) _ _
-    (e .before .before .before .one-if .ensures) (e .before .before .one-if2 .ensures) (c .before .before .before .before .before .if2 .left) (c .before .before .before .before .if3 .left) _ _
+    (e .before .before .before .one-if .ensures) (e .before .before .one-if2 .ensures)
+    (c .before .before .before .before .before .if2 .left) (c .before .before .before .before .if3 .left) _ _
     (c .before .before .before .kept-itself .ensures) (c .before .before .one-if3 .ensures) _ _ (c .before .keeping .ensures)
     (c .keeping2 .ensures)
 
