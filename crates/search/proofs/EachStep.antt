@@ -53,7 +53,8 @@ each-step store job table after bounds entries k s ok reached rows beside =
     let few = few-rows (found .list) (rows .leftovers) (found .peak) after (rows .rows pass) in
     let long : length (map B (found .list)) ≡ length (found .list) = length-map (found .list) B in
     let here = first-rows (found .list) (rows .leftovers) (found .peak) after (rows .rows pass) in
-    let near = first-entries entries (map B (found .list)) (beside .leftovers) (found .peak) (beside .entries pass) (omega (arith, long, few)) in (
+    let near = first-entries entries (map B (found .list)) (beside .leftovers) (found .peak) (beside .entries pass)
+    (omega (arith, long, few)) in (
       subst (λ (l : List Box). rowsOf after (length l) ≡ l) at here,
       subst (λ (l : List Box). take (length l) entries ≡ map B l) at (ap (λ (n : ℕ). take n entries) (sym long) ∙ near),
     )

@@ -24,7 +24,8 @@ module _
     together : Together bound (k .table) (k .bounds) (z .state .list .rows) (def .list) a u e
     together =
         rw (all-kept (keptBy bound (z .state .mark)) (is .kept)) at
-        (settled-together bound (k .table) (k .bounds) (k .leasts) (k .places) (k .late) (k .beside) (z .state .list) (def .list) (is .listed)
+        (settled-together bound (k .table) (k .bounds) (k .leasts) (k .places) (k .late) (k .beside) (z .state .list) (def .list)
+        (is .listed)
         (z .state .mark) (is .fits) (is .room) a u e m q by)
 
     pub ran : (r : Answer) → r ≡ answerWith (z .kind) (z .state) (z .low) → Ran bound def (h .table) (h .bounds) r u e

@@ -120,7 +120,8 @@ module _ (r : Run) (ready : Ready r) (s : State) (k : Memory) (g : Going r s k)
     going-most = rw exact (all-map (λ b h. ahead-le (r .tol) (cost (s .mark .best)) (s .mark .best) (bound b) (b .low) h) (sound .kept))
 
     going-kept : All (λ b. keptBy bound (s .mark) b ≡ true) list
-    going-kept = rw (exact, g .tolerance) (all-map (λ b h. is-true (keeps bound (r .tol) (cost (s .mark .best)) (s .mark .best) b) h) (sound .kept))
+    going-kept = rw (exact, g .tolerance) (all-map (λ b h. is-true (keeps bound (r .tol) (cost (s .mark .best)) (s .mark .best) b) h)
+        (sound .kept))
 
     small : All (λ b. bound b < gone) list
     small = all-map (λ b h. omega (arith, g .stands .marks .fits)) going-most
@@ -222,7 +223,8 @@ module _ (r : Run) (ready : Ready r) (s : State) (k : Memory) (g : Going r s k)
               after = split cost bound (r .tol) now-state
 
               told : z .full ≡ ltb (rowCount (k .table)) (length (after .list))
-              told = subst (λ (t : ℕ). z .full ≡ ltb (rowCount (k .table)) (length ((split cost bound t now-state) .list))) (g .tolerance) (out .told)
+              told = subst (λ (t : ℕ). z .full ≡ ltb (rowCount (k .table)) (length ((split cost bound t now-state) .list))) (g .tolerance)
+                  (out .told)
 
               pub going-full : z .full ≡ true → Ended bound (def r) (r .h) (record { kind = kindOf full; low = low; state = s }) k₂
               going-full is =

@@ -57,7 +57,8 @@ shifted a x c y =
     (le-or-lt (x + y) a)
 
 -- a tested half is tested as itself
-as-itself : (bound : Box → ℕ) (keep : Box → Bool) (child : Child) {b : Box} → Tested bound keep b child → Tested bound keep (child .half) child
+as-itself : (bound : Box → ℕ) (keep : Box → Bool) (child : Child) {b : Box} → Tested bound keep b child → Tested bound keep (child .half)
+    child
 as-itself bound keep child s = record { half = refl; decided = rw (s .half) (s .decided); exact = λ e. rw (s .half) (s .exact e) }
 
 module _
@@ -237,7 +238,8 @@ module _
 
     -- the split is made
     pub step-done :
-        (out : Replaced) (k : Memory) → ReplacedBy h g found br out k → out .full ≡ false → Whole (br .left .half) → Whole (br .right .half) →
+        (out : Replaced) (k : Memory) → ReplacedBy h g found br out k → out .full ≡ false → Whole (br .left .half) → Whole
+        (br .right .half) →
         rows < 1152921504606846976 → (count peak : ℕ) → count ≡ s .count + 1 → peak ≡ max (s .peak) (out .list .number) →
         StepOutcome cost bound h s (record { full = false; state = record { mark = mark; list = out .list; count = count; peak = peak } }) k
     step-done out k by so left right small count peak counts peaks =
@@ -245,6 +247,7 @@ module _
           kept = λ e. absurd (one-answer (sym e));
           told = sym so ∙ (by .told ∙ room-told);
           moved = λ e.
-              step-moved (out .list) k (replaced bound h g found br (replaceable small) left right (out .list) k (by .made so)) count peak counts
+              step-moved (out .list) k (replaced bound h g found br (replaceable small) left right (out .list) k (by .made so)) count peak
+              counts
               peaks;
         }

@@ -16,7 +16,8 @@ module _ (cost : List ℤ → ℕ) (bound : Box → ℕ) (budget budget′ rows 
   abbrev Runs : ℕ → State → Type 0
   Runs k s = (s .count ≡ k) × Running cost bound budget′ rows t start box s
 
-  goes-on : {k : ℕ} (s : State) {after : State} → suc k ≤ budget′ → Case cost bound budget rows t s (go after) → Runs k s → Runs (suc k) after
+  goes-on : {k : ℕ} (s : State) {after : State} → suc k ≤ budget′ → Case cost bound budget rows t s (go after) → Runs k s → Runs (suc k)
+      after
   unfolding split
   goes-on s less (goes unsolved left few) h =
       (ap suc (h .0), running-goes cost bound budget′ rows t start box s (h .1) unsolved (omega (arith, h .0)) few)

@@ -27,8 +27,8 @@ use Rattle.search.specs.Search.{told}
 abbrev pub stateIn : Memory → State → Search.State
 stateIn h s = record { best = s .mark .best; list = listIn h (s .list); count = s .count; peak = s .peak }
 
--- What holds of a state between two steps, and of how its list is held: in `HeldIn` the bound of each open box stands beside it, in the lent
--- list or, for a late box, in the search's own memory.
+-- What holds of a state between two steps, and of how its list is held: in `HeldIn` the bound of each open box stands beside it, in the
+-- lent list or, for a late box, in the search's own memory.
 pub record Stands (cost : List ℤ → ℕ) (bound : Box → ℕ) (h : Memory) (s : State) : Type 0 where
   pub marks : Marks cost (s .mark)
   pub listed : HeldIn bound h (s .list) (listIn h (s .list))

@@ -36,7 +36,8 @@ module _ (c : tie.After-cost-in) where
       let a = first .args in
       let e = c .cost-in .ensures .1 in
       let ok = first .pre .0 in
-      whole-cost (a .store .now) (a .job .model) (ok .checked) (a .job .start) (c .cost-in .result) (e .0 (ok .decoded)) (e .1 (ok .decoded))
+      whole-cost (a .store .now) (a .job .model) (ok .checked) (a .job .start) (c .cost-in .result) (e .0 (ok .decoded))
+      (e .1 (ok .decoded))
 
   fits : c .cost-in .result < 18446744073709551615
   fits = omega (arith, c .cost-in .ensures .1 .1 (first .pre .0 .decoded))

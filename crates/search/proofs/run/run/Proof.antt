@@ -18,7 +18,8 @@ begin-requires c κs = let p = c .before .before .before .before .before .pre in
 
 steps-requires : tie.Need-steps-requires
 steps-requires c κs =
-    let p = c .before .before .before .before .before .before .before .before .before .before .before .before .before .before .before .pre in
+    let p = c .before .before .before .before .before .before .before .before .before .before .before .before .before .before .before .pre
+    in
     ((p .0, p .1, p .2, p .3, p .4, p .5), c .before .before .before .before .before .before .before .before .before .begin .ensures)
 
 settle-requires : tie.Need-settle-requires
@@ -30,10 +31,13 @@ answer-requires c κs = search needs
 -- at the end
 module _ (c : tie.After-answer) where
   abbrev start : tie.Start
-  start = c .before .before .before .before .before .before .before .before .before .before .before .before .before .before .before .before .before .before .before .before .before .before .before .before .before .before .before .before .before .before .before .before .before .before .before .before
+  start = c .before .before .before .before .before .before .before .before .before .before .before .before .before .before .before .before
+      .before .before .before .before .before .before .before .before .before .before .before .before .before .before .before .before
+      .before .before .before .before
 
   abbrev went : tie.After-steps
-  went = c .before .before .before .before .before .before .before .before .before .before .before .before .before .before .before .before .before .before .before .before
+  went = c .before .before .before .before .before .before .before .before .before .before .before .before .before .before .before .before
+      .before .before .before .before
 
   abbrev settles : tie.After-settle
   settles = c .before .before .before .before
@@ -42,10 +46,13 @@ module _ (c : tie.After-answer) where
   abbrev first : Memory
   first =
       let a = start .args in
-      let x = c .before .before .before .before .before .before .before .before .before .before .before .before .before .before .before .before .before .before .before .before .before .before .before .before .before .before .before .before .before .before .begin .last in memory (a .table .now) (a .bounds .now) (a .leasts .now) (a .places .now) (x .1 .1 .1 .0) (x .1 .1 .1 .1 .0)
+      let x = c .before .before .before .before .before .before .before .before .before .before .before .before .before .before .before
+      .before .before .before .before .before .before .before .before .before .before .before .before .before .before .before .begin
+      .last in memory (a .table .now) (a .bounds .now) (a .leasts .now) (a .places .now) (x .1 .1 .1 .0) (x .1 .1 .1 .1 .0)
 
   abbrev last : Memory
-  last = let x = went .steps .last in memory (x .1 .1 .1 .0) (x .1 .1 .1 .1 .0) (x .1 .1 .1 .1 .1 .0) (x .1 .1 .1 .1 .1 .1 .0) (x .1 .1 .1 .1 .1 .1 .1 .0) (x .1 .1 .1 .1 .1 .1 .1 .1 .0)
+  last = let x = went .steps .last in memory (x .1 .1 .1 .0) (x .1 .1 .1 .1 .0) (x .1 .1 .1 .1 .1 .0) (x .1 .1 .1 .1 .1 .1 .0)
+      (x .1 .1 .1 .1 .1 .1 .1 .0) (x .1 .1 .1 .1 .1 .1 .1 .1 .0)
 
   done :
       let a = start .args in

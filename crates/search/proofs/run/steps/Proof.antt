@@ -115,7 +115,8 @@ loop-holds c =
 -- the memory after a step
 abbrev stepped : tie.After-step Inv-loop μ-loop → Memory
 stepped q =
-    let x = q .step .last in memory (x .1 .1 .1 .0) (x .1 .1 .1 .1 .0) (x .1 .1 .1 .1 .1 .0) (x .1 .1 .1 .1 .1 .1 .0) (x .1 .1 .1 .1 .1 .1 .1 .0) (x .1 .1 .1 .1 .1 .1 .1 .1 .0)
+    let x = q .step .last in memory (x .1 .1 .1 .0) (x .1 .1 .1 .1 .0) (x .1 .1 .1 .1 .1 .0) (x .1 .1 .1 .1 .1 .1 .0)
+    (x .1 .1 .1 .1 .1 .1 .1 .0) (x .1 .1 .1 .1 .1 .1 .1 .1 .0)
 
 lowest-requires : tie.Need-lowest-requires Inv-loop μ-loop
 lowest-requires c κs = search needs
@@ -182,7 +183,8 @@ step-requires c κs =
     let o = lows (two .before) in
     let l = turn o in (
       begun o .pre .0 .0,
-      going-steppable (run (begun o)) (ready (begun o)) (s o) (held o) (l .loop .inv) (low o) (o .lowest .ensures) (unsolved (two .before)) (left two)
+      going-steppable (run (begun o)) (ready (begun o)) (s o) (held o) (l .loop .inv) (low o) (o .lowest .ensures) (unsolved (two .before))
+          (left two)
           (search (needs, begun o .good .1 .1 .0)),
     )
 
@@ -192,25 +194,29 @@ ended-requires-3 c κs = search needs
 same-length-9 : tie.Need-same-length-9 Inv-loop μ-loop
 same-length-9 c =
     let q = c .before .before .before .before .before .before .before .before in
-    as-long (held (lows (q .before .before .before .before .before .before .before .before))) (stepped q) (q .step .ensures .kept (c .before .if3 .taken)) .0
+    as-long (held (lows (q .before .before .before .before .before .before .before .before))) (stepped q)
+    (q .step .ensures .kept (c .before .if3 .taken)) .0
     ∙ turn (lows (q .before .before .before .before .before .before .before .before)) .loop .inv .within .long
 
 same-length-10 : tie.Need-same-length-10 Inv-loop μ-loop
 same-length-10 c =
     let q = c .before .before .before .before .before .before .before .before in
-    as-long (held (lows (q .before .before .before .before .before .before .before .before))) (stepped q) (q .step .ensures .kept (c .before .if3 .taken)) .1
+    as-long (held (lows (q .before .before .before .before .before .before .before .before))) (stepped q)
+    (q .step .ensures .kept (c .before .if3 .taken)) .1
     ∙ turn (lows (q .before .before .before .before .before .before .before .before)) .loop .inv .within .long-entries
 
 same-length-11 : tie.Need-same-length-11 Inv-loop μ-loop
 same-length-11 c =
     let q = c .before .before .before .before .before .before .before .before in
-    as-long (held (lows (q .before .before .before .before .before .before .before .before))) (stepped q) (q .step .ensures .kept (c .before .if3 .taken)) .2
+    as-long (held (lows (q .before .before .before .before .before .before .before .before))) (stepped q)
+    (q .step .ensures .kept (c .before .if3 .taken)) .2
     ∙ still-late (lows (q .before .before .before .before .before .before .before .before)) .0
 
 same-length-12 : tie.Need-same-length-12 Inv-loop μ-loop
 same-length-12 c =
     let q = c .before .before .before .before .before .before .before .before in
-    as-long (held (lows (q .before .before .before .before .before .before .before .before))) (stepped q) (q .step .ensures .kept (c .before .if3 .taken)) .3
+    as-long (held (lows (q .before .before .before .before .before .before .before .before))) (stepped q)
+    (q .step .ensures .kept (c .before .if3 .taken)) .3
     ∙ still-late (lows (q .before .before .before .before .before .before .before .before)) .1
 
 returns-3 : tie.Need-returns-3 Inv-loop μ-loop
@@ -221,7 +227,8 @@ returns-3 c =
     let o = lows (two .before) in
     let l = turn o in
     rw (c .ended3 .ensures)
-    (going-full (run (begun o)) (ready (begun o)) (s o) (held o) (l .loop .inv) (low o) (o .lowest .ensures) (unsolved (two .before)) (left two) (q .step .result)
+    (going-full (run (begun o)) (ready (begun o)) (s o) (held o) (l .loop .inv) (low o) (o .lowest .ensures) (unsolved (two .before))
+    (left two) (q .step .result)
     (stepped q)
     (q .step .ensures) (c .before .if3 .taken))
 
@@ -231,7 +238,8 @@ loop-less c =
     let two = q .before .before .before .before .before .before .before in
     let o = lows (two .before) in
     let l = turn o in
-    going-counts (run (begun o)) (ready (begun o)) (s o) (held o) (l .loop .inv) (low o) (o .lowest .ensures) (unsolved (two .before)) (left two) (q .step .result)
+    going-counts (run (begun o)) (ready (begun o)) (s o) (held o) (l .loop .inv) (low o) (o .lowest .ensures) (unsolved (two .before))
+    (left two) (q .step .result)
     (stepped q)
     (q .step .ensures) (c .before .if3 .left)
 
@@ -241,7 +249,8 @@ loop-again c =
     let two = q .before .before .before .before .before .before .before in
     let o = lows (two .before) in
     let l = turn o in
-    going-on (run (begun o)) (ready (begun o)) (s o) (held o) (l .loop .inv) (low o) (o .lowest .ensures) (unsolved (two .before)) (left two) (q .step .result)
+    going-on (run (begun o)) (ready (begun o)) (s o) (held o) (l .loop .inv) (low o) (o .lowest .ensures) (unsolved (two .before))
+    (left two) (q .step .result)
     (stepped q)
     (q .step .ensures) (c .before .if3 .left)
 

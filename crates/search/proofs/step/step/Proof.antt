@@ -87,14 +87,16 @@ returns c =
     let cut = c .before .before .before .before .before .before .before .before .before .before .before .before .before .before .before in
     let a = start cut .args in
     rw (c .no-room .ensures)
-    (step-full (C cut) (B cut) (held cut) (a .s) (a .found) (start cut .pre .1) (cut .cut-box .result) (made cut) (q .replace .result) (after q)
+    (step-full (C cut) (B cut) (held cut) (a .s) (a .found) (start cut .pre .1) (cut .cut-box .result) (made cut) (q .replace .result)
+    (after q)
     (q .replace .ensures) (c .before .if1 .taken))
 
 add-t34 : tie.Need-add-t34
 add-t34 c =
     omega (
       arith,
-      c .before .before .before .before .before .before .before .before .before .before .before .before .before .before .before .before .before .before .before .before .before .before .before .before .before .before .before .pre .1 .countable,
+      c .before .before .before .before .before .before .before .before .before .before .before .before .before .before .before .before
+          .before .before .before .before .before .before .before .before .before .before .before .pre .1 .countable,
     )
 
 larger-requires : tie.Need-larger-requires
@@ -115,9 +117,11 @@ same-length-8 c = search needs
 returns-2 : tie.Need-returns-2
 returns-2 c =
     let q = c .before .before .before .before .before .before .before .before .before .before .before in
-    let cut = c .before .before .before .before .before .before .before .before .before .before .before .before .before .before .before .before .before .before in
+    let cut = c .before .before .before .before .before .before .before .before .before .before .before .before .before .before .before
+    .before .before .before in
     let a = start cut .args in
-    step-done (C cut) (B cut) (held cut) (a .s) (a .found) (start cut .pre .1) (cut .cut-box .result) (made cut) (q .replace .result) (after q)
+    step-done (C cut) (B cut) (held cut) (a .s) (a .found) (start cut .pre .1) (cut .cut-box .result) (made cut) (q .replace .result)
+    (after q)
     (q .replace .ensures) (c .before .before .before .before .if1 .left) (left-whole cut) (right-whole cut) (few cut) _ (c .larger .result)
     (omega arith) (omega (arith, c .larger .ensures))
 
