@@ -12,8 +12,8 @@
  *
  * A length counts elements, not bytes. No pointer is null, each points to as many elements as its length says, and what one argument
  * lends for writing no other argument reaches. Nothing is allocated or kept, so calls on different memory may run at the same time.
- * A search, a pass through windows or a run by the registers takes less than 190,000 bytes of stack, with p = 3 less than 220,000, and
- * for several boards 5,000 more; a cost or bound with p = 3 less than 45,000, every other call less than 8,000.
+ * A search, for ranges too, a pass through windows or a run by the registers takes less than 190,000 bytes of stack, with p = 3 less than
+ * 220,000, and for several boards 5,000 more; a cost or bound with p = 3 less than 45,000, every other call less than 8,000.
  *
  * store    point records of 12 bytes, 1 to 4,096 of them; one whose y is -32,768 is a gap, a sample that the board didn't take: it adds 0
  *          to every cost and bound, and is a record as any other: it counts, and its x after the d-th are 0
@@ -136,6 +136,20 @@ uint32_t vengutari_boards(uint8_t count, uint32_t total, const uint8_t *jobs, si
                           const uint32_t *lengths, size_t lengths_len, int16_t *table, size_t table_len, uint64_t *bounds,
                           size_t bounds_len, uint32_t *codes, size_t codes_len, uint32_t *budgets, size_t budgets_len, int16_t *vectors,
                           size_t vectors_len, uint64_t *numbers, size_t numbers_len);
+
+/* Finds the range of every coefficient: of each used coordinate the least and the greatest value among all vectors of the box that cost at
+ * most ceiling, as single-precision numbers w / 2^S. Open boxes stand in the rows of table, the last one is always split, at most budget
+ * times in all. *value is 1 finished, 2 spent, 3 full. cases takes for each of the 8 coordinates 0 for no range, 1 for one value and 2 for a
+ * low and a high one; patterns the bits of the low and the high end of coordinate 1, then of 2 and so on, equal for one value and 0 for none.
+ * A finished search with no range for a used coordinate says that no vector costs at most ceiling; a spent or full one and a coordinate after
+ * n * d have none. numbers takes the splits counted, the open boxes and the peak of their number. The search is finished whenever budget is
+ * at least V - 1, V being the number of vectors of the box, and table has at least V / 2 rows. The first rows of table are then the open
+ * boxes; those from there up to the peak may hold leftovers; everything behind keeps what it held. start is checked and not used.
+ * Refusals 1 to 8; 255 where corners_len is not 16, start_len not 8, patterns_len not 16, cases_len not 8 or numbers_len not 3. */
+uint32_t vengutari_ranges(const uint8_t *store, size_t store_len, uint8_t n, uint8_t d, uint8_t scale, uint8_t p, uint32_t eps,
+                          uint32_t budget, uint64_t ceiling, const int16_t *corners, size_t corners_len, const int16_t *start,
+                          size_t start_len, int16_t *table, size_t table_len, uint32_t *patterns, size_t patterns_len, uint8_t *cases,
+                          size_t cases_len, uint64_t *numbers, size_t numbers_len, uint64_t *value);
 
 /* Copies a beacon into the store from byte mark on; *value is the new mark. The store may have any length. Refusals 1, 10 and 11. */
 uint32_t vengutari_take_in(uint8_t *store, size_t store_len, size_t mark, const uint8_t *beacon, size_t beacon_len, uint64_t *value);

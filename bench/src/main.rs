@@ -3,6 +3,7 @@
 //!     bench evaluations [ROUNDS]     one evaluation of a cost and of a bound: the least of 400 interleaved rounds, or of ROUNDS
 //!     bench ranks [ROUNDS]           the same with p = 3, against p = 1 as well
 //!     bench search [ROUNDS]          whole searches, the least of 10 rounds
+//!     bench ranges [ROUNDS]          searches for ranges, and what a split takes beside one of the search, the least of 10 rounds
 //!     bench growth [ROUNDS]          what a split takes by how many boxes are open, the least of 3 rounds
 //!     bench windows [ROUNDS]         windows in one call against the same searches one by one, the least of 40 rounds
 //!     bench compare                  that both sides give the same, without times; the last line is 'N passed, M failed'
@@ -16,6 +17,7 @@ mod jobs;
 mod keeping;
 mod plain;
 mod random;
+mod ranges;
 mod ranks;
 mod rattle;
 mod search;
@@ -27,6 +29,7 @@ fn compare() {
     let passed = evaluations::compare_all()
         + ranks::compare_all()
         + searches::compare_all()
+        + ranges::compare_all()
         + windows::compare_all();
     println!("{passed} passed, 0 failed");
 }
@@ -41,6 +44,8 @@ fn main() {
         ("ranks", 2) => ranks::table(number(1)),
         ("search", 1) => searches::table(10),
         ("search", 2) => searches::table(number(1)),
+        ("ranges", 1) => ranges::table(10),
+        ("ranges", 2) => ranges::table(number(1)),
         ("growth", 1) => searches::growth(3),
         ("growth", 2) => searches::growth(number(1)),
         ("windows", 1) => windows::table(40),
@@ -51,7 +56,7 @@ fn main() {
         ("once-growth", 2) => searches::once_growing(number(1) as u32),
         _ => {
             eprintln!(
-                "bench evaluations|ranks|search|growth|windows [ROUNDS] | compare | once N D P | once-search NUMBER | once-growth SPLITS"
+                "bench evaluations|ranks|search|ranges|growth|windows [ROUNDS] | compare | once N D P | once-search NUMBER | once-growth SPLITS"
             );
             std::process::exit(2);
         }

@@ -1,6 +1,7 @@
 //! The proved code behind safe functions. Nothing checks these declarations against the source: they follow
 //! crates/bench_kernels/src/lib.rt and include/vengutari.h.
 use crate::plain::Model;
+use crate::ranges::Ranges;
 use crate::search::{Answer, Job, Kind};
 
 extern "C" {
@@ -110,6 +111,30 @@ extern "C" {
         bounds_len: usize,
         out: *mut u8,
         out_len: usize,
+        value: *mut u64,
+    ) -> u32;
+    fn vengutari_ranges(
+        store: *const u8,
+        store_len: usize,
+        n: u8,
+        d: u8,
+        scale: u8,
+        p: u8,
+        eps: u32,
+        budget: u32,
+        ceiling: u64,
+        corners: *const i16,
+        corners_len: usize,
+        start: *const i16,
+        start_len: usize,
+        table: *mut i16,
+        table_len: usize,
+        patterns: *mut u32,
+        patterns_len: usize,
+        cases: *mut u8,
+        cases_len: usize,
+        numbers: *mut u64,
+        numbers_len: usize,
         value: *mut u64,
     ) -> u32;
 }
@@ -304,6 +329,51 @@ fn answer(kind: u64, vector: [i16; 8], numbers: [u64; 5]) -> Answer {
         vector,
         cost,
         bound,
+        count: count as u32,
+        open: open as usize,
+        peak: peak as usize,
+    }
+}
+
+/// The whole call for ranges, with all checks.
+pub fn ranges(job: &Job, ceiling: u64, table: &mut [i16]) -> Ranges {
+    let m = job.model;
+    let corners = job.domain.corners();
+    let (mut patterns, mut cases, mut numbers) = ([0; 16], [0; 8], [0; 3]);
+    let mut kind = 0;
+    // As above.
+    let code = unsafe {
+        vengutari_ranges(
+            job.store.as_ptr(),
+            job.store.len(),
+            m.n as u8,
+            m.d as u8,
+            m.scale as u8,
+            m.p,
+            m.eps,
+            job.budget,
+            ceiling,
+            corners.as_ptr(),
+            corners.len(),
+            job.start.as_ptr(),
+            job.start.len(),
+            table.as_mut_ptr(),
+            table.len(),
+            patterns.as_mut_ptr(),
+            patterns.len(),
+            cases.as_mut_ptr(),
+            cases.len(),
+            numbers.as_mut_ptr(),
+            numbers.len(),
+            &mut kind,
+        )
+    };
+    assert_eq!(code, 0);
+    let [count, open, peak] = numbers;
+    Ranges {
+        kind: [Kind::Solved, Kind::Spent, Kind::Full][kind as usize - 1],
+        ends: (cases[0] > 0)
+            .then(|| std::array::from_fn(|k| [patterns[2 * k], patterns[2 * k + 1]])),
         count: count as u32,
         open: open as usize,
         peak: peak as usize,

@@ -83,6 +83,9 @@ SIGNATURES = {
     "vengutari_reset": [*_BYTES],
     "vengutari_read_register": [*_BYTES, _SIZE, *_VALUE],
     "vengutari_write_register": [*_BYTES, _SIZE, _U8, *_BYTES, *_NUMBERS, *_WIDE],
+    "vengutari_ranges": [
+        *_BYTES, *_MODEL, _U32, _U64, *_NUMBERS, *_NUMBERS, *_NUMBERS, *_PATTERNS, *_BYTES, *_WIDE, *_VALUE
+    ],
     "vengutari_cost_by_beacon": [*_BYTES, *_MODEL, *_NUMBERS, *_WIDE, *_VALUE],
     "vengutari_take_in": [*_BYTES, _SIZE, *_BYTES, *_VALUE],
     "vengutari_merge": [*_BYTES, *_BYTES, *_BYTES, *_VALUE],
@@ -201,6 +204,16 @@ class Library:
             (codes[i], budgets[i], None if codes[i] else Answer(KINDS[numbers[6 * i]], list(vectors[8 * i : 8 * i + 8]), *numbers[6 * i + 1 : 6 * i + 6]))
             for i in range(len(jobs))
         ]
+
+    def ranges(self, store, model, budget, ceiling, low, high, start, rows):
+        """The kind, "solved" for finished, and for each used coordinate the bit patterns of its ends among all vectors of the box that
+        cost at most the ceiling, or None; then the splits, the open boxes and the peak."""
+        patterns, cases, numbers = _array(ctypes.c_uint32, [0] * 16), _bytes(bytes(8)), _array(ctypes.c_uint64, [0] * 3)
+        table = _zeros(ctypes.c_int16, rows * ROW_NUMBERS)
+        given = [_bytes(store), *model, budget, ceiling, _corners(low, high), _numbers(start), table]
+        kind = self._call("vengutari_ranges", *given, patterns, cases, numbers)
+        ends = [tuple(patterns[2 * k : 2 * k + 2]) if cases[k] else None for k in range(model.n * model.d)]
+        return KINDS[kind], ends, list(numbers)
 
     def reset(self):
         """The registers of the fitter on the data bus, all of them 0."""

@@ -251,6 +251,9 @@ class Interface(unittest.TestCase):
         self.assertEqual(calls.read_job(job), ([1, 1, 0, 1, 2, 0, 10, 4], [0] * 8, [3] + [0] * 7, [0] * 8))
         found = calls.boards(5, [job, job[:3] + b"\4" + job[4:]], [store, store], 4)
         self.assertEqual(found, [(0, 2, calls.search(store, model, 0, 2, [0], [3], [0], 4)._replace(vector=[2] + [0] * 7)), (4, 4, None)])
+        ends = (0x3F800000, 0x40400000)  # 1 and 3, which cost 4; 2 costs 2 and 0 costs 6
+        self.assertEqual(calls.ranges(store, model, 10, 4, [0], [3], [0], 4)[:2], ("solved", [ends]))
+        self.assertEqual(calls.ranges(store, model, 10, 1, [0], [3], [0], 4)[:2], ("solved", [None]))
         registers = calls.reset()
         for offset, byte in [*enumerate(job, 64), (0, 2)]:
             registers = calls.write_register(registers, offset, byte, store, 4)

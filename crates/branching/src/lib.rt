@@ -32,7 +32,7 @@ pub struct Branches {
 }
 
 // Up to here a cost or a bound is found: one more than C decides as much as the whole one.
-fn just_above(c: u64) -> u64
+pub fn just_above(c: u64) -> u64
     ensures { λ r. ⌜ r ≡ justAbove c ⌝ }
 {
     if c < 18446744073709551615 { c + 1 } else { c }

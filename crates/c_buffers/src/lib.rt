@@ -74,3 +74,17 @@ pub fn fill_patterns(out: &mut [u32], bits: &[u32])
         k += 1;
     }
 }
+
+// Fills a buffer of bytes.
+pub fn fill_bytes(out: &mut [u8], bytes: &[u8])
+    ensures { λ _. ⌜ now (out .exit) ≡ filled (now (out .entry)) (now (bytes .entry)) ⌝ }
+{
+    if out.len() != bytes.len() {
+        return;
+    }
+    let mut k: usize = 0;
+    while k < bytes.len() {
+        out[k] = bytes[k];
+        k += 1;
+    }
+}

@@ -10,6 +10,7 @@ ghost use Rattle.c_labels.specs.Calls.{labelsCall, labelsAfter};
 ghost use Rattle.c_beacon_costs.specs.Calls.{costByBeaconCall, sumsAfterCall};
 ghost use Rattle.c_search.specs.Calls.{searchCall, vectorAfter, numbersAfter, TableAfterCall, BoundsAfterCall, CertifiedCall};
 ghost use Rattle.c_boards.specs.Calls as Boards;
+ghost use Rattle.c_ranges.specs.Calls as rangeCalls;
 ghost use Rattle.merge.specs.Merge.{outputAfter};
 ghost use Rattle.c_stores.specs.Calls.{mergeCall, takeInCall};
 ghost use Rattle.sharing.specs.Sharing.{SharedTable, SharedBounds};
@@ -304,6 +305,69 @@ pub extern "C" fn vengutari_boards(
         budgets,
         vectors,
         numbers,
+    )
+}
+
+// Finds the range of every coefficient, with the rows of a lent table. The value is the kind of the answer; the bits of the ends, the case
+// of each coordinate and the numbers go into their buffers.
+#[no_mangle]
+pub extern "C" fn vengutari_ranges(
+    store: &[u8],
+    n: u8,
+    d: u8,
+    scale: u8,
+    p: u8,
+    eps: u32,
+    budget: u32,
+    ceiling: u64,
+    corners: &[i16],
+    start: &[i16],
+    table: &mut [i16],
+    patterns: &mut [u32],
+    cases: &mut [u8],
+    numbers: &mut [u64],
+    value: &mut u64,
+) -> u32
+    ensures code { λ k. ⌜ k
+        ≡ codeOf (rangeCalls.rangesCall (now (store .entry)) (modelOf n d scale p eps) budget ceiling (now (corners .entry))
+        (now (start .entry)) (now (table .entry)) (now (patterns .entry)) (now (cases .entry)) (now (numbers .entry))) ⌝ }
+    ensures value { λ _. ⌜ now (value .exit)
+        ≡ valueAfter (rangeCalls.rangesCall (now (store .entry)) (modelOf n d scale p eps) budget ceiling (now (corners .entry))
+        (now (start .entry)) (now (table .entry)) (now (patterns .entry)) (now (cases .entry)) (now (numbers .entry)))
+        (now (value .entry)) ⌝ }
+    ensures patterns { λ _. ⌜ now (patterns .exit)
+        ≡ rangeCalls.patternsAfter (now (store .entry)) (modelOf n d scale p eps) budget ceiling (now (corners .entry))
+        (now (start .entry)) (now (table .entry)) (now (patterns .entry)) (now (cases .entry)) (now (numbers .entry)) ⌝ }
+    ensures cases { λ _. ⌜ now (cases .exit)
+        ≡ rangeCalls.casesAfter (now (store .entry)) (modelOf n d scale p eps) budget ceiling (now (corners .entry)) (now (start .entry))
+        (now (table .entry)) (now (patterns .entry)) (now (cases .entry)) (now (numbers .entry)) ⌝ }
+    ensures numbers { λ _. ⌜ now (numbers .exit)
+        ≡ rangeCalls.numbersAfter (now (store .entry)) (modelOf n d scale p eps) budget ceiling (now (corners .entry)) (now (start .entry))
+        (now (table .entry)) (now (patterns .entry)) (now (cases .entry)) (now (numbers .entry)) ⌝ }
+    ensures table { λ _. ⌜
+        rangeCalls.TableAfterCall (now (store .entry)) (modelOf n d scale p eps) budget ceiling (now (corners .entry)) (now (start .entry))
+        (now (table .entry)) (now (patterns .entry)) (now (cases .entry)) (now (numbers .entry)) (now (table .exit)) ⌝ }
+    ensures ranges { λ k. ⌜ (k ≡ 0 →
+        rangeCalls.CertifiedCall (now (store .entry)) (modelOf n d scale p eps) budget ceiling (now (corners .entry)) (now (start .entry))
+        (now (table .entry)) (now (patterns .entry)) (now (cases .entry)) (now (numbers .entry)) (now (value .exit))
+        (now (patterns .exit)) (now (cases .exit)) (now (numbers .exit))) ⌝ }
+{
+    c_ranges::ranges(
+        store,
+        n,
+        d,
+        scale,
+        p,
+        eps,
+        budget,
+        ceiling,
+        corners,
+        start,
+        table,
+        patterns,
+        cases,
+        numbers,
+        value,
     )
 }
 

@@ -63,8 +63,8 @@ module _ (cost : List ℤ → ℕ) (bound : Box → ℕ) (laws : Bounds cost bou
           let both = better cost t one r in
           cuts box (Settled cost t both) (keeps bound t (cost both) both) (keeping both) takes
           (λ v h. better-stays cost t one r v (better-stays cost t (s .best) l v h))
-          (better-stays cost t one r l (better-new cost t (s .best) l))
-          (better-new cost t one r)
+          (λ e. better-stays cost t one r l (better-new cost t (s .best) l))
+          (λ e. better-new cost t one r)
           c
 
       split-sound :

@@ -10,7 +10,7 @@ ghost use Rattle.integers.specs.Integers.{allZero};
 ghost use Rattle.codes.specs.Codes.{inOrder};
 ghost use Rattle.scale.specs.Scale.{checkScale};
 ghost use Rattle.boxes.specs.Shape.{checkVector};
-ghost use Rattle.coefficients.specs.Coefficient.{coefficientOf};
+ghost use Rattle.coefficients.specs.Coefficient.{coefficientOf, coefficientOrZero};
 ghost use Rattle.coefficients.specs.Grid.{coordinateOf, onGrid};
 ghost use Rattle.coefficients.specs.Lines.{checkUsed, lineOf, notWritten, writtenIf, writtenOf};
 ghost use Rattle.coefficients.specs.Lines.{checkGrid, notRead, coordinatesIf, coordinatesOf, patternsOf};
@@ -47,6 +47,13 @@ fn coefficient(s: u8, w: i16) -> f32
     ensures { λ r. ⌜ r ≡ coefficientOf s w ⌝ }
 {
     (w as f32) / (scale::power(s) as f32)
+}
+
+// w / 2^s for s up to 15, the scales that there are; for any other s, +0.
+pub fn coefficient_of(s: u8, w: i16) -> f32
+    ensures { λ r. ⌜ r ≡ coefficientOrZero s w ⌝ }
+{
+    if s <= 15 { coefficient(s, w) } else { 0.0 }
 }
 
 // The number that has the pattern p. Only p's value times 2^s can be it; whether it is, its own coefficient's bits tell.
@@ -172,7 +179,7 @@ pub fn read_patterns(d: u8, s: u8, bits: [u32; 4]) -> Coordinates
 }
 
 // The bits of f. No two NaNs can be told apart as numbers: one pattern stands for all of them.
-fn pattern(f: f32) -> u32
+pub fn pattern(f: f32) -> u32
     ensures { λ r. ⌜ r ≡ toBits binary32 f ⌝ }
 {
     if f == f { f32::to_bits(f) } else { 0x7fc0_0000 }

@@ -59,7 +59,7 @@ module _ (store : List ℕ) (job : Job) where
     pub boxed : checkBox (job .model .n) (job .model .d) (job .domain) ≡ Pass
     pub inside : InBox (job .start) (job .domain)
 
-  runs : checkJob store job ≡ Pass → Runs
+  pub runs : checkJob store job ≡ Pass → Runs
   unfolding checkJob
   runs e =
       let e₂ = others-passed model (box ∷ start ∷ stray ∷ []) e in

@@ -49,6 +49,14 @@ pub struct Jobs {
     pub lengths: Vec<u32>,
 }
 
+/// What a call for ranges is lent for its results: the patterns of both ends, the cases, then count, open boxes and peak, then the kind.
+pub struct Ranged {
+    pub patterns: Lent<u32>,
+    pub cases: Lent<u8>,
+    pub numbers: Lent<u64>,
+    pub value: u64,
+}
+
 pub trait Calls {
     fn loss(&self, p: u8, epsilon: u32, e: i64, value: &mut u64) -> u32;
     fn cost(&self, store: &[u8], model: &Model, vector: &[i16], value: &mut u64) -> u32;
@@ -85,6 +93,17 @@ pub trait Calls {
         lent: &mut Passed,
     ) -> u32;
     fn boards(&self, jobs: &Jobs, table: &mut [i16], bounds: &mut [u64], slots: &mut Slots) -> u32;
+    /// As `search`; the job's t is not handed over.
+    fn ranges(
+        &self,
+        store: &[u8],
+        job: &Job,
+        ceiling: u64,
+        corners: &[i16],
+        start: &[i16],
+        table: &mut [i16],
+        ranged: &mut Ranged,
+    ) -> u32;
     /// The numbers are n, d, S, p, ε, t, budget and r.
     fn read_job(&self, bytes: &[u8], numbers: &mut [u64], corners: &mut [i16], start: &mut [i16]) -> u32;
     fn write_job(&self, job: &Job, corners: &[i16], start: &[i16], bytes: &mut [u8]) -> u32;

@@ -1,7 +1,7 @@
 //! The product: its library through include/vengutari.h, and its programs fit and bus. All declarations for C stand
 //! in this file.
 
-use compare::calls::{Calls, Found, Jobs, Passed, Slots};
+use compare::calls::{Calls, Found, Jobs, Passed, Ranged, Slots};
 use oracle::{AnswerRecord, Job, Model};
 use std::io::{Read, Write};
 use std::process::{Command, Stdio};
@@ -176,6 +176,30 @@ extern "C" {
         vectors_len: usize,
         numbers: *mut u64,
         numbers_len: usize,
+    ) -> u32;
+    fn vengutari_ranges(
+        store: *const u8,
+        store_len: usize,
+        n: u8,
+        d: u8,
+        s: u8,
+        p: u8,
+        epsilon: u32,
+        budget: u32,
+        ceiling: u64,
+        corners: *const i16,
+        corners_len: usize,
+        start: *const i16,
+        start_len: usize,
+        table: *mut i16,
+        table_len: usize,
+        patterns: *mut u32,
+        patterns_len: usize,
+        cases: *mut u8,
+        cases_len: usize,
+        numbers: *mut u64,
+        numbers_len: usize,
+        value: *mut u64,
     ) -> u32;
     fn vengutari_read_job(
         bytes: *const u8,
@@ -441,6 +465,46 @@ impl Calls for Library {
                 vectors.len(),
                 numbers.as_mut_ptr(),
                 numbers.len(),
+            )
+        }
+    }
+
+    fn ranges(
+        &self,
+        store: &[u8],
+        job: &Job,
+        ceiling: u64,
+        corners: &[i16],
+        start: &[i16],
+        table: &mut [i16],
+        ranged: &mut Ranged,
+    ) -> u32 {
+        let Model { n, d, s, p, epsilon } = job.model;
+        let (patterns, cases, numbers) = (ranged.patterns.part(), ranged.cases.part(), ranged.numbers.part());
+        unsafe {
+            vengutari_ranges(
+                store.as_ptr(),
+                store.len(),
+                n,
+                d,
+                s,
+                p,
+                epsilon,
+                job.budget,
+                ceiling,
+                corners.as_ptr(),
+                corners.len(),
+                start.as_ptr(),
+                start.len(),
+                table.as_mut_ptr(),
+                table.len(),
+                patterns.as_mut_ptr(),
+                patterns.len(),
+                cases.as_mut_ptr(),
+                cases.len(),
+                numbers.as_mut_ptr(),
+                numbers.len(),
+                &mut ranged.value,
             )
         }
     }

@@ -12,6 +12,7 @@ mod lines;
 mod merge;
 mod model;
 mod one_record;
+mod ranges;
 mod records;
 mod search;
 mod spoiled;
@@ -99,6 +100,10 @@ pub const GROUPS: &[Group] = &[
     group("boards-refused", "boards", 500, boards::refused),
     group("boards-past-32-bits", "boards", 300, boards::past_32_bits),
     group("boards-by-hand", "boards", 1, boards::by_hand),
+    group("ranges-exhaustive", "ranges", 4000, ranges::exhaustive),
+    group("ranges-spoiled", "ranges", 1000, ranges::spoiled),
+    group("ranges-wide", "ranges", 600, ranges::wide),
+    group("ranges-damaged", "ranges", 2000, ranges::damaged),
     group("read_job", "read_job", 500, records::read_job),
     group("write_job", "write_job", 500, records::write_job),
     group("read_answer", "read_answer", 2000, records::read_answer),

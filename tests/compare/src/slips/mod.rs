@@ -7,6 +7,7 @@ mod bus;
 mod gaps;
 mod labels;
 mod merge;
+mod ranges;
 mod search;
 mod spoiled;
 mod stand_in;
@@ -165,6 +166,20 @@ enum Slip {
     BoardsOneBadRefusesAll,
     BoardsRowsOfTheRecord,
     BoardsUnused18,
+    // The range of every coefficient.
+    RangesOfBoxes,
+    RangesCutTheFirst,
+    RangesToldWhenSpent,
+    RangesBelowTheCeiling,
+    RangesOneVectorOpen,
+    RangesEndsSwapped,
+    RangesOfUnused,
+    RangesCapOverflows,
+    RangesByTolerance,
+    RangesSpentFirst,
+    RangesWithoutStartCheck,
+    RangesOneAsBetween,
+    RangesGivenOneVectorUncosted,
     // Records, lines and fit.
     JobFieldsSwapped,
     JobLittleEndian,
@@ -436,6 +451,39 @@ const SLIPS: &[(&str, &[Slip])] = &[
             EntriesPastPeakWritten,
             RowsNotWritten,
             EntriesZero,
+            WrongLengthTaken,
+        ],
+    ),
+    (
+        "ranges",
+        &[
+            RangesOfBoxes,
+            RangesCutTheFirst,
+            RangesToldWhenSpent,
+            RangesBelowTheCeiling,
+            RangesOneVectorOpen,
+            RangesEndsSwapped,
+            RangesOfUnused,
+            RangesCapOverflows,
+            RangesByTolerance,
+            RangesSpentFirst,
+            RangesWithoutStartCheck,
+            RangesOneAsBetween,
+            RangesGivenOneVectorUncosted,
+            HalvesTowardZero,
+            PairsLowWithLow,
+            CutsHighestCoordinate,
+            TableBeforeStray,
+            FullStateAfterStep,
+            PeakOfRefusedStep,
+            CountOneMore,
+            PartialRowUsed,
+            RowsPastPeakWritten,
+            RowsNotWritten,
+            GapCosts,
+            GapStrayTaken,
+            SpoiledPlaceBefore,
+            SpoiledAllTaken,
             WrongLengthTaken,
         ],
     ),

@@ -178,7 +178,13 @@ impl StandIn {
     }
 
     fn put_rows(&self, list: &[Open], peak: usize, table: &mut [i16]) {
-        let mut rows: Vec<[Vector; 2]> = list.iter().map(|open| [open.domain.low, open.domain.high]).collect();
+        let open: Vec<Box8> = list.iter().map(|open| open.domain).collect();
+        self.put_open(&open, peak, table);
+    }
+
+    /// The open boxes into the first rows of a table.
+    pub fn put_open(&self, list: &[Box8], peak: usize, table: &mut [i16]) {
+        let mut rows: Vec<[Vector; 2]> = list.iter().map(|open| [open.low, open.high]).collect();
         if self.slips(RowsReversed) {
             rows.reverse();
         }

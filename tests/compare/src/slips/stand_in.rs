@@ -1,7 +1,7 @@
 //! The calls of a stand-in: the oracle's, but for the slip.
 
 use super::Slip::{self, *};
-use crate::calls::{refusal_code, Calls, Found, Jobs, Passed, Slots, WRONG_LENGTH};
+use crate::calls::{refusal_code, Calls, Found, Jobs, Passed, Ranged, Slots, WRONG_LENGTH};
 use oracle::boxes::check_box;
 use oracle::bus::REGISTERS;
 use oracle::coefficients::{coordinate_of, pattern};
@@ -229,6 +229,39 @@ impl Calls for StandIn {
 
     fn boards(&self, jobs: &Jobs, table: &mut [i16], bounds: &mut [u64], slots: &mut Slots) -> u32 {
         self.boards_of(jobs, table, bounds, slots)
+    }
+
+    fn ranges(
+        &self,
+        store: &[u8],
+        job: &Job,
+        ceiling: u64,
+        corners: &[i16],
+        start: &[i16],
+        table: &mut [i16],
+        ranged: &mut Ranged,
+    ) -> u32 {
+        let (patterns, cases, numbers) = (ranged.patterns.part(), ranged.cases.part(), ranged.numbers.part());
+        let lent = [(patterns.len(), 16), (cases.len(), 8), (numbers.len(), 3)];
+        if !self.takes(&[(corners.len(), 16), (start.len(), 8)]) || !self.takes(&lent) {
+            return WRONG_LENGTH;
+        }
+        let (Some(domain), Some(start)) = (self.row(corners), self.eight(start)) else {
+            return WRONG_LENGTH;
+        };
+        let job = &Job { domain, start, ..*job };
+        let store = &self.read(store, job.model.d);
+        match self.counted(store, self.check_ranges(job, store, table.len())) {
+            Ok(points) => {
+                let told = self.find_ranges(job, &points, ceiling, table);
+                put(patterns, &told.patterns);
+                put(cases, &told.cases);
+                put(numbers, &told.numbers);
+                ranged.value = told.kind as u64;
+                0
+            }
+            Err(refusal) => refusal_code(refusal),
+        }
     }
 
     fn read_job(&self, bytes: &[u8], numbers: &mut [u64], corners: &mut [i16], start: &mut [i16]) -> u32 {

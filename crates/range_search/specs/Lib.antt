@@ -1,0 +1,3 @@
+pub mod RangeSearch
+pub mod Ranged
+pub mod Laws
