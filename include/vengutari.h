@@ -13,7 +13,8 @@
  * A length counts elements, not bytes. No pointer is null, each points to as many elements as its length says, and what one argument
  * lends for writing no other argument reaches. Nothing is allocated or kept, so calls on different memory may run at the same time.
  * A search, for ranges too, a pass through windows or a run by the registers takes less than 190,000 bytes of stack, with p = 3 less than
- * 220,000, and for several boards 5,000 more; a cost or bound with p = 3 less than 45,000, every other call less than 8,000.
+ * 220,000, for several boards 5,000 more, and peeling less than 250,000; a cost or bound with p = 3 less than 45,000, every other call less
+ * than 8,000.
  *
  * store    point records of 12 bytes, 1 to 4,096 of them; one whose y is -32,768 is a gap, a sample that the board didn't take: it adds 0
  *          to every cost and bound, and is a record as any other: it counts, and its x after the d-th are 0
@@ -22,7 +23,7 @@
  * p, eps   the loss (0, 1 or 2) and its threshold (0 to 16,777,215, at least 1 where p is 1 or 2); or p = 3, where eps is q, how many
  *          samples may be spoiled, from 0 to one less than the number of records, gaps counted: the cost is then the (q + 1)-th largest of
  *          the points' least |e| over the lines, a gap counting as 0, and the bound of a box the (q + 1)-th largest of the least sizes.
- *          The loss of a single e, labels and the cost beacon by beacon refuse p = 3 by 4
+ *          The loss of a single e, labels, peeling and the cost beacon by beacon refuse p = 3 by 4
  * vector   8 numbers, line after line, d each; those after n * d are 0
  * corners  a box, 16 numbers: its low vector, then its high vector
  *
@@ -150,6 +151,20 @@ uint32_t vengutari_ranges(const uint8_t *store, size_t store_len, uint8_t n, uin
                           uint32_t budget, uint64_t ceiling, const int16_t *corners, size_t corners_len, const int16_t *start,
                           size_t start_len, int16_t *table, size_t table_len, uint32_t *patterns, size_t patterns_len, uint8_t *cases,
                           size_t cases_len, uint64_t *numbers, size_t numbers_len, uint64_t *value);
+
+/* Peels one line after another, with n = 1 and p = 0: searches as vengutari_search does, removes the points that a solved round's line fits
+ * (|e| at most eps), and searches again on those left, each time from the start vector and with the whole budget, table and bounds; gaps are
+ * set aside before the first round. It stops when no point is left, after limit rounds (1 to 4), after a round whose line fits none of the
+ * points left, and after one that isn't solved, which removes nothing. *value is the number of rounds run, 0 where there are gaps alone.
+ * vectors takes 8 coordinates a round, numbers its kind, C, L, count, open boxes and peak; those of rounds not run are 0. The front of
+ * labels takes a byte for each record: the round that removed it, 0, or 6 for a gap; its rest is kept. table and bounds are as the last
+ * round leaves them, with leftovers up to the largest peak. Refusals 1, 2 (any n but 1), 3, 4 (any p but 0), 13 (limit), 5 to 8, 14, and 10
+ * where labels has fewer elements than there are records, in this order; 255 where corners_len is not 16, start_len not 8, vectors_len not
+ * 32 or numbers_len not 24. */
+uint32_t vengutari_peel(const uint8_t *store, size_t store_len, uint8_t n, uint8_t d, uint8_t scale, uint8_t p, uint32_t eps, uint64_t t,
+                        uint32_t budget, const int16_t *corners, size_t corners_len, const int16_t *start, size_t start_len, uint8_t limit,
+                        int16_t *table, size_t table_len, uint64_t *bounds, size_t bounds_len, uint8_t *labels, size_t labels_len,
+                        int16_t *vectors, size_t vectors_len, uint64_t *numbers, size_t numbers_len, uint64_t *value);
 
 /* Copies a beacon into the store from byte mark on; *value is the new mark. The store may have any length. Refusals 1, 10 and 11. */
 uint32_t vengutari_take_in(uint8_t *store, size_t store_len, size_t mark, const uint8_t *beacon, size_t beacon_len, uint64_t *value);

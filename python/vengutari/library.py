@@ -83,6 +83,9 @@ SIGNATURES = {
     "vengutari_reset": [*_BYTES],
     "vengutari_read_register": [*_BYTES, _SIZE, *_VALUE],
     "vengutari_write_register": [*_BYTES, _SIZE, _U8, *_BYTES, *_NUMBERS, *_WIDE],
+    "vengutari_peel": [
+        *_BYTES, *_MODEL, _U64, _U32, *_NUMBERS, *_NUMBERS, _U8, *_NUMBERS, *_WIDE, *_BYTES, *_NUMBERS, *_WIDE, *_VALUE
+    ],
     "vengutari_ranges": [
         *_BYTES, *_MODEL, _U32, _U64, *_NUMBERS, *_NUMBERS, *_NUMBERS, *_PATTERNS, *_BYTES, *_WIDE, *_VALUE
     ],
@@ -204,6 +207,18 @@ class Library:
             (codes[i], budgets[i], None if codes[i] else Answer(KINDS[numbers[6 * i]], list(vectors[8 * i : 8 * i + 8]), *numbers[6 * i + 1 : 6 * i + 6]))
             for i in range(len(jobs))
         ]
+
+    def peel(self, store, model, t, budget, low, high, start, limit, rows):
+        """The answers of the rounds that were run, one line after another, and a label for each record."""
+        vectors, numbers = _numbers([], 32), _array(ctypes.c_uint64, [0] * 24)
+        labels = _bytes(bytes(len(store) // RECORD_BYTES))
+        table, bounds = _zeros(ctypes.c_int16, rows * ROW_NUMBERS), _zeros(ctypes.c_uint64, rows)
+        given = [_bytes(store), *model, t, budget, _corners(low, high), _numbers(start), limit, table, bounds]
+        rounds = self._call("vengutari_peel", *given, labels, vectors, numbers)
+        found = [
+            Answer(KINDS[numbers[6 * i]], list(vectors[8 * i : 8 * i + model.d]), *numbers[6 * i + 1 : 6 * i + 6]) for i in range(rounds)
+        ]
+        return found, bytes(labels)
 
     def ranges(self, store, model, budget, ceiling, low, high, start, rows):
         """The kind, "solved" for finished, and for each used coordinate the bit patterns of its ends among all vectors of the box that

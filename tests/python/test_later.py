@@ -254,6 +254,9 @@ class Interface(unittest.TestCase):
         ends = (0x3F800000, 0x40400000)  # 1 and 3, which cost 4; 2 costs 2 and 0 costs 6
         self.assertEqual(calls.ranges(store, model, 10, 4, [0], [3], [0], 4)[:2], ("solved", [ends]))
         self.assertEqual(calls.ranges(store, model, 10, 1, [0], [3], [0], 4)[:2], ("solved", [None]))
+        count = model._replace(p=0, epsilon=0)
+        peeled, marks = calls.peel(store, count, 0, 10, [0], [15], [0], 4, 4)
+        self.assertEqual(([answer.vector for answer in peeled], marks), ([[2], [9]], b"\1\1\2"))
         registers = calls.reset()
         for offset, byte in [*enumerate(job, 64), (0, 2)]:
             registers = calls.write_register(registers, offset, byte, store, 4)

@@ -10,8 +10,8 @@ enum { ROOM = 1 << 20, RECORDS = 4096, ROWS = 64, FILLED = 0xA5 };
 
 static unsigned char stack[ROOM];
 static uint8_t store[12 * RECORDS], labels[RECORDS], records[40 * 3], registers[VENGUTARI_REGISTERS];
-static int16_t table[16 * ROWS], found[8];
-static uint64_t bounds[ROWS], sums[216], numbers[5], slots[48], value;
+static int16_t table[16 * ROWS], found[8], peeled[32];
+static uint64_t bounds[ROWS], sums[216], numbers[5], rounds[24], slots[48], value;
 static uint8_t job[72], cases[8];
 static int16_t vectors[64];
 static uint32_t codes[8], budgets[8], patterns[16];
@@ -66,6 +66,12 @@ static void ranges(void)
     code = vengutari_ranges(store, sizeof store, 2, 2, 7, p, eps, 40, UINT64_MAX, corners, 16, vector, 8, table, 16 * ROWS, patterns, 16,
                             cases, 8, numbers, 3, &value);
 }
+static void peel(void)
+{
+    static const int16_t start[8] = {3, -2}, domain[16] = {-4, -4, 0, 0, 0, 0, 0, 0, 7, 7};
+    code = vengutari_peel(store, sizeof store, 1, 2, 7, 0, eps, 0, 4000, domain, 16, start, 8, 4, table, 16 * ROWS, bounds, ROWS, labels,
+                          RECORDS, peeled, 32, rounds, 24, &value);
+}
 
 /* How many bytes of stack a call takes, or ROOM where it is refused. */
 static size_t taken(void (*call)(void))
@@ -88,7 +94,7 @@ int main(void)
     static const struct { const char *name; void (*call)(void); size_t sum, rank; } calls[] = {
         {"cost", cost, 8000, 45000}, {"bound", bound, 8000, 45000}, {"search", search, 190000, 220000},
         {"windows", windows, 190000, 220000}, {"boards", boards, 195000, 225000}, {"write_register", run, 190000, 220000},
-        {"ranges", ranges, 190000, 220000},
+        {"ranges", ranges, 190000, 220000}, {"peel", peel, 250000, 0},
         {"cost_by_beacon", by_beacon, 8000, 0}, {"labels", label, 8000, 0},
     };
     int passed = 0, failed = 0;

@@ -11,6 +11,7 @@ ghost use Rattle.c_beacon_costs.specs.Calls.{costByBeaconCall, sumsAfterCall};
 ghost use Rattle.c_search.specs.Calls.{searchCall, vectorAfter, numbersAfter, TableAfterCall, BoundsAfterCall, CertifiedCall};
 ghost use Rattle.c_boards.specs.Calls as Boards;
 ghost use Rattle.c_ranges.specs.Calls as rangeCalls;
+ghost use Rattle.c_peel.specs.Calls as peeling;
 ghost use Rattle.merge.specs.Merge.{outputAfter};
 ghost use Rattle.c_stores.specs.Calls.{mergeCall, takeInCall};
 ghost use Rattle.sharing.specs.Sharing.{SharedTable, SharedBounds};
@@ -366,6 +367,79 @@ pub extern "C" fn vengutari_ranges(
         table,
         patterns,
         cases,
+        numbers,
+        value,
+    )
+}
+
+// Peels one line after another, `limit` of them at most, in one table and list of bounds. The value is the number of rounds; their vectors
+// and numbers go into their buffers, round after round, and a label for each record into the front of `labels`.
+#[no_mangle]
+pub extern "C" fn vengutari_peel(
+    store: &[u8],
+    n: u8,
+    d: u8,
+    scale: u8,
+    p: u8,
+    eps: u32,
+    t: u64,
+    budget: u32,
+    corners: &[i16],
+    start: &[i16],
+    limit: u8,
+    table: &mut [i16],
+    bounds: &mut [u64],
+    labels: &mut [u8],
+    vectors: &mut [i16],
+    numbers: &mut [u64],
+    value: &mut u64,
+) -> u32
+    ensures code { λ k. ⌜ k
+        ≡ codeOf (peeling.peelCall (now (store .entry)) (modelOf n d scale p eps) t budget (now (corners .entry)) (now (start .entry)) limit
+        (now (table .entry)) (now (bounds .entry)) (now (labels .entry)) (now (vectors .entry)) (now (numbers .entry))) ⌝ }
+    ensures value { λ _. ⌜ now (value .exit)
+        ≡ valueAfter
+        (peeling.peelCall (now (store .entry)) (modelOf n d scale p eps) t budget (now (corners .entry)) (now (start .entry)) limit
+        (now (table .entry)) (now (bounds .entry)) (now (labels .entry)) (now (vectors .entry)) (now (numbers .entry)))
+        (now (value .entry)) ⌝ }
+    ensures vectors { λ _. ⌜ now (vectors .exit)
+        ≡ peeling.vectorsAfter (now (store .entry)) (modelOf n d scale p eps) t budget (now (corners .entry)) (now (start .entry)) limit
+        (now (table .entry)) (now (bounds .entry)) (now (labels .entry)) (now (vectors .entry)) (now (numbers .entry)) ⌝ }
+    ensures numbers { λ _. ⌜ now (numbers .exit)
+        ≡ peeling.numbersAfter (now (store .entry)) (modelOf n d scale p eps) t budget (now (corners .entry)) (now (start .entry)) limit
+        (now (table .entry)) (now (bounds .entry)) (now (labels .entry)) (now (vectors .entry)) (now (numbers .entry)) ⌝ }
+    ensures labels { λ _. ⌜ now (labels .exit)
+        ≡ peeling.labelsAfterCall (now (store .entry)) (modelOf n d scale p eps) t budget (now (corners .entry)) (now (start .entry)) limit
+        (now (table .entry)) (now (bounds .entry)) (now (labels .entry)) (now (vectors .entry)) (now (numbers .entry)) ⌝ }
+    ensures table { λ _. ⌜
+        peeling.TableAfterCall (now (store .entry)) (modelOf n d scale p eps) t budget (now (corners .entry)) (now (start .entry)) limit
+        (now (table .entry)) (now (bounds .entry)) (now (labels .entry)) (now (vectors .entry)) (now (numbers .entry))
+        (now (table .exit)) ⌝ }
+    ensures bounds { λ _. ⌜
+        peeling.BoundsAfterCall (now (store .entry)) (modelOf n d scale p eps) t budget (now (corners .entry)) (now (start .entry)) limit
+        (now (table .entry)) (now (bounds .entry)) (now (labels .entry)) (now (vectors .entry)) (now (numbers .entry))
+        (now (bounds .exit)) ⌝ }
+    ensures peeling { λ k. ⌜ (k ≡ 0 →
+        peeling.PeelingCall (now (store .entry)) (modelOf n d scale p eps) t budget (now (corners .entry)) (now (start .entry)) limit
+        (now (table .entry)) (now (bounds .entry)) (now (labels .entry)) (now (vectors .entry)) (now (numbers .entry))
+        (now (value .exit)) (now (vectors .exit)) (now (numbers .exit)) (now (labels .exit))) ⌝ }
+{
+    c_peel::peel(
+        store,
+        n,
+        d,
+        scale,
+        p,
+        eps,
+        t,
+        budget,
+        corners,
+        start,
+        limit,
+        table,
+        bounds,
+        labels,
+        vectors,
         numbers,
         value,
     )

@@ -104,6 +104,20 @@ pub trait Calls {
         table: &mut [i16],
         ranged: &mut Ranged,
     ) -> u32;
+    /// What is found is 32 coordinates, 24 numbers, six of each round, kind first, and the number of rounds.
+    #[allow(clippy::too_many_arguments)]
+    fn peel(
+        &self,
+        store: &[u8],
+        job: &Job,
+        corners: &[i16],
+        start: &[i16],
+        limit: u8,
+        table: &mut [i16],
+        bounds: &mut [u64],
+        labels: &mut [u8],
+        found: &mut Found,
+    ) -> u32;
     /// The numbers are n, d, S, p, ε, t, budget and r.
     fn read_job(&self, bytes: &[u8], numbers: &mut [u64], corners: &mut [i16], start: &mut [i16]) -> u32;
     fn write_job(&self, job: &Job, corners: &[i16], start: &[i16], bytes: &mut [u8]) -> u32;

@@ -218,6 +218,28 @@ pub fn small(random: &mut Random, limit: u64) -> Input {
 pub fn small_with_threshold(random: &mut Random, limit: u64) -> Input {
     let mut model = model(random);
     model.s = random.pick(&[0, 0, 0, 1, 2, 5]);
+    small_of(random, model, limit)
+}
+
+/// A sound job that can be peeled, with a box of at most `limit` vectors: one line and p = 0, the points near several lines.
+pub fn one_line(random: &mut Random, limit: u64) -> Input {
+    let mut model = model(random);
+    (model.n, model.p) = (1, 0);
+    model.s = random.pick(&[0, 0, 0, 1, 2]);
+    model.epsilon = random.pick(&[0, 0, 1, 2, 3, 8]);
+    let mut input = small_of(random, model, limit);
+    let mut points = points_of(&input.store);
+    for _ in 0..random.size(0, 2) {
+        let other = inside(random, &input.job.domain);
+        let count = random.size(1, 8);
+        points.extend(near_lines(random, &model, &other, count));
+    }
+    put_gaps(random, &mut points);
+    input.store = store_of(&points);
+    input
+}
+
+fn small_of(random: &mut Random, mut model: Model, limit: u64) -> Input {
     let used = model.used();
     let mut domain = Box8 { low: [0; 8], high: [0; 8] };
     let mut vectors = 1;

@@ -201,6 +201,33 @@ extern "C" {
         numbers_len: usize,
         value: *mut u64,
     ) -> u32;
+    fn vengutari_peel(
+        store: *const u8,
+        store_len: usize,
+        n: u8,
+        d: u8,
+        s: u8,
+        p: u8,
+        epsilon: u32,
+        t: u64,
+        budget: u32,
+        corners: *const i16,
+        corners_len: usize,
+        start: *const i16,
+        start_len: usize,
+        limit: u8,
+        table: *mut i16,
+        table_len: usize,
+        bounds: *mut u64,
+        bounds_len: usize,
+        labels: *mut u8,
+        labels_len: usize,
+        vectors: *mut i16,
+        vectors_len: usize,
+        numbers: *mut u64,
+        numbers_len: usize,
+        value: *mut u64,
+    ) -> u32;
     fn vengutari_read_job(
         bytes: *const u8,
         bytes_len: usize,
@@ -505,6 +532,51 @@ impl Calls for Library {
                 numbers.as_mut_ptr(),
                 numbers.len(),
                 &mut ranged.value,
+            )
+        }
+    }
+
+    fn peel(
+        &self,
+        store: &[u8],
+        job: &Job,
+        corners: &[i16],
+        start: &[i16],
+        limit: u8,
+        table: &mut [i16],
+        bounds: &mut [u64],
+        labels: &mut [u8],
+        found: &mut Found,
+    ) -> u32 {
+        let Model { n, d, s, p, epsilon } = job.model;
+        let (vectors, numbers) = (found.vector.part(), found.numbers.part());
+        unsafe {
+            vengutari_peel(
+                store.as_ptr(),
+                store.len(),
+                n,
+                d,
+                s,
+                p,
+                epsilon,
+                job.t,
+                job.budget,
+                corners.as_ptr(),
+                corners.len(),
+                start.as_ptr(),
+                start.len(),
+                limit,
+                table.as_mut_ptr(),
+                table.len(),
+                bounds.as_mut_ptr(),
+                bounds.len(),
+                labels.as_mut_ptr(),
+                labels.len(),
+                vectors.as_mut_ptr(),
+                vectors.len(),
+                numbers.as_mut_ptr(),
+                numbers.len(),
+                &mut found.value,
             )
         }
     }

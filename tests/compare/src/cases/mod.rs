@@ -13,6 +13,7 @@ mod merge;
 mod model;
 mod one_record;
 mod ranges;
+mod peel;
 mod records;
 mod search;
 mod spoiled;
@@ -104,6 +105,11 @@ pub const GROUPS: &[Group] = &[
     group("ranges-spoiled", "ranges", 1000, ranges::spoiled),
     group("ranges-wide", "ranges", 600, ranges::wide),
     group("ranges-damaged", "ranges", 2000, ranges::damaged),
+    group("peel-by-hand", "peel", 1, peel::by_hand),
+    group("peel-small", "peel", 3000, peel::small),
+    group("peel-long", "peel", 150, peel::long),
+    group("peel-gaps-alone", "peel", 300, peel::gaps_alone),
+    group("peel-damaged", "peel", 3000, peel::damaged),
     group("read_job", "read_job", 500, records::read_job),
     group("write_job", "write_job", 500, records::write_job),
     group("read_answer", "read_answer", 2000, records::read_answer),

@@ -8,6 +8,7 @@ mod gaps;
 mod labels;
 mod merge;
 mod ranges;
+mod peel;
 mod search;
 mod spoiled;
 mod stand_in;
@@ -180,6 +181,25 @@ enum Slip {
     RangesWithoutStartCheck,
     RangesOneAsBetween,
     RangesGivenOneVectorUncosted,
+    // Peeling.
+    PeelsBelowEpsilon,
+    PeelsFromTheLastVector,
+    PeelsUnsolved,
+    PeelsAGap,
+    PeelsOneBudget,
+    PeelsOnAllPoints,
+    PeelsOnePastTheLimit,
+    PeelsOnOnNothing,
+    PeelLastRoundUntold,
+    PeelLimitAfterBox,
+    PeelLimit5Taken,
+    PeelTwoLinesTaken,
+    PeelLossTaken,
+    PeelGapsUncounted,
+    PeelShortBeforeBounds,
+    PeelGapsAloneRun,
+    PeelClearsTheRest,
+    PeelSlotsKept,
     // Records, lines and fit.
     JobFieldsSwapped,
     JobLittleEndian,
@@ -323,6 +343,34 @@ const SLIPS: &[(&str, &[Slip])] = &[
         ],
     ),
     ("take_in", &[Beacon250, BeaconBeforeShort, MarkUnchecked, StorePastItsLimit]),
+    (
+        "peel",
+        &[
+            PeelsBelowEpsilon,
+            PeelsFromTheLastVector,
+            PeelsUnsolved,
+            PeelsAGap,
+            PeelsOneBudget,
+            PeelsOnAllPoints,
+            PeelsOnePastTheLimit,
+            PeelsOnOnNothing,
+            PeelLastRoundUntold,
+            PeelLimitAfterBox,
+            PeelLimit5Taken,
+            PeelTwoLinesTaken,
+            PeelLossTaken,
+            PeelGapsUncounted,
+            PeelShortBeforeBounds,
+            PeelGapsAloneRun,
+            PeelClearsTheRest,
+            PeelSlotsKept,
+            RowsPastPeakWritten,
+            RowsReversed,
+            EntriesReversed,
+            EntriesPastPeakWritten,
+            WrongLengthTaken,
+        ],
+    ),
     (
         "merge",
         &[

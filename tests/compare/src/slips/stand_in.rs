@@ -264,6 +264,37 @@ impl Calls for StandIn {
         }
     }
 
+    fn peel(
+        &self,
+        store: &[u8],
+        job: &Job,
+        corners: &[i16],
+        start: &[i16],
+        limit: u8,
+        table: &mut [i16],
+        bounds: &mut [u64],
+        labels: &mut [u8],
+        found: &mut Found,
+    ) -> u32 {
+        let (vectors, numbers) = (found.vector.part(), found.numbers.part());
+        if !self.takes(&[(corners.len(), 16), (start.len(), 8), (vectors.len(), 32), (numbers.len(), 24)]) {
+            return WRONG_LENGTH;
+        }
+        let (Some(domain), Some(start)) = (self.row(corners), self.eight(start)) else {
+            return WRONG_LENGTH;
+        };
+        match self.peels(&Job { domain, start, ..*job }, store, limit, table, bounds, labels) {
+            Ok(told) => {
+                let slots = if self.slips(PeelSlotsKept) { told.rounds as usize } else { 4 };
+                put(vectors, &told.vectors[..8 * slots]);
+                put(numbers, &told.numbers[..6 * slots]);
+                found.value = told.rounds;
+                0
+            }
+            Err(refusal) => refusal_code(refusal),
+        }
+    }
+
     fn read_job(&self, bytes: &[u8], numbers: &mut [u64], corners: &mut [i16], start: &mut [i16]) -> u32 {
         if !self.takes(&[(numbers.len(), 8), (corners.len(), 16), (start.len(), 8)]) {
             return WRONG_LENGTH;

@@ -1,0 +1,4 @@
+pub mod Gathering
+pub mod Marking
+pub mod Samples
+pub mod Labelling

@@ -1,0 +1,5 @@
+pub mod Keeping
+pub mod Labels
+pub mod Counting
+pub mod Peeling
+pub mod Steps
