@@ -1,6 +1,6 @@
 //! Two stores made one, and what is then made of it.
 
-use super::{hex, same_answer, search, with_case, Outcome};
+use super::{hex, peel, same_answer, search, with_case, Outcome};
 use crate::calls::Calls;
 use crate::inputs::{self, Input};
 use crate::lent::{same, Lent};
@@ -140,7 +140,22 @@ pub fn large(calls: &dyn Calls, random: &mut Random) -> Outcome {
 /// searched, with all that is promised of a search over all vectors of the box, and labelled under the vector found.
 pub fn fitted(calls: &dyn Calls, random: &mut Random) -> Outcome {
     let limit = random.pick(&[2, 8, 30, 100]);
-    let mut input = inputs::small_with_threshold(random, limit);
+    let input = inputs::small_with_threshold(random, limit);
+    let input = received(calls, random, input)?;
+    let vector = search::over_all_vectors(calls, random, input.clone())?;
+    labelled(calls, random, &input, vector)
+}
+
+/// And peeled.
+pub fn peeled(calls: &dyn Calls, random: &mut Random) -> Outcome {
+    let limit = random.pick(&[2, 8, 30, 100]);
+    let input = inputs::one_line(random, limit);
+    let input = received(calls, random, input)?;
+    peel::over_all_vectors(calls, random, input)
+}
+
+/// The records of an input dealt to two stores, which the product makes one again.
+fn received(calls: &dyn Calls, random: &mut Random, mut input: Input) -> Result<Input, String> {
     let frames = frames(random, input.store.len() / RECORD);
     input.keep(frames.len());
     for (record, frame) in input.store.chunks_exact_mut(RECORD).zip(&frames) {
@@ -158,8 +173,7 @@ pub fn fitted(calls: &dyn Calls, random: &mut Random) -> Outcome {
         same_answer(code, value, 0, Ok(merged.len() as u64)).and(same("merged store", &merged, &input.store));
     with_case(outcome, || format!("  first: {}\n  second: {}", hex(&first), hex(&second)))?;
     input.store = merged;
-    let vector = search::over_all_vectors(calls, random, input.clone())?;
-    labelled(calls, random, &input, vector)
+    Ok(input)
 }
 
 fn labelled(calls: &dyn Calls, random: &mut Random, input: &Input, vector: [i16; 8]) -> Outcome {

@@ -83,6 +83,7 @@ pub const GROUPS: &[Group] = &[
     group("merge", "merge", 3000, merge::small),
     group("merge-large", "merge", 60, merge::large),
     group("merge-fitted", "merge", 1500, merge::fitted),
+    group("merge-peeled", "merge", 800, merge::peeled),
     group("search-exhaustive", "search", 4000, search::exhaustive),
     group("search-spoiled", "search", 1500, search::spoiled),
     group("search-ties", "search", 200, search::ties),

@@ -38,7 +38,12 @@ pub fn by_hand(calls: &dyn Calls, random: &mut Random) -> Outcome {
 /// Small boxes: what is promised of each round is checked over all grid vectors.
 pub fn small(calls: &dyn Calls, random: &mut Random) -> Outcome {
     let size = random.pick(&[1, 2, 8, 30, 100, 300]);
-    let mut input = inputs::one_line(random, size);
+    let input = inputs::one_line(random, size);
+    over_all_vectors(calls, random, input)
+}
+
+/// The same of a given store and box.
+pub fn over_all_vectors(calls: &dyn Calls, random: &mut Random, mut input: Input) -> Outcome {
     let volume = input.job.domain.volume().unwrap() as u32;
     input.job.budget = random.pick(&[0, 1, 2, 5, volume / 2, volume - 1, volume - 1, volume - 1, u32::MAX]);
     input.job.t = random.pick(&[0, 0, 0, 1, 2, u64::MAX]);
