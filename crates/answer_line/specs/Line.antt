@@ -34,9 +34,9 @@ unfoldable pub line : Model → Answer → List ℕ
 line m a = worded a.kind (fields m a) ++ byte 10
 
 -- Whether every line fits into a buffer: a word, 5 names and numbers, 8 coordinates and the end are at most 200 bytes.
-abbrev pub takesLines : List ℕ → Bool
-takesLines out = leb 200 (length out)
+abbrev pub takes_lines : List ℕ → Bool
+takes_lines out = leb 200 (length out)
 
 -- the line that goes into a buffer: none where some line would not fit
-unfoldable pub lineIn : Model → Answer → List ℕ → List ℕ
-lineIn m a out = cond (takesLines out) (line m a) []
+unfoldable pub line_in : Model → Answer → List ℕ → List ℕ
+line_in m a out = cond (takes_lines out) (line m a) []

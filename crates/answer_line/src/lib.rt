@@ -4,7 +4,7 @@ ghost use Rattle.codes.specs.Codes.{number_of};
 ghost use Rattle.decimal.specs.Put.{Put};
 ghost use Rattle.decimal.specs.Text.{byte};
 ghost use Rattle.integers.specs.Lists.{over};
-ghost use Rattle.answer_line.specs.Line.{field, fields, numbers, worded, lineIn};
+ghost use Rattle.answer_line.specs.Line.{field, fields, numbers, worded, line_in};
 
 use codes::Refusal;
 use decimal::{put_bytes, put_field, put_joined};
@@ -86,8 +86,8 @@ fn put_line(out: &mut [u8], m: Model, a: Answer) -> usize
 // The line of an answer to a job with that model, at the front of a buffer: answers how long it is. A buffer that some line does not fit
 // into is kept, and the answer is 0.
 pub fn line(m: Model, a: Answer, out: &mut [u8]) -> usize
-    ensures length { result ≡ length (lineIn m a out.old) }
-    ensures line { out.new ≡ over (lineIn m a out.old) out.old }
+    ensures length { result ≡ length (line_in m a out.old) }
+    ensures line { out.new ≡ over (line_in m a out.old) out.old }
 {
     if out.len() < 200 {
         return 0;

@@ -8,85 +8,85 @@ use lib.Dec.{T, eqb, eqb→eq}
 use lib.ListN.{length, take, drop, get_or, length-append}
 use lib.Pow.{are_bytes}
 use lib.Seq.{take_at, drop_at, drop-drop, get_or-drop, take-add, take_all}
-use Rattle.codes.proofs.Checks.{passed, first-passed}
-use Rattle.codes.specs.Codes.{passIf, ifPassed, inOrder}
+use Rattle.codes.proofs.Checks.{passed, first_passed}
+use Rattle.codes.specs.Codes.{pass_if, if_passed, in_order}
 use Rattle.codes.specs.declared.Check.TheVariants.{Pass, Refuse}
 use Rattle.codes.specs.declared.Check.{Check}
 use Rattle.codes.specs.declared.Refusal.TheVariants.{Answer, Short}
 use Rattle.codes.specs.declared.Refusal.{Refusal}
-use Rattle.answer_records.specs.Answers.{answerBytes, answer_of, checkAnswer, checkAnswerWrite, readAnswer, zeroAnswer}
-use Rattle.fields.specs.Buffers.{checkRoom}
-use Rattle.fields.specs.Fields.{bigEndian, fromBigEndian, vectorBytes, vectorOf}
+use Rattle.answer_records.specs.Answers.{answer_bytes, answer_of, check_answer, check_answer_write, read_answer, zero_answer}
+use Rattle.fields.specs.Buffers.{check_room}
+use Rattle.fields.specs.Fields.{big_endian, from_big_endian, vector_bytes, vector_of}
 use Rattle.answer_records.specs.Laws.{IsAnswer, AnswerRoundTrip}
 use Rattle.answer_records.specs.declared.AnswerRecord.{AnswerRecord}
-use Rattle.fields.proofs.BigEndian.{written-reads-whole}
-use Rattle.fields.proofs.Parts.{four-at}
-use Rattle.fields.proofs.Vectors.{vector-long, written-reads as vector-reads, number-back, vector-back}
+use Rattle.fields.proofs.BigEndian.{written_reads_whole}
+use Rattle.fields.proofs.Parts.{four_at}
+use Rattle.fields.proofs.Vectors.{vector_long, written_reads as vector-reads, number_back, vector_back}
 
-pub read-no-length : (bytes : List ℕ) → (length bytes ≡ 40 → ⊥) → readAnswer bytes ≡ record { check = Refuse Answer; answer = zeroAnswer }
-unfolding readAnswer inOrder
-read-no-length bytes h = simp (ne_eqb (length bytes) 40 h)
+pub read_no_length : (bytes : List ℕ) → (length bytes ≡ 40 → ⊥) → read_answer bytes ≡ record { check = Refuse Answer; answer = zero_answer }
+unfolding read_answer in_order
+read_no_length bytes h = simp (ne_eqb (length bytes) 40 h)
 
-pub read-refused : (bytes : List ℕ) (r : Refusal) → length bytes ≡ 40 → checkAnswer (answer_of bytes) ≡ Refuse r
-    → readAnswer bytes ≡ record { check = Refuse r; answer = zeroAnswer }
-unfolding readAnswer inOrder
-read-refused bytes r h e = simp (eq-eqb (length bytes) 40 h, e)
+pub read_refused : (bytes : List ℕ) (r : Refusal) → length bytes ≡ 40 → check_answer (answer_of bytes) ≡ Refuse r
+    → read_answer bytes ≡ record { check = Refuse r; answer = zero_answer }
+unfolding read_answer in_order
+read_refused bytes r h e = simp (eq-eqb (length bytes) 40 h, e)
 
-pub read-accepted : (bytes : List ℕ) → length bytes ≡ 40 → checkAnswer (answer_of bytes) ≡ Pass
-    → readAnswer bytes ≡ record { check = Pass; answer = answer_of bytes }
-unfolding readAnswer inOrder
-read-accepted bytes h e = simp (eq-eqb (length bytes) 40 h, e)
+pub read_accepted : (bytes : List ℕ) → length bytes ≡ 40 → check_answer (answer_of bytes) ≡ Pass
+    → read_answer bytes ≡ record { check = Pass; answer = answer_of bytes }
+unfolding read_answer in_order
+read_accepted bytes h e = simp (eq-eqb (length bytes) 40 h, e)
 
 module _ (a : AnswerRecord) (out : List ℕ) where
-  pub write-refused : (r : Refusal) → checkAnswer a ≡ Refuse r → checkAnswerWrite a out ≡ Refuse r
-  unfolding checkAnswerWrite inOrder
-  write-refused r e = simp e
+  pub write_refused : (r : Refusal) → check_answer a ≡ Refuse r → check_answer_write a out ≡ Refuse r
+  unfolding check_answer_write in_order
+  write_refused r e = simp e
 
-  pub write-no-room : checkAnswer a ≡ Pass → length out < 40 → checkAnswerWrite a out ≡ Refuse Short
-  unfolding checkAnswerWrite checkRoom inOrder
-  write-no-room e h = simp (e, lt-leb 40 (length out) h)
+  pub write_no_room : check_answer a ≡ Pass → length out < 40 → check_answer_write a out ≡ Refuse Short
+  unfolding check_answer_write check_room in_order
+  write_no_room e h = simp (e, lt-leb 40 (length out) h)
 
-  pub write-accepted : checkAnswer a ≡ Pass → 40 ≤ length out → checkAnswerWrite a out ≡ Pass
-  unfolding checkAnswerWrite checkRoom inOrder
-  write-accepted e h = simp (e, le-leb 40 (length out) h)
+  pub write_accepted : check_answer a ≡ Pass → 40 ≤ length out → check_answer_write a out ≡ Pass
+  unfolding check_answer_write check_room in_order
+  write_accepted e h = simp (e, le-leb 40 (length out) h)
 
 module _ (a : AnswerRecord) (ok : IsAnswer a) where
   -- what stands behind the vector
   numbers : List ℕ
-  numbers = bigEndian 8 a.cost ++ (bigEndian 8 a.bound ++ (bigEndian 4 a.count ++ (a.kind ∷ a.n ∷ a.d ∷ a.scale ∷ [])))
+  numbers = big_endian 8 a.cost ++ (big_endian 8 a.bound ++ (big_endian 4 a.count ++ (a.kind ∷ a.n ∷ a.d ∷ a.scale ∷ [])))
 
-  vector-first : answerBytes a ≡ vectorBytes a.vector ++ numbers
-  unfolding answerBytes numbers
-  vector-first = simp append_assoc
+  vector_first : answer_bytes a ≡ vector_bytes a.vector ++ numbers
+  unfolding answer_bytes numbers
+  vector_first = simp append_assoc
 
-  long : length (vectorBytes a.vector) ≡ 16
-  long = vector-long a.vector ok.vector.eight
+  long : length (vector_bytes a.vector) ≡ 16
+  long = vector_long a.vector ok.vector.eight
 
-  size : length (answerBytes a) ≡ 40
-  unfolding numbers bigEndian
-  size = rw vector-first (omega (arith, length-append (vectorBytes a.vector) numbers, long))
+  size : length (answer_bytes a) ≡ 40
+  unfolding numbers big_endian
+  size = rw vector_first (omega (arith, length-append (vector_bytes a.vector) numbers, long))
 
-  behind : (o : ℕ) → drop (16 + o) (answerBytes a) ≡ drop o numbers
+  behind : (o : ℕ) → drop (16 + o) (answer_bytes a) ≡ drop o numbers
   behind o =
-      sym (drop-drop o 16 (answerBytes a)) ∙ ap (λ (l : List ℕ). drop o (drop 16 l)) vector-first
-      ∙ ap (drop o) (drop_at (vectorBytes a.vector) numbers 16 long)
+      sym (drop-drop o 16 (answer_bytes a)) ∙ ap (λ (l : List ℕ). drop o (drop 16 l)) vector_first
+      ∙ ap (drop o) (drop_at (vector_bytes a.vector) numbers 16 long)
 
-  byte-behind : (o : ℕ) → get_or (answerBytes a) (16 + o) 0 ≡ get_or numbers o 0
-  byte-behind o = sym (get_or-drop 16 (answerBytes a) o 0) ∙ ap (λ (l : List ℕ). get_or l o 0) (behind 0)
+  byte_behind : (o : ℕ) → get_or (answer_bytes a) (16 + o) 0 ≡ get_or numbers o 0
+  byte_behind o = sym (get_or-drop 16 (answer_bytes a) o 0) ∙ ap (λ (l : List ℕ). get_or l o 0) (behind 0)
 
-  reads : answer_of (answerBytes a) ≡ a
-  unfolding answer_of numbers bigEndian
+  reads : answer_of (answer_bytes a) ≡ a
+  unfolding answer_of numbers big_endian
   reads = λ i. record {
     vector =
-        (ap (λ (l : List ℕ). vectorOf (take 16 l)) vector-first ∙ ap vectorOf (take_at (vectorBytes a.vector) numbers 16 long)
+        (ap (λ (l : List ℕ). vector_of (take 16 l)) vector_first ∙ ap vector_of (take_at (vector_bytes a.vector) numbers 16 long)
         ∙ vector-reads ok.vector.signed) i;
-    cost = (ap (λ (l : List ℕ). fromBigEndian (take 8 l)) (behind 0) ∙ written-reads-whole 8 a.cost ok.cost.fits) i;
-    bound = (ap (λ (l : List ℕ). fromBigEndian (take 8 l)) (behind 8) ∙ written-reads-whole 8 a.bound ok.bound.fits) i;
-    count = (ap (λ (l : List ℕ). fromBigEndian (take 4 l)) (behind 16) ∙ written-reads-whole 4 a.count ok.count.fits) i;
-    kind = byte-behind 20 i;
-    n = byte-behind 21 i;
-    d = byte-behind 22 i;
-    scale = byte-behind 23 i;
+    cost = (ap (λ (l : List ℕ). from_big_endian (take 8 l)) (behind 0) ∙ written_reads_whole 8 a.cost ok.cost.fits) i;
+    bound = (ap (λ (l : List ℕ). from_big_endian (take 8 l)) (behind 8) ∙ written_reads_whole 8 a.bound ok.bound.fits) i;
+    count = (ap (λ (l : List ℕ). from_big_endian (take 4 l)) (behind 16) ∙ written_reads_whole 4 a.count ok.count.fits) i;
+    kind = byte_behind 20 i;
+    n = byte_behind 21 i;
+    d = byte_behind 22 i;
+    scale = byte_behind 23 i;
   }
 
 module _ (bytes : List ℕ) (ok : T (are_bytes bytes)) (h : length bytes ≡ 40) where
@@ -94,28 +94,28 @@ module _ (bytes : List ℕ) (ok : T (are_bytes bytes)) (h : length bytes ≡ 40)
       ≡ take 40 bytes
   joined = rw (← take-add 16 8 bytes, ← take-add 24 8 bytes, ← take-add 32 4 bytes, ← take-add 36 4 bytes)
 
-  writes : answerBytes (answer_of bytes) ≡ bytes
-  unfolding answerBytes answer_of
+  writes : answer_bytes (answer_of bytes) ≡ bytes
+  unfolding answer_bytes answer_of
   writes =
       (λ i.
-      vector-back bytes ok 0 (omega arith) i
-      ++ number-back bytes ok 16 8 (omega arith) i
-      ++ number-back bytes ok 24 8 (omega arith) i
-      ++ number-back bytes ok 32 4 (omega arith) i
-      ++ four-at bytes 36 (omega arith) i)
+      vector_back bytes ok 0 (omega arith) i
+      ++ number_back bytes ok 16 8 (omega arith) i
+      ++ number_back bytes ok 24 8 (omega arith) i
+      ++ number_back bytes ok 32 4 (omega arith) i
+      ++ four_at bytes 36 (omega arith) i)
       ∙ joined
       ∙ take_all 40 bytes (omega arith)
 
-pub answer-round-trip : AnswerRoundTrip
-unfolding readAnswer
-answer-round-trip = record {
+pub answer_round_trip : AnswerRoundTrip
+unfolding read_answer
+answer_round_trip = record {
   size = size;
-  written-reads =
-      λ a ok e. read-accepted (answerBytes a) (size a ok) (ap checkAnswer (reads a ok) ∙ e)
+  written_reads =
+      λ a ok e. read_accepted (answer_bytes a) (size a ok) (ap check_answer (reads a ok) ∙ e)
       ∙ (λ i. record { check = Pass; answer = reads a ok i });
-  read-writes = λ bytes ok e.
+  read_writes = λ bytes ok e.
       let h =
       eqb→eq (length bytes) 40 (passed (eqb (length bytes) 40) Answer
-      (first-passed (passIf (eqb (length bytes) 40) Answer) (checkAnswer (answer_of bytes) ∷ []) e)) in
-      ap (λ (k : Check). answerBytes (ifPassed k (answer_of bytes) zeroAnswer)) e ∙ writes bytes ok h;
+      (first_passed (pass_if (eqb (length bytes) 40) Answer) (check_answer (answer_of bytes) ∷ []) e)) in
+      ap (λ (k : Check). answer_bytes (if_passed k (answer_of bytes) zero_answer)) e ∙ writes bytes ok h;
 }

@@ -5,7 +5,7 @@ use Rattle.std.specs.Int.{w32, w64}
 use Rattle.std.proofs.Common.{Fits}
 use Rattle.codes.specs.declared.Check.TheVariants.{Pass}
 use Rattle.fields.specs.Fields.{IsVector}
-use Rattle.answer_records.specs.Answers.{answerBytes, checkAnswer, readAnswer}
+use Rattle.answer_records.specs.Answers.{answer_bytes, check_answer, read_answer}
 use Rattle.answer_records.specs.declared.AnswerRecord.{AnswerRecord}
 
 -- The numbers fit their bytes, as those of every answer record in the code do.
@@ -18,12 +18,12 @@ pub record IsAnswer (a : AnswerRecord) : Type 0 where
 -- An answer that check 9 lets through goes through its 40 bytes and back unchanged.
 pub record AnswerRoundTrip : Type 0 where
   -- "An answer record has 40 bytes".
-  pub size : (a : AnswerRecord) → IsAnswer a → length (answerBytes a) ≡ 40
+  pub size : (a : AnswerRecord) → IsAnswer a → length (answer_bytes a) ≡ 40
   -- an answer that was written reads as itself
-  pub written-reads :
+  pub written_reads :
       (a : AnswerRecord) →
       IsAnswer a →
-      checkAnswer a ≡ Pass →
-      readAnswer (answerBytes a) ≡ record { check = Pass; answer = a }
+      check_answer a ≡ Pass →
+      read_answer (answer_bytes a) ≡ record { check = Pass; answer = a }
   -- a record that reads writes back to the same bytes
-  pub read-writes : (bytes : List ℕ) → T (are_bytes bytes) → (readAnswer bytes).check ≡ Pass → answerBytes (readAnswer bytes).answer ≡ bytes
+  pub read_writes : (bytes : List ℕ) → T (are_bytes bytes) → (read_answer bytes).check ≡ Pass → answer_bytes (read_answer bytes).answer ≡ bytes

@@ -3,7 +3,7 @@ ghost use Rattle.std.specs.Prelude.{◌≡◌, ◌≤◌, length};
 ghost use Rattle.integers.specs.Lists.{over};
 ghost use Rattle.codes.specs.declared.Check.TheVariants.{Refuse};
 ghost use Rattle.fields.specs.Buffers.{written};
-ghost use Rattle.answer_records.specs.Answers.{answerBytes, answer_of, checkAnswer, checkAnswerWrite, passing, readAnswer, zeroAnswer};
+ghost use Rattle.answer_records.specs.Answers.{answer_bytes, answer_of, check_answer, check_answer_write, passing, read_answer, zero_answer};
 
 use codes::{Check, Refusal};
 use fields::{get_number, get_number32, get_vector, put_number, put_vector};
@@ -48,7 +48,7 @@ fn get_answer(bytes: &[u8]) -> AnswerRecord
 // The fields into the first 40 bytes.
 fn put_answer(a: AnswerRecord, bytes: &mut [u8])
     requires { 40 ≤ length bytes.old }
-    ensures { bytes.new ≡ over (answerBytes a) bytes.old }
+    ensures { bytes.new ≡ over (answer_bytes a) bytes.old }
 {
     let vector = a.vector;
     put_vector(bytes, 0, vector);
@@ -75,7 +75,7 @@ fn passes(c: Check) -> bool
 
 // Check 9.
 pub fn check_answer(a: AnswerRecord) -> Check
-    ensures { result ≡ checkAnswer a }
+    ensures { result ≡ check_answer a }
 {
     let vector = a.vector;
     if 1 <= a.kind
@@ -94,8 +94,8 @@ pub fn check_answer(a: AnswerRecord) -> Check
 
 // The answer record in the first 40 bytes.
 pub fn write_answer(a: AnswerRecord, out: &mut [u8]) -> Check
-    ensures check { result ≡ checkAnswerWrite a out.old }
-    ensures bytes { out.new ≡ written result (answerBytes a) out.old }
+    ensures check { result ≡ check_answer_write a out.old }
+    ensures bytes { out.new ≡ written result (answer_bytes a) out.old }
 {
     if let Check::Refuse(r) = check_answer(a) {
         return Check::Refuse(r);
@@ -108,7 +108,7 @@ pub fn write_answer(a: AnswerRecord, out: &mut [u8]) -> Check
 }
 
 fn refused_answer(r: Refusal) -> AnswerRead
-    ensures { result ≡ record { check = Refuse r; answer = zeroAnswer } }
+    ensures { result ≡ record { check = Refuse r; answer = zero_answer } }
 {
     AnswerRead {
         check: Check::Refuse(r),
@@ -127,7 +127,7 @@ fn refused_answer(r: Refusal) -> AnswerRead
 
 // The answer of 40 bytes.
 pub fn read_answer(bytes: &[u8]) -> AnswerRead
-    ensures { result ≡ readAnswer bytes.now }
+    ensures { result ≡ read_answer bytes.now }
 {
     if bytes.len() != 40 {
         return refused_answer(Refusal::Answer);

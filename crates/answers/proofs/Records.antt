@@ -12,147 +12,147 @@ use lib.ListN.{length}
 use mir.Syntax.{w16}
 use mir.Val.{SFits}
 use Rattle.integers.specs.Lists.{All, none, also}
-use Rattle.integers.proofs.Parts.{abs-fits}
-use Rattle.integers.proofs.Signed.{fits-between}
+use Rattle.integers.proofs.Parts.{abs_fits}
+use Rattle.integers.proofs.Signed.{fits_between}
 use Rattle.integers.proofs.Tests.{is_true}
 use Rattle.codes.specs.declared.Check.TheVariants.{Pass, Refuse}
 use Rattle.codes.specs.declared.Refusal.{Refusal}
 use Rattle.codes.specs.Codes.{within}
-use Rattle.codes.proofs.Checks.{first-passed, others-passed}
+use Rattle.codes.proofs.Checks.{first_passed, others_passed}
 use Rattle.boxes.specs.declared.Box.{Box}
 use Rattle.boxes.specs.Boxes.{Between, empty, side, InBox}
-use Rattle.boxes.specs.Shape.{checkShape, unusedZero}
-use Rattle.boxes.proofs.Checks.{in-unused}
-use Rattle.boxes.proofs.Volume.{between-length}
-use Rattle.scale.specs.Scale.{checkScale}
+use Rattle.boxes.specs.Shape.{check_shape, unused_zero}
+use Rattle.boxes.proofs.Checks.{in_unused}
+use Rattle.boxes.proofs.Volume.{between_length}
+use Rattle.scale.specs.Scale.{check_scale}
 use Rattle.fields.specs.Fields.{IsVector}
 use Rattle.jobs.specs.declared.Job.{Job}
 use Rattle.residuals.specs.Laws.{Small}
-use Rattle.model_checks.specs.Checks.{checkModel}
-use Rattle.costs.proofs.Passed.{cost-limit}
-use Rattle.list_rows.specs.Rows.{rowCount}
+use Rattle.model_checks.specs.Checks.{check_model}
+use Rattle.costs.proofs.Passed.{cost_limit}
+use Rattle.list_rows.specs.Rows.{row_count}
 use Rattle.certificate.specs.Search as Search
 use Rattle.certificate.specs.Search.{solved, spent, full}
 use Rattle.certificate.proofs.Certified.{finished}
-use Rattle.search_checks.proofs.Passed.{Runs, runs-accepted}
+use Rattle.search_checks.proofs.Passed.{Runs, runs_accepted}
 use Rattle.search.specs.declared.Answer.{Answer}
-use Rattle.search.specs.Search.{kind_of, kindNumber, told, searched, CertifiedIn, checkLent, searchedLent, searchAnswer}
+use Rattle.search.specs.Search.{kind_of, kind_number, told, searched, CertifiedIn, check_lent, searched_lent, search_answer}
 use Rattle.search.proofs.Accepted.{certificate}
 use Rattle.job_records.specs.Laws.{IsJob}
-use Rattle.answer_records.specs.Answers.{checkAnswer}
+use Rattle.answer_records.specs.Answers.{check_answer}
 use Rattle.answer_records.specs.Laws.{IsAnswer}
 use Rattle.answer_records.specs.declared.AnswerRecord.{AnswerRecord}
-use Rattle.answer_records.proofs.Answers.{answer-round-trip}
-use Rattle.answers.specs.Records.{recordOf}
-use Rattle.answers.specs.Laws.{searchRecord, RecordFits}
+use Rattle.answer_records.proofs.Answers.{answer_round_trip}
+use Rattle.answers.specs.Records.{record_of}
+use Rattle.answers.specs.Laws.{search_record, RecordFits}
 
 -- solved, spent and full have numbers from 1 to 3
-kind-in-range : (k : Search.Kind) → within 1 (kindNumber (kind_of k)) 3 ≡ true
-kind-in-range solved = refl
-kind-in-range spent = refl
-kind-in-range full = refl
+kind_in_range : (k : Search.Kind) → within 1 (kind_number (kind_of k)) 3 ≡ true
+kind_in_range solved = refl
+kind_in_range spent = refl
+kind_in_range full = refl
 
 -- a vector of a box of vectors
-signed-between : {v ls hs : List ℤ} → Between v ls hs → All (λ w. SFits w16 w) ls → All (λ w. SFits w16 w) hs → All (λ w. SFits w16 w) v
-signed-between empty none none = none
-signed-between (side {x} {l} {h} p q b) (also f fs) (also g gs) = also (fits-between w16 l x h p q f g) (signed-between b fs gs)
+signed_between : {v ls hs : List ℤ} → Between v ls hs → All (λ w. SFits w16 w) ls → All (λ w. SFits w16 w) hs → All (λ w. SFits w16 w) v
+signed_between empty none none = none
+signed_between (side {x} {l} {h} p q b) (also f fs) (also g gs) = also (fits_between w16 l x h p q f g) (signed_between b fs gs)
 
-vector-between : {v : List ℤ} {b : Box} → InBox v b → IsVector b.low → IsVector b.high → IsVector v
-vector-between i low high = record {
-  eight = (between-length i.between).0 ∙ low.eight;
-  signed = signed-between i.between low.signed high.signed;
+vector_between : {v : List ℤ} {b : Box} → InBox v b → IsVector b.low → IsVector b.high → IsVector v
+vector_between i low high = record {
+  eight = (between_length i.between).0 ∙ low.eight;
+  signed = signed_between i.between low.signed high.signed;
 }
 
 -- its coordinates have 16 bits
-each-small : {v : List ℤ} → All (λ w. SFits w16 w) v → Small v
-each-small none k = omega arith
-each-small (also f fs) zero = abs-fits w16 f
-each-small (also f fs) (suc k) = each-small fs k
+each_small : {v : List ℤ} → All (λ w. SFits w16 w) v → Small v
+each_small none k = omega arith
+each_small (also f fs) zero = abs_fits w16 f
+each_small (also f fs) (suc k) = each_small fs k
 
-vector-small : {v : List ℤ} → IsVector v → Small v
-vector-small is = each-small is.signed
+vector_small : {v : List ℤ} → IsVector v → Small v
+vector_small is = each_small is.signed
 
 module _ (store : List ℕ) (job : Job) (table : List ℤ) (bounds : List ℕ) where
   -- a refused answer's kind has the number 0
-  refused-by-9 :
+  refused_by_9 :
       (why : Refusal) →
-      checkLent store job table bounds ≡ Refuse why →
-      checkAnswer (searchRecord store job table bounds) ≡ Refuse Refusal.Answer
-  unfolding searchAnswer recordOf checkAnswer
-  refused-by-9 why e = rw e
+      check_lent store job table bounds ≡ Refuse why →
+      check_answer (search_record store job table bounds) ≡ Refuse Refusal.Answer
+  unfolding search_answer record_of check_answer
+  refused_by_9 why e = rw e
 
-  module _ (ok : checkLent store job table bounds ≡ Pass) where
+  module _ (ok : check_lent store job table bounds ≡ Pass) where
     abbrev found : Search.Answer
-    found = searchedLent store job table bounds
+    found = searched_lent store job table bounds
 
-    tells : searchRecord store job table bounds ≡ recordOf job.model (told found)
-    unfolding searchAnswer
+    tells : search_record store job table bounds ≡ record_of job.model (told found)
+    unfolding search_answer
     tells = rw ok
 
     runs : Runs store job
-    runs = runs-accepted store job (length table) (length bounds) ok
+    runs = runs_accepted store job (length table) (length bounds) ok
 
-    shape-checked : checkShape job.model.n job.model.d ≡ Pass
-    unfolding checkModel
-    shape-checked = first-passed _ _ (others-passed _ _ runs.checked)
+    shape_checked : check_shape job.model.n job.model.d ≡ Pass
+    unfolding check_model
+    shape_checked = first_passed _ _ (others_passed _ _ runs.checked)
 
-    scale-checked : checkScale job.model.scale ≡ Pass
-    unfolding checkModel
-    scale-checked = first-passed _ _ (others-passed _ _ (others-passed _ _ runs.checked))
+    scale_checked : check_scale job.model.scale ≡ Pass
+    unfolding check_model
+    scale_checked = first_passed _ _ (others_passed _ _ (others_passed _ _ runs.checked))
 
-    demand : CertifiedIn store job (rowCount table)
+    demand : CertifiedIn store job (row_count table)
     demand = certificate store job table bounds ok
 
-    within-budget : found.count ≤ job.budget
+    within_budget : found.count ≤ job.budget
     unfolding searched
-    within-budget = (finished _ _ _ _ _ _ _).within
+    within_budget = (finished _ _ _ _ _ _ _).within
 
     -- the record, and what check 9 asks of it
     abbrev written : AnswerRecord
-    written = recordOf job.model (told found)
+    written = record_of job.model (told found)
 
     ordered : written.bound ≤ written.cost
-    unfolding recordOf
+    unfolding record_of
     ordered = demand.ordered
 
-    unused-zero : T (unusedZero written.n written.d written.vector)
-    unfolding recordOf
-    unused-zero = in-unused job.model.n job.model.d job.domain found.vector runs.boxed demand.inside
+    unused_zero_lem : T (unused_zero written.n written.d written.vector)
+    unfolding record_of
+    unused_zero_lem = in_unused job.model.n job.model.d job.domain found.vector runs.boxed demand.inside
 
     module _ (is : IsJob job) where
-      vector-is : IsVector found.vector
-      vector-is = vector-between demand.inside is.low is.high
+      vector_is : IsVector found.vector
+      vector_is = vector_between demand.inside is.low is.high
 
-      cost-in-range : written.cost ≤ 1152921367167897600
-      unfolding recordOf
-      cost-in-range =
-          omega (arith, demand.exact, (cost-limit store job.model).most runs.checked found.vector (vector-small vector-is))
+      cost_in_range : written.cost ≤ 1152921367167897600
+      unfolding record_of
+      cost_in_range =
+          omega (arith, demand.exact, (cost_limit store job.model).most runs.checked found.vector (vector_small vector_is))
 
-      passes-9 : checkAnswer written ≡ Pass
-      unfolding recordOf checkAnswer
-      passes-9 =
+      passes_9 : check_answer written ≡ Pass
+      unfolding record_of check_answer
+      passes_9 =
           rw (
-            kind-in-range found.kind,
-            shape-checked,
-            scale-checked,
-            is_true (unusedZero written.n written.d written.vector) unused-zero,
+            kind_in_range found.kind,
+            shape_checked,
+            scale_checked,
+            is_true (unused_zero written.n written.d written.vector) unused_zero_lem,
             le-leb written.bound written.cost ordered,
-            le-leb written.cost 1152921367167897600 cost-in-range,
+            le-leb written.cost 1152921367167897600 cost_in_range,
           )
 
       fits : IsAnswer written
-      unfolding recordOf
+      unfolding record_of
       fits = record {
-        vector = vector-is;
-        cost = record { fits = omega (arith, cost-in-range) };
-        bound = record { fits = omega (arith, cost-in-range, ordered) };
-        count = record { fits = omega (arith, within-budget, is.budget.fits) };
+        vector = vector_is;
+        cost = record { fits = omega (arith, cost_in_range) };
+        bound = record { fits = omega (arith, cost_in_range, ordered) };
+        count = record { fits = omega (arith, within_budget, is.budget.fits) };
       }
 
-  pub record-fits : RecordFits store job table bounds
-  record-fits = record {
-    accepted = λ ok is. rw (tells ok) (passes-9 ok is);
-    refused = refused-by-9;
+  pub record_fits : RecordFits store job table bounds
+  record_fits = record {
+    accepted = λ ok is. rw (tells ok) (passes_9 ok is);
+    refused = refused_by_9;
     numbers = λ ok is. rw (tells ok) (fits ok is);
-    reads = λ ok is. rw (tells ok) (answer-round-trip.written-reads (written ok) (fits ok is) (passes-9 ok is));
+    reads = λ ok is. rw (tells ok) (answer_round_trip.written_reads (written ok) (fits ok is) (passes_9 ok is));
   }

@@ -3,26 +3,26 @@ use Rattle.std.specs.Prelude.{List, ◌≡◌, ℕ, ℤ}
 use Rattle.codes.specs.declared.Check.TheVariants.{Pass, Refuse}
 use Rattle.codes.specs.declared.Refusal.{Refusal}
 use Rattle.jobs.specs.declared.Job.{Job}
-use Rattle.search.specs.Search.{checkLent, searchAnswer}
+use Rattle.search.specs.Search.{check_lent, search_answer}
 use Rattle.job_records.specs.Laws.{IsJob}
-use Rattle.answer_records.specs.Answers.{answerBytes, checkAnswer, readAnswer}
+use Rattle.answer_records.specs.Answers.{answer_bytes, check_answer, read_answer}
 use Rattle.answer_records.specs.Laws.{IsAnswer}
 use Rattle.answer_records.specs.declared.AnswerRecord.{AnswerRecord}
-use Rattle.answers.specs.Records.{recordOf}
+use Rattle.answers.specs.Records.{record_of}
 
 -- A search that is lent a table and a list of bounds.
 module _ (store : List ℕ) (job : Job) (table : List ℤ) (bounds : List ℕ) where
   -- the record of what it answers
-  abbrev pub searchRecord : AnswerRecord
-  searchRecord = recordOf job.model (searchAnswer store job table bounds)
+  abbrev pub search_record : AnswerRecord
+  search_record = record_of job.model (search_answer store job table bounds)
 
   -- Check 9 passes exactly where the search accepts a job whose numbers fit their bytes: no accepted answer is one that cannot be written.
   pub record RecordFits : Type 0 where
-    pub accepted : checkLent store job table bounds ≡ Pass → IsJob job → checkAnswer searchRecord ≡ Pass
-    pub refused : (why : Refusal) → checkLent store job table bounds ≡ Refuse why → checkAnswer searchRecord ≡ Refuse Refusal.Answer
+    pub accepted : check_lent store job table bounds ≡ Pass → IsJob job → check_answer search_record ≡ Pass
+    pub refused : (why : Refusal) → check_lent store job table bounds ≡ Refuse why → check_answer search_record ≡ Refuse Refusal.Answer
     -- the numbers of an accepted answer fit their bytes, so that its record reads as itself
-    pub numbers : checkLent store job table bounds ≡ Pass → IsJob job → IsAnswer searchRecord
+    pub numbers : check_lent store job table bounds ≡ Pass → IsJob job → IsAnswer search_record
     pub reads :
-        checkLent store job table bounds ≡ Pass →
+        check_lent store job table bounds ≡ Pass →
         IsJob job →
-        readAnswer (answerBytes searchRecord) ≡ record { check = Pass; answer = searchRecord }
+        read_answer (answer_bytes search_record) ≡ record { check = Pass; answer = search_record }

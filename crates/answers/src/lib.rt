@@ -1,14 +1,14 @@
 // The record of a search's answer.
 ghost use Rattle.std.specs.Prelude.{◌≡◌};
-ghost use Rattle.search.specs.Search.{kindNumber};
-ghost use Rattle.answers.specs.Records.{recordOf};
+ghost use Rattle.search.specs.Search.{kind_number};
+ghost use Rattle.answers.specs.Records.{record_of};
 
 use answer_records::AnswerRecord;
 use jobs::Model;
 use search::{Answer, Kind};
 
 fn kind_number(kind: Kind) -> u8
-    ensures { result ≡ kindNumber kind }
+    ensures { result ≡ kind_number kind }
 {
     match kind {
         Kind::Solved => 1,
@@ -20,7 +20,7 @@ fn kind_number(kind: Kind) -> u8
 
 // The record of an answer to a job with this model; check 9 refuses that of a refusal.
 pub fn record_of(model: Model, answer: Answer) -> AnswerRecord
-    ensures { result ≡ recordOf model answer }
+    ensures { result ≡ record_of model answer }
 {
     let vector = answer.vector;
     let kind = answer.kind;

@@ -8,18 +8,18 @@ use Rattle.integers.proofs.Tests.{and_parts}
 use Rattle.codes.specs.declared.Check.{Check}
 use Rattle.codes.specs.declared.Check.TheVariants.{Pass}
 use Rattle.codes.specs.declared.Refusal.TheVariants.{Short}
-use Rattle.codes.proofs.Checks.{passed, first-passed, others-passed}
-use Rattle.points.specs.Points.{checkStore}
-use Rattle.beacon.specs.Beacon.{checkMark, checkSpace, checkBody, checkTakeIn}
+use Rattle.codes.proofs.Checks.{passed, first_passed, others_passed}
+use Rattle.points.specs.Points.{check_store}
+use Rattle.beacon.specs.Beacon.{check_mark, check_space, check_body, check_take_in}
 
 -- the new mark is within the store, and within 49,152 bytes
-pub new-mark : (room mark size : ℕ) → checkTakeIn room mark size ≡ Pass → (mark + size ≤ room) × (mark + size ≤ 49152)
-unfolding checkTakeIn checkSpace
-new-mark room mark size e =
-    let space : List Check = checkSpace room mark size ∷ checkBody size ∷ [] in
+pub new_mark : (room mark size : ℕ) → check_take_in room mark size ≡ Pass → (mark + size ≤ room) × (mark + size ≤ 49152)
+unfolding check_take_in check_space
+new_mark room mark size e =
+    let space : List Check = check_space room mark size ∷ check_body size ∷ [] in
     let both =
     and_parts (leb (mark + size) room) (leb (mark + size) 49152)
     (passed (leb (mark + size) room && leb (mark + size) 49152) Short
-    (first-passed (checkSpace room mark size) (checkBody size ∷ [])
-    (others-passed (checkMark room mark) space (others-passed (checkStore size) (checkMark room mark ∷ space) e)))) in
+    (first_passed (check_space room mark size) (check_body size ∷ [])
+    (others_passed (check_mark room mark) space (others_passed (check_store size) (check_mark room mark ∷ space) e)))) in
     (leb→le _ _ both.0, leb→le _ _ both.1)

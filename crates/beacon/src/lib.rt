@@ -1,13 +1,13 @@
 // Taking in a beacon: its point records are copied behind the filled part of a lent store.
 ghost use Rattle.std.specs.Prelude.{◌≡◌, ◌+◌, ◌≤◌, length};
-ghost use Rattle.beacon.specs.Beacon.{checkTakeIn, takeInAnswer, storeAfter, behind};
+ghost use Rattle.beacon.specs.Beacon.{check_take_in, take_in_answer, store_after, behind};
 
 use codes::{Check, Outcome, Refusal};
 
 // Checks 1, 10 and 11, of how many bytes the store has, the fill mark and how many the beacon has. Differences stand for the sum of mark
 // and size, which could wrap.
 fn check_take_in(room: usize, mark: usize, size: usize) -> Check
-    ensures { result ≡ checkTakeIn room mark size }
+    ensures { result ≡ check_take_in room mark size }
 {
     if let Check::Refuse(r) = points::check_store(size) {
         return Check::Refuse(r);
@@ -44,8 +44,8 @@ fn copy_behind(store: &mut [u8], mark: usize, beacon: &[u8])
 
 // The beacon behind the filled part of the store, from the fill mark on, and the new mark. The store's rest is kept.
 pub fn take_in(store: &mut [u8], mark: usize, beacon: &[u8]) -> Outcome
-    ensures outcome { result ≡ takeInAnswer (length store.old) mark (length beacon.now) }
-    ensures stored { store.new ≡ storeAfter store.old mark beacon.now }
+    ensures outcome { result ≡ take_in_answer (length store.old) mark (length beacon.now) }
+    ensures stored { store.new ≡ store_after store.old mark beacon.now }
 {
     match check_take_in(store.len(), mark, beacon.len()) {
         Check::Pass => {

@@ -4,13 +4,13 @@ use Rattle.integers.specs.Lists.{over}
 use Rattle.codes.specs.declared.Check.{Check}
 use Rattle.codes.specs.declared.Outcome.{Outcome}
 use Rattle.codes.specs.declared.Refusal.TheVariants.{Short}
-use Rattle.codes.specs.Codes.{passIf, inOrder, unlessRefused, ifPassed}
+use Rattle.codes.specs.Codes.{pass_if, in_order, unless_refused, if_passed}
 use Rattle.jobs.specs.declared.Model.{Model}
 use Rattle.points.specs.declared.Point.{Point}
 use Rattle.points.specs.Points.{points_of}
 use Rattle.residuals.specs.Cost.{cost}
 use Rattle.integers.specs.Sums.{sum_of}
-use Rattle.model_checks.specs.Checks.{checkThreshold}
+use Rattle.model_checks.specs.Checks.{check_threshold}
 
 -- "groups of 19 records, as a full beacon holds": records 19 g to 19 g + 18
 unfoldable pub group : List Point → ℕ → List Point
@@ -21,27 +21,27 @@ unfoldable pub groups : List Point → ℕ
 groups qs = (length qs + 18) / 19
 
 -- "Add up the cost by groups": the partial sum of group g
-unfoldable pub groupCost : Model → List Point → List ℤ → ℕ → ℕ
-groupCost m qs v g = cost m (group qs g) v
+unfoldable pub group_cost : Model → List Point → List ℤ → ℕ → ℕ
+group_cost m qs v g = cost m (group qs g) v
 
 -- those of the first n groups, in order
-unfoldable pub partialSums : Model → List Point → List ℤ → ℕ → List ℕ
-partialSums m qs v zero = []
-partialSums m qs v (suc n) = partialSums m qs v n ++ (groupCost m qs v n ∷ [])
+unfoldable pub partial_sums : Model → List Point → List ℤ → ℕ → List ℕ
+partial_sums m qs v zero = []
+partial_sums m qs v (suc n) = partial_sums m qs v n ++ (group_cost m qs v n ∷ [])
 
 -- "and then the groups"
 unfoldable pub total : Model → List Point → List ℤ → ℕ
-total m qs v = sum_of (groupCost m qs v) (groups qs)
+total m qs v = sum_of (group_cost m qs v) (groups qs)
 
 -- Checks 1 to 4, 6 and 7, and then 10: "p = 3 gets 4, a list too small 10". The list has so many entries.
-unfoldable pub checkByBeacon : List ℕ → Model → List ℤ → ℕ → Check
-checkByBeacon store m v entries = inOrder (checkThreshold store m v ∷ passIf (leb (groups (points_of store)) entries) Short ∷ [])
+unfoldable pub check_by_beacon : List ℕ → Model → List ℤ → ℕ → Check
+check_by_beacon store m v entries = in_order (check_threshold store m v ∷ pass_if (leb (groups (points_of store)) entries) Short ∷ [])
 
 -- The answer is the total.
-unfoldable pub costByBeacon : List ℕ → Model → List ℤ → List ℕ → Outcome
-costByBeacon store m v sums = unlessRefused (checkByBeacon store m v (length sums)) (total m (points_of store) v)
+unfoldable pub cost_by_beacon : List ℕ → Model → List ℤ → List ℕ → Outcome
+cost_by_beacon store m v sums = unless_refused (check_by_beacon store m v (length sums)) (total m (points_of store) v)
 
 -- "partial sums in a lent list, whose further entries are kept": the list afterwards, at a refusal as it was
-unfoldable pub sumsAfter : List ℕ → Model → List ℤ → List ℕ → List ℕ
-sumsAfter store m v sums =
-    ifPassed (checkByBeacon store m v (length sums)) (over (partialSums m (points_of store) v (groups (points_of store))) sums) sums
+unfoldable pub sums_after : List ℕ → Model → List ℤ → List ℕ → List ℕ
+sums_after store m v sums =
+    if_passed (check_by_beacon store m v (length sums)) (over (partial_sums m (points_of store) v (groups (points_of store))) sums) sums

@@ -1,11 +1,11 @@
 // "Cost shown beacon by beacon": the cost of a vector by groups of 19 records, as a full beacon holds, and then of all groups.
 ghost use Rattle.std.specs.Prelude.{◌≡◌, ◌+◌, ◌/◌, ◌%◌, ◌^◌, ◌≤◌, ◌<◌, leb, length};
 ghost use Rattle.codes.specs.declared.Refusal.TheVariants.{Short};
-ghost use Rattle.codes.specs.Codes.{passIf};
+ghost use Rattle.codes.specs.Codes.{pass_if};
 ghost use Rattle.integers.specs.Lists.{over};
 ghost use Rattle.points.specs.Points.{points_of};
 ghost use Rattle.residuals.specs.Inside.{Ready};
-ghost use Rattle.beacon_costs.specs.BeaconCosts.{groups, partialSums, total, checkByBeacon, costByBeacon, sumsAfter};
+ghost use Rattle.beacon_costs.specs.BeaconCosts.{groups, partial_sums, total, check_by_beacon, cost_by_beacon, sums_after};
 ghost use Rattle.beacon_costs.specs.Inside.{ChunkSums};
 
 use codes::{Check, Outcome, Refusal, in_order};
@@ -46,7 +46,7 @@ fn write_sums(store: &[u8], m: Model, v: [i16; 8], sums: &mut [u64]) -> u64
     requires { Ready (length store.now) m × (groups (points_of store.now) ≤ length sums.old) × (m.p ≤ 2) }
     ensures total { result ≡ total m (points_of store.now) v }
     ensures sums { sums.new
-        ≡ over (partialSums m (points_of store.now) v (groups (points_of store.now))) sums.old }
+        ≡ over (partial_sums m (points_of store.now) v (groups (points_of store.now))) sums.old }
 {
     let power = scale::power(m.scale);
     let w = eval_kernel::coordinates(v);
@@ -69,7 +69,7 @@ fn write_sums(store: &[u8], m: Model, v: [i16; 8], sums: &mut [u64]) -> u64
 
 // Check 10: an entry for each group.
 fn check_room(bytes: usize, entries: usize) -> Check
-    ensures { result ≡ passIf (leb ((bytes / 12 + 18) / 19) entries) Short }
+    ensures { result ≡ pass_if (leb ((bytes / 12 + 18) / 19) entries) Short }
 {
     if group_count(bytes) <= entries {
         Check::Pass
@@ -80,7 +80,7 @@ fn check_room(bytes: usize, entries: usize) -> Check
 
 // The checks of a call with a threshold, and then check 10.
 fn check_by_beacon(store: &[u8], m: Model, v: [i16; 8], entries: usize) -> Check
-    ensures { result ≡ checkByBeacon store.now m v entries }
+    ensures { result ≡ check_by_beacon store.now m v entries }
 {
     in_order(
         model_checks::check_threshold(store, m, v),
@@ -90,8 +90,8 @@ fn check_by_beacon(store: &[u8], m: Model, v: [i16; 8], entries: usize) -> Check
 
 // The cost of each group into the front of a lent list; the answer is the total. Nothing is written before all checks have passed.
 pub fn cost_by_beacon(store: &[u8], m: Model, v: [i16; 8], sums: &mut [u64]) -> Outcome
-    ensures answer { result ≡ costByBeacon store.now m v sums.old }
-    ensures sums { sums.new ≡ sumsAfter store.now m v sums.old }
+    ensures answer { result ≡ cost_by_beacon store.now m v sums.old }
+    ensures sums { sums.new ≡ sums_after store.now m v sums.old }
 {
     match check_by_beacon(store, m, v, sums.len()) {
         Check::Pass => Outcome::Value(write_sums(store, m, v, sums)),

@@ -13,15 +13,15 @@ use Rattle.certificate.specs.Search.{Answer, search}
 use Rattle.search.specs.Search.{searched}
 
 -- the bound of a box by the groups of the cost, and then the groups
-unfoldable pub totalBound : Model → List Point → Box → ℕ
-totalBound m qs B = sum_of (λ g. bound m (group qs g) B) (groups qs)
+unfoldable pub total_bound : Model → List Point → Box → ℕ
+total_bound m qs B = sum_of (λ g. bound m (group qs g) B) (groups qs)
 
 -- the search that a job asks for, in so many rows, over costs and bounds by groups
-unfoldable pub searchedByBeacon : List ℕ → Job → ℕ → Answer
-searchedByBeacon store job rows =
-    search (total job.model (points_of store)) (totalBound job.model (points_of store)) job.budget rows job.t job.start
+unfoldable pub searched_by_beacon : List ℕ → Job → ℕ → Answer
+searched_by_beacon store job rows =
+    search (total job.model (points_of store)) (total_bound job.model (points_of store)) job.budget rows job.t job.start
     job.domain
 
 -- "the same answers", of every store, job and number of rows
 abbrev pub SameByBeacon : Type 0
-SameByBeacon = (store : List ℕ) (job : Job) (rows : ℕ) → job.model.p ≤ 2 → searchedByBeacon store job rows ≡ searched store job rows
+SameByBeacon = (store : List ℕ) (job : Job) (rows : ℕ) → job.model.p ≤ 2 → searched_by_beacon store job rows ≡ searched store job rows

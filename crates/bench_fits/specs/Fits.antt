@@ -3,50 +3,50 @@ use Rattle.std.specs.Prelude.{List, [], ◌∷◌, ◌++◌, ◌≡◌, ℕ, ◌
 use Prim.Native.String.{String}
 use Rattle.codes.specs.declared.Check.TheVariants.{Pass}
 use Rattle.boxes.specs.declared.Box.{Box}
-use Rattle.boxes.specs.Split.{splitAnswer}
+use Rattle.boxes.specs.Split.{split_answer}
 use Rattle.jobs.specs.declared.Job.{Job}
 use Rattle.jobs.specs.declared.Model.{Model}
-use Rattle.loss.specs.Loss.{lossOf}
+use Rattle.loss.specs.Loss.{loss_of}
 use Rattle.points.specs.declared.Point.{Point}
-use Rattle.residuals.specs.Cost.{residual, leastSize}
+use Rattle.residuals.specs.Cost.{residual, least_size}
 use Rattle.labels.specs.Labels.{label}
-use Rattle.coefficients.specs.Coefficient.{patternOf}
-use Rattle.fields.specs.Fields.{vectorBytes}
-use Rattle.job_records.specs.Jobs.{jobBytes}
+use Rattle.coefficients.specs.Coefficient.{pattern_of}
+use Rattle.fields.specs.Fields.{vector_bytes}
+use Rattle.job_records.specs.Jobs.{job_bytes}
 use Rattle.decimal.specs.Text.{ascii, byte}
-use Rattle.fit_line.specs.Report.{fitLine}
+use Rattle.fit_line.specs.Report.{fit_line}
 
 -- What the paper says in a bench fit: a thing worked out, and behind it the value that it has.
 pub data Fit : Type 0 where
   -- the residual of the first line
-  residual-is : Model → List ℤ → Point → ℤ → Fit
+  residual_is : Model → List ℤ → Point → ℤ → Fit
   -- the loss, by p, ε and e
-  loss-is : ℕ → ℕ → ℤ → ℕ → Fit
+  loss_is : ℕ → ℕ → ℤ → ℕ → Fit
   -- the label of a point
   label_is : Model → List ℤ → Point → ℕ → Fit
   -- the least size of the first line's residual over a box
-  least-size-is : Model → Box → Point → ℕ → Fit
+  least_size_is : Model → Box → Point → ℕ → Fit
   -- a box of the shape n × d, and its halves
-  splits-into : ℕ → ℕ → Box → Box → Box → Fit
+  splits_into : ℕ → ℕ → Box → Box → Box → Fit
   -- the line that fit writes of a job and of the points with x = 1 and these y
-  fit-writes : Job → List ℤ → String → Fit
+  fit_writes : Job → List ℤ → String → Fit
   -- the single-precision pattern of w, by S
-  pattern-is : ℕ → ℤ → ℕ → Fit
+  pattern_is : ℕ → ℤ → ℕ → Fit
 
 -- a store of points with x = 1 and these y; the frame numbers are 0
 abbrev pub store : List ℤ → List ℕ
 store [] = []
-store (y ∷ ys) = vectorBytes (pos 1 ∷ pos 0 ∷ pos 0 ∷ pos 0 ∷ y ∷ pos 0 ∷ []) ++ store ys
+store (y ∷ ys) = vector_bytes (pos 1 ∷ pos 0 ∷ pos 0 ∷ pos 0 ∷ y ∷ pos 0 ∷ []) ++ store ys
 
 -- that the definition gives the value of the fit
 abbrev pub Holds : Fit → Type 0
-Holds (residual-is m v q e) = residual m v q 0 ≡ e
-Holds (loss-is p ε e value) = lossOf p ε (nat_abs e) ≡ value
+Holds (residual_is m v q e) = residual m v q 0 ≡ e
+Holds (loss_is p ε e value) = loss_of p ε (nat_abs e) ≡ value
 Holds (label_is m v q value) = label m v q ≡ value
-Holds (least-size-is m B q value) = leastSize m B q 0 ≡ value
-Holds (splits-into n d B first second) = splitAnswer n d B ≡ record { check = Pass; left = first; right = second }
-Holds (fit-writes job ys line) = fitLine (jobBytes job ++ store ys) ≡ ascii line ++ byte 10
-Holds (pattern-is S w bits) = patternOf S w ≡ bits
+Holds (least_size_is m B q value) = least_size m B q 0 ≡ value
+Holds (splits_into n d B first second) = split_answer n d B ≡ record { check = Pass; left = first; right = second }
+Holds (fit_writes job ys line) = fit_line (job_bytes job ++ store ys) ≡ ascii line ++ byte 10
+Holds (pattern_is S w bits) = pattern_of S w ≡ bits
 
 -- a vector with these coordinates and 0 after them
 abbrev pub vector : List ℤ → List ℤ

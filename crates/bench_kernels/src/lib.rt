@@ -1,9 +1,9 @@
 // A cost and a bound over a store that was decoded once, for bench/.
 ghost use Rattle.std.specs.Prelude.{◌≡◌, ◌^◌, ◌%◌};
 ghost use Rattle.eval_columns.specs.Columns.{DecodedInto};
-ghost use Rattle.costs.specs.Calls.{costIn, boundIn};
+ghost use Rattle.costs.specs.Calls.{cost_in, bound_in};
 ghost use Rattle.list_rows.specs.Rows.{row_at};
-ghost use Rattle.c_boundary.specs.Boundary.{modelOf};
+ghost use Rattle.c_boundary.specs.Boundary.{model_of};
 
 use eval_lanes::Chunk;
 
@@ -29,7 +29,7 @@ pub extern "C" fn bench_cost_in(
     cap: u64,
 ) -> u64
     ensures { result
-        ≡ costIn store.now lanes.now (modelOf n d scale p eps) (row_at corners.now 0).low cap }
+        ≡ cost_in store.now lanes.now (model_of n d scale p eps) (row_at corners.now 0).low cap }
 {
     let m = c_boundary::model_of(n, d, scale, p, eps);
     let b = list_rows::read_row(corners, 0);
@@ -51,7 +51,7 @@ pub extern "C" fn bench_bound_in(
     cap: u64,
 ) -> u64
     ensures { result
-        ≡ boundIn store.now lanes.now (modelOf n d scale p eps) (row_at corners.now 0) cap }
+        ≡ bound_in store.now lanes.now (model_of n d scale p eps) (row_at corners.now 0) cap }
 {
     let m = c_boundary::model_of(n, d, scale, p, eps);
     costs::bound_in(store, lanes, m, list_rows::read_row(corners, 0), cap)

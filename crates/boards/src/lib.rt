@@ -2,7 +2,7 @@
 ghost use Rattle.std.specs.Prelude.{◌≡◌, length};
 ghost use Rattle.codes.specs.declared.Check.TheVariants.{Pass};
 ghost use Rattle.sharing.specs.Sharing.{SharedTable, SharedBounds};
-ghost use Rattle.boards.specs.Boards.{checkJobs, boardsAnswer, searchesRun, BoardsShared, BoardsCertified};
+ghost use Rattle.boards.specs.Boards.{check_jobs, boards_answer, searches_run, BoardsShared, BoardsCertified};
 ghost use Rattle.boards.specs.Inside.{Answered};
 
 use codes::{Check, Refusal};
@@ -18,7 +18,7 @@ pub struct BoardAnswers {
 
 // Check 18, of so many jobs in so many bytes, with so many lengths.
 fn check_jobs(count: u8, bytes: usize, entries: usize) -> Check
-    ensures { result ≡ checkJobs count bytes entries }
+    ensures { result ≡ check_jobs count bytes entries }
 {
     let jobs = count as usize;
     if 1 <= jobs && jobs <= 8 && 72 * jobs <= bytes && jobs <= entries {
@@ -38,7 +38,7 @@ fn each_board(
     table: &mut [i16],
     bounds: &mut [u64],
 ) -> BoardAnswers
-    requires { checkJobs count (length jobs.now) (length lengths.now) ≡ Pass }
+    requires { check_jobs count (length jobs.now) (length lengths.now) ≡ Pass }
     ensures { (result.check ≡ Pass)
         × Answered count total jobs.now stores.now lengths.now table.old bounds.old
         count result.answers result.budgets table.new bounds.new }
@@ -78,11 +78,11 @@ pub fn boards(
     bounds: &mut [u64],
 ) -> BoardAnswers
     ensures answer { result
-        ≡ boardsAnswer count total jobs.now stores.now lengths.now table.old
+        ≡ boards_answer count total jobs.now stores.now lengths.now table.old
         bounds.old }
-    ensures table { SharedTable (searchesRun count total jobs.now stores.now lengths.now table.old
+    ensures table { SharedTable (searches_run count total jobs.now stores.now lengths.now table.old
         bounds.old) table.old table.new }
-    ensures bounds { SharedBounds (searchesRun count total jobs.now stores.now lengths.now table.old
+    ensures bounds { SharedBounds (searches_run count total jobs.now stores.now lengths.now table.old
         bounds.old) bounds.old bounds.new }
     ensures shares { BoardsShared count total jobs.now stores.now lengths.now table.old
         bounds.old result }

@@ -3,9 +3,9 @@ use Rattle.std.specs.Prelude.{Bool, true, false, ◌&&◌, cond, List, [], ◌�
 use Rattle.std.specs.Int.Signed.{le_z, lt_z}
 use Rattle.codes.specs.declared.Check.{Check}
 use Rattle.codes.specs.declared.Refusal.{Refusal}
-use Rattle.codes.specs.Codes.{passIf}
+use Rattle.codes.specs.Codes.{pass_if}
 use Rattle.boxes.specs.declared.Box.{Box}
-use Rattle.boxes.specs.Shape.{unusedZero}
+use Rattle.boxes.specs.Shape.{unused_zero}
 
 -- "low at most high in each coordinate"
 unfoldable pub at_most : List ℤ → List ℤ → Bool
@@ -31,19 +31,19 @@ before (v ∷ vs) [] = false
 before (v ∷ vs) (w ∷ ws) = cond (lt_z v w) true (cond (lt_z w v) false (before vs ws))
 
 -- how many whole numbers there are from l to h, ends included
-unfoldable pub sideSize : ℤ → ℤ → ℕ
-sideSize l h = cond (le_z l h) (suc (nat_abs (h -ℤ l))) 0
+unfoldable pub side_size : ℤ → ℤ → ℕ
+side_size l h = cond (le_z l h) (suc (nat_abs (h -ℤ l))) 0
 
 -- the sizes of the sides, coordinate by coordinate; vectors of different lengths have nothing between them
 unfoldable pub sides : List ℤ → List ℤ → List ℕ
 sides [] [] = []
 sides [] (h ∷ hs) = 0 ∷ []
 sides (l ∷ ls) [] = 0 ∷ []
-sides (l ∷ ls) (h ∷ hs) = sideSize l h ∷ sides ls hs
+sides (l ∷ ls) (h ∷ hs) = side_size l h ∷ sides ls hs
 
 -- the size of the side at coordinate k
-abbrev pub sideAt : Box → ℕ → ℕ
-sideAt b k = get_or (sides b.low b.high) k 0
+abbrev pub side_at : Box → ℕ → ℕ
+side_at b k = get_or (sides b.low b.high) k 0
 
 -- the product of all numbers of a list
 unfoldable pub product : List ℕ → ℕ
@@ -65,20 +65,20 @@ each [] vs = []
 each (x ∷ xs) vs = map (λ v. x ∷ v) vs ++ each xs vs
 
 -- the vectors from low to high, those with the lowest first coordinate first
-unfoldable pub gridBetween : List ℤ → List ℤ → List (List ℤ)
-gridBetween [] [] = [] ∷ []
-gridBetween [] (h ∷ hs) = []
-gridBetween (l ∷ ls) [] = []
-gridBetween (l ∷ ls) (h ∷ hs) = each (from l (sideSize l h)) (gridBetween ls hs)
+unfoldable pub grid_between : List ℤ → List ℤ → List (List ℤ)
+grid_between [] [] = [] ∷ []
+grid_between [] (h ∷ hs) = []
+grid_between (l ∷ ls) [] = []
+grid_between (l ∷ ls) (h ∷ hs) = each (from l (side_size l h)) (grid_between ls hs)
 
 -- "all vectors between them", one after the other
 abbrev pub grid : Box → List (List ℤ)
-grid b = gridBetween b.low b.high
+grid b = grid_between b.low b.high
 
 -- Check 5: "low over high, or an unused coordinate not 0".
-unfoldable pub checkBox : ℕ → ℕ → Box → Check
-checkBox n d b = passIf (at_most b.low b.high && unusedZero n d b.low && unusedZero n d b.high) Refusal.Box
+unfoldable pub check_box : ℕ → ℕ → Box → Check
+check_box n d b = pass_if (at_most b.low b.high && unused_zero n d b.low && unused_zero n d b.high) Refusal.Box
 
 -- Check 6 of a search: "start outside the box".
-unfoldable pub checkStart : Box → List ℤ → Check
-checkStart b v = passIf (at_most b.low v && at_most v b.high) Refusal.Start
+unfoldable pub check_start : Box → List ℤ → Check
+check_start b v = pass_if (at_most b.low v && at_most v b.high) Refusal.Start

@@ -4,8 +4,8 @@ use Rattle.std.specs.Prelude.{◌≡◌, true, ◌⊎◌, ℕ, ◌+◌, ◌≤�
 use mathlib.Core.List.{List, Memᴰ}
 use Rattle.integers.specs.Lists.{All, Distinct}
 use Rattle.boxes.specs.declared.Box.{Box}
-use Rattle.boxes.specs.Boxes.{InBox, at_most, before, sideAt, volume, grid}
-use Rattle.boxes.specs.Split.{longestSide, left_half, right_half}
+use Rattle.boxes.specs.Boxes.{InBox, at_most, before, side_at, volume, grid}
+use Rattle.boxes.specs.Split.{longest_side, left_half, right_half}
 
 -- "V is their number": `grid` lists the vectors of the box and no others, each once, and V is its length.
 pub record Counted (b : Box) : Type 0 where
@@ -23,20 +23,20 @@ pub record Ordered : Type 0 where
 
 -- "its longest side, the lowest coordinate among equals": no side is longer, and those before it are shorter.
 pub record Longest (b : Box) : Type 0 where
-  pub none-longer : (k : ℕ) → sideAt b k ≤ sideAt b (longestSide b)
-  pub lowest : (k : ℕ) → k < longestSide b → sideAt b k < sideAt b (longestSide b)
+  pub none_longer : (k : ℕ) → side_at b k ≤ side_at b (longest_side b)
+  pub lowest : (k : ℕ) → k < longest_side b → side_at b k < side_at b (longest_side b)
 
 -- The halves of a box: both are boxes, every vector of the box lies in one half and not in both, nothing else lies in a half, and the
 -- volumes add up.
 pub record Halved (b : Box) : Type 0 where
-  pub left-box : at_most (left_half b).low (left_half b).high ≡ true
-  pub right-box : at_most (right_half b).low (right_half b).high ≡ true
-  pub left-some : 1 ≤ volume (left_half b)
-  pub right-some : 1 ≤ volume (right_half b)
+  pub left_box : at_most (left_half b).low (left_half b).high ≡ true
+  pub right_box : at_most (right_half b).low (right_half b).high ≡ true
+  pub left_some : 1 ≤ volume (left_half b)
+  pub right_some : 1 ≤ volume (right_half b)
   pub covers : (v : List ℤ) → InBox v b → InBox v (left_half b) ⊎ InBox v (right_half b)
   pub apart : (v : List ℤ) → InBox v (left_half b) → InBox v (right_half b) → ⊥
   pub left_in : (v : List ℤ) → InBox v (left_half b) → InBox v b
-  pub right-in : (v : List ℤ) → InBox v (right_half b) → InBox v b
+  pub right_in : (v : List ℤ) → InBox v (right_half b) → InBox v b
   pub adds : volume (left_half b) + volume (right_half b) ≡ volume b
 
 -- So it is with every box of two vectors or more.

@@ -10,26 +10,26 @@ use Rattle.jobs.specs.declared.Model.{Model}
 use Rattle.points.specs.Points.{points_of}
 use Rattle.residuals.specs.Cost.{bound}
 use Rattle.residuals.specs.Cost as model
-use Rattle.model_checks.specs.Checks.{checkModel}
-use Rattle.costs.specs.Calls.{costUpTo, boundUpTo}
+use Rattle.model_checks.specs.Checks.{check_model}
+use Rattle.costs.specs.Calls.{cost_up_to, bound_up_to}
 
-module _ (store : List ℕ) (m : Model) (ok : checkModel store m ≡ Pass) where
-  cost-up-to : (v : List ℤ) (cap : ℕ) → costUpTo store m v cap ≡ min (model.cost m (points_of store) v) cap
-  unfolding costUpTo
-  cost-up-to v cap = rw ok
+module _ (store : List ℕ) (m : Model) (ok : check_model store m ≡ Pass) where
+  cost_up_to_lem : (v : List ℤ) (cap : ℕ) → cost_up_to store m v cap ≡ min (model.cost m (points_of store) v) cap
+  unfolding cost_up_to
+  cost_up_to_lem v cap = rw ok
 
-  bound-up-to : (b : Box) (cap : ℕ) → boundUpTo store m b cap ≡ min (bound m (points_of store) b) cap
-  unfolding boundUpTo
-  bound-up-to b cap = rw ok
+  bound_up_to_lem : (b : Box) (cap : ℕ) → bound_up_to store m b cap ≡ min (bound m (points_of store) b) cap
+  unfolding bound_up_to
+  bound_up_to_lem b cap = rw ok
 
   -- what was found as far as the largest number of 64 bits, and lies below it, is the cost
-  pub whole-cost : (v : List ℤ) (x : ℕ) → x ≡ costUpTo store m v 18446744073709551615 → x ≤ 1152921367167897600
+  pub whole_cost : (v : List ℤ) (x : ℕ) → x ≡ cost_up_to store m v 18446744073709551615 → x ≤ 1152921367167897600
       → x ≡ model.cost m (points_of store) v
-  whole-cost v x found small = omega (arith, found, cost-up-to v 18446744073709551615)
+  whole_cost v x found small = omega (arith, found, cost_up_to_lem v 18446744073709551615)
 
   -- from what a call says of lanes that are the store's
-  pub bound-found : (b : Box) (cap x : ℕ) → x ≡ boundUpTo store m b cap → x ≡ min (bound m (points_of store) b) cap
-  bound-found b cap x e = e ∙ bound-up-to b cap
+  pub bound_found : (b : Box) (cap x : ℕ) → x ≡ bound_up_to store m b cap → x ≡ min (bound m (points_of store) b) cap
+  bound_found b cap x e = e ∙ bound_up_to_lem b cap
 
-  pub cost-found : (v : List ℤ) (cap x : ℕ) → x ≡ costUpTo store m v cap → x ≡ min (model.cost m (points_of store) v) cap
-  cost-found v cap x e = e ∙ cost-up-to v cap
+  pub cost_found : (v : List ℤ) (cap x : ℕ) → x ≡ cost_up_to store m v cap → x ≡ min (model.cost m (points_of store) v) cap
+  cost_found v cap x e = e ∙ cost_up_to_lem v cap

@@ -3,77 +3,77 @@
 use Rattle.std.specs.Prelude.{◌≡◌, Bool, true, cond, not, ◌&&◌, List, ℕ, ◌+◌, ◌/◌, ◌<◌, min, ltb, eqb, ℤ, Float}
 use Rattle.codes.specs.declared.Check.TheVariants.{Pass}
 use Rattle.boxes.specs.declared.Box.{Box}
-use Rattle.boxes.specs.Split.{longestSide, left_half, right_half, cutAnswer}
+use Rattle.boxes.specs.Split.{longest_side, left_half, right_half, cut_answer}
 use Rattle.jobs.specs.declared.Model.{Model}
 use Rattle.integers.specs.Sums.{sum_of}
-use Rattle.residuals.specs.Inside.{boxOf}
-use Rattle.model_checks.specs.Checks.{checkModel}
-use Rattle.costs.specs.Calls.{DecodedFor, costIn, boundIn}
-use Rattle.eval_columns.specs.Columns.{decodedChunks}
-use Rattle.eval_halves.specs.Halves.{halfLossIn}
+use Rattle.residuals.specs.Inside.{box_of}
+use Rattle.model_checks.specs.Checks.{check_model}
+use Rattle.costs.specs.Calls.{DecodedFor, cost_in, bound_in}
+use Rattle.eval_columns.specs.Columns.{decoded_chunks}
+use Rattle.eval_halves.specs.Halves.{half_loss_in}
 use Rattle.certificate.specs.Search.{better}
 use Rattle.incumbent.specs.declared.Child.{Child}
 use Rattle.incumbent.specs.declared.Mark.{Mark}
-use Rattle.incumbent.specs.Incumbent.{ahead_of, childOf, keptBy, mark_of, Marks, Tested}
+use Rattle.incumbent.specs.Incumbent.{ahead_of, child_of, kept_by, mark_of, Marks, Tested}
 use Rattle.branching.specs.declared.HalfBounds.{HalfBounds}
 use Rattle.branching.specs.declared.Branches.{Branches}
 
 -- what an evaluation asks: checks 1 to 4 passed, and the lanes are the store's, which a search decodes once
 pub record Evaluable (store : List ℕ) (lanes : List (List (List Float))) (m : Model) : Type 0 where
-  pub checked : checkModel store m ≡ Pass
+  pub checked : check_model store m ≡ Pass
   pub decoded : DecodedFor store m lanes
 
 -- one more than a cost, as far as 64 bits go
-abbrev pub justAbove : ℕ → ℕ
-justAbove c = min (c + 1) 18446744073709551615
+abbrev pub just_above : ℕ → ℕ
+just_above c = min (c + 1) 18446744073709551615
 
 -- the line of the longest side; where lines have no coordinates, none of the n
-abbrev pub cutLine : Model → Box → ℕ
-cutLine m b = cond (eqb m.d 0) m.n (longestSide b / m.d)
+abbrev pub cut_line : Model → Box → ℕ
+cut_line m b = cond (eqb m.d 0) m.n (longest_side b / m.d)
 
 -- whether both bounds are found side by side: they are sums, and there are other lines than the one that is cut
 abbrev pub side_by_side : Model → ℕ → Bool
 side_by_side m line = ltb m.p 3 && ltb 1 m.n && ltb line m.n
 
 -- the bounds of two boxes, each up to a cap
-abbrev pub boundsUpTo : (Box → ℕ) → Box → Box → ℕ → HalfBounds
-boundsUpTo bound left right cap = record { left = min (bound left) cap; right = min (bound right) cap }
+abbrev pub bounds_up_to : (Box → ℕ) → Box → Box → ℕ → HalfBounds
+bounds_up_to bound left right cap = record { left = min (bound left) cap; right = min (bound right) cap }
 
 module _ (store : List ℕ) (lanes : List (List (List Float))) (m : Model) where
   -- the losses over a half of the box from `left` to `right`, whose line c is cut, added up
-  abbrev pub halfSumIn : Box → Box → Box → ℕ → ℕ → ℕ
-  halfSumIn left right half c cap =
-      min (sum_of (halfLossIn lanes m (boxOf left.low right.high) half c) (decodedChunks store lanes)) cap
+  abbrev pub half_sum_in : Box → Box → Box → ℕ → ℕ → ℕ
+  half_sum_in left right half c cap =
+      min (sum_of (half_loss_in lanes m (box_of left.low right.high) half c) (decoded_chunks store lanes)) cap
 
   -- what is found of the bounds of both halves
-  abbrev pub halfBoundsIn : Box → Box → Box → ℕ → HalfBounds
-  halfBoundsIn b left right cap =
-      cond (side_by_side m (cutLine m b))
-      (record { left = halfSumIn left right left (cutLine m b) cap; right = halfSumIn left right right (cutLine m b) cap })
-      (record { left = boundIn store lanes m left cap; right = boundIn store lanes m right cap })
+  abbrev pub half_bounds_in : Box → Box → Box → ℕ → HalfBounds
+  half_bounds_in b left right cap =
+      cond (side_by_side m (cut_line m b))
+      (record { left = half_sum_in left right left (cut_line m b) cap; right = half_sum_in left right right (cut_line m b) cap })
+      (record { left = bound_in store lanes m left cap; right = bound_in store lanes m right cap })
 
   -- a box and what its test says
   abbrev pub tested_in : Box → Mark → Child
-  tested_in half mark = childOf half (boundIn store lanes m half (justAbove mark.cost)) mark
+  tested_in half mark = child_of half (bound_in store lanes m half (just_above mark.cost)) mark
 
   -- the best vector after v is tried, if that is needed
-  abbrev pub triedIn : Mark → List ℤ → Bool → Mark
-  triedIn mark v needed =
-      let c = costIn store lanes m v (justAbove mark.cost) in
+  abbrev pub tried_in : Mark → List ℤ → Bool → Mark
+  tried_in mark v needed =
+      let c = cost_in store lanes m v (just_above mark.cost) in
       cond (needed && ahead_of mark c v) (record { t = mark.t; cost = c; best = v }) mark
 
   -- what a box that is cut leaves
   unfoldable pub cut_in : Box → Mark → Bool → Branches
   cut_in b mark given =
-      let h = cutAnswer b in
-      let x = halfBoundsIn b h.left h.right (justAbove mark.cost) in
-      let one = triedIn mark h.left.low given in
-      let new = triedIn one h.right.low (ahead_of mark x.right h.right.low) in
+      let h = cut_answer b in
+      let x = half_bounds_in b h.left h.right (just_above mark.cost) in
+      let one = tried_in mark h.left.low given in
+      let new = tried_in one h.right.low (ahead_of mark x.right h.right.low) in
       record {
         mark = new;
         stays = not (ahead_of mark new.cost new.best);
-        left = childOf h.left x.left new;
-        right = childOf h.right x.right new;
+        left = child_of h.left x.left new;
+        right = child_of h.right x.right new;
       }
 
 -- What is left of a box b that is cut, where `mark` had the best vector: the new best, and the tested halves.
@@ -84,5 +84,5 @@ pub record Cut (cost : List ℤ → ℕ) (bound : Box → ℕ) (b : Box) (mark :
       (better cost mark.t (better cost mark.t mark.best (left_half b).low) (right_half b).low)
   pub fits : r.mark.cost < 18446744073709551615
   pub same : r.stays ≡ true → r.mark ≡ mark
-  pub left : Tested bound (keptBy bound r.mark) (left_half b) r.left
-  pub right : Tested bound (keptBy bound r.mark) (right_half b) r.right
+  pub left : Tested bound (kept_by bound r.mark) (left_half b) r.left
+  pub right : Tested bound (kept_by bound r.mark) (right_half b) r.right

@@ -5,8 +5,8 @@ ghost use Rattle.boxes.specs.Split.{left_half, right_half};
 ghost use Rattle.points.specs.Points.{points_of};
 ghost use Rattle.residuals.specs.Cost.{bound, cost};
 ghost use Rattle.certificate.specs.Search.{better};
-ghost use Rattle.incumbent.specs.Incumbent.{keptBy, mark_of, Marks, Tested};
-ghost use Rattle.branching.specs.Branching.{Evaluable, justAbove, cutLine, side_by_side, halfBoundsIn, boundsUpTo, tested_in, triedIn, cut_in, Cut};
+ghost use Rattle.incumbent.specs.Incumbent.{kept_by, mark_of, Marks, Tested};
+ghost use Rattle.branching.specs.Branching.{Evaluable, just_above, cut_line, side_by_side, half_bounds_in, bounds_up_to, tested_in, tried_in, cut_in, Cut};
 
 use boxes::Box;
 use eval_lanes::Chunk;
@@ -31,14 +31,14 @@ pub struct Branches {
 
 // Up to here a cost or a bound is found: one more than C decides as much as the whole one.
 pub fn just_above(c: u64) -> u64
-    ensures { result ≡ justAbove c }
+    ensures { result ≡ just_above c }
 {
     if c < 18446744073709551615 { c + 1 } else { c }
 }
 
 // The line whose side is cut; where lines have no coordinates, none of the n.
 fn cut_line(m: Model, b: Box) -> usize
-    ensures { result ≡ cutLine m b }
+    ensures { result ≡ cut_line m b }
 {
     let low = b.low;
     let high = b.high;
@@ -73,9 +73,9 @@ pub fn half_bounds(
     right: Box,
     cap: u64,
 ) -> HalfBounds
-    ensures lanes { result ≡ halfBoundsIn store.now lanes.now m b left right cap }
+    ensures lanes { result ≡ half_bounds_in store.now lanes.now m b left right cap }
     ensures store { Evaluable store.now lanes.now m → left ≡ left_half b → right ≡ right_half b →
-        result ≡ boundsUpTo (bound m (points_of store.now)) left right cap }
+        result ≡ bounds_up_to (bound m (points_of store.now)) left right cap }
 {
     let line = cut_line(m, b);
     if side_by_side(m, line) {
@@ -95,7 +95,7 @@ pub fn half_bounds(
 pub fn tested(store: &[u8], lanes: &[Chunk], m: Model, half: Box, mark: Mark) -> Child
     ensures lanes { result ≡ tested_in store.now lanes.now m half mark }
     ensures store { Evaluable store.now lanes.now m → mark.cost < 18446744073709551615 →
-        Tested (bound m (points_of store.now)) (keptBy (bound m (points_of store.now)) mark) half result }
+        Tested (bound m (points_of store.now)) (kept_by (bound m (points_of store.now)) mark) half result }
 {
     child_of(
         half,
@@ -107,7 +107,7 @@ pub fn tested(store: &[u8], lanes: &[Chunk], m: Model, half: Box, mark: Mark) ->
 // A vector becomes best only if it is cheaper or, for t = 0, as cheap and earlier. Its cost is found until it is above C, and only where
 // that is needed.
 fn tried(store: &[u8], lanes: &[Chunk], m: Model, mark: Mark, v: [i16; 8], needed: bool) -> Mark
-    ensures lanes { result ≡ triedIn store.now lanes.now m mark v needed }
+    ensures lanes { result ≡ tried_in store.now lanes.now m mark v needed }
     ensures store { Evaluable store.now lanes.now m → Marks (cost m (points_of store.now)) mark →
         (needed ≡ false → better (cost m (points_of store.now)) mark.t mark.best v ≡ mark.best) →
         (result ≡ mark_of (cost m (points_of store.now)) mark.t

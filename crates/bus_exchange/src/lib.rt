@@ -1,8 +1,8 @@
 // All of the program bus on slices: a store and a driver's accesses in, a byte for each read out.
 ghost use Rattle.std.specs.Prelude.{◌≡◌, [], ◌/◌, ◌≤◌, ◌<◌, length};
 ghost use Rattle.integers.specs.Lists.{over};
-ghost use Rattle.registers.specs.Registers.{jobIn, written};
-ghost use Rattle.bus_exchange.specs.Exchange.{numbersLent, toldBy, repliesOf};
+ghost use Rattle.registers.specs.Registers.{job_in, written};
+ghost use Rattle.bus_exchange.specs.Exchange.{numbers_lent, told_by, replies_of};
 ghost use Rattle.bus_exchange.specs.Inside.{Accessed};
 
 use bus_registers::{Registers, read, reset, write};
@@ -30,7 +30,7 @@ struct Progress {
 
 // How many numbers of the table a write is lent: the rows of the job record as it stands, as far as they go.
 fn numbers_lent(registers: Registers) -> usize
-    ensures { result ≡ numbersLent (jobIn registers.bytes).rows }
+    ensures { result ≡ numbers_lent (job_in registers.bytes).rows }
 {
     let bytes = registers.bytes;
     let rows = fields::get_number32(&bytes, 84);
@@ -52,7 +52,7 @@ fn write_rows(
 ) -> Registers
     requires { 32768 ≤ length table.old }
     ensures { result.bytes
-        ≡ written store.now registers.bytes offset value (numbersLent (jobIn registers.bytes).rows)
+        ≡ written store.now registers.bytes offset value (numbers_lent (job_in registers.bytes).rows)
         (length bounds.old) }
 {
     let n = numbers_lent(registers);
@@ -95,9 +95,9 @@ fn access(
 // The replies to accesses of four bytes each, from reset on.
 fn reply(store: &[u8], accesses: &[u8], out: &mut [u8]) -> usize
     requires { length accesses.now / 4 ≤ length out.old }
-    ensures count { result ≡ length (toldBy store.now [] accesses.now) }
+    ensures count { result ≡ length (told_by store.now [] accesses.now) }
     ensures replies { out.new
-        ≡ over (toldBy store.now [] accesses.now) out.old }
+        ≡ over (told_by store.now [] accesses.now) out.old }
 {
     let mut table = table_space();
     let mut bounds = bounds_space();
@@ -123,8 +123,8 @@ fn reply(store: &[u8], accesses: &[u8], out: &mut [u8]) -> usize
 // The replies to the accesses behind a store, whose number of records comes first, at the front of a buffer: answers how many they are. In
 // a buffer of fewer bytes than there are accesses it writes nothing and answers 0.
 pub fn exchange(input: &[u8], out: &mut [u8]) -> usize
-    ensures count { result ≡ length (repliesOf input.now (length out.old)) }
-    ensures replies { out.new ≡ over (repliesOf input.now (length out.old)) out.old }
+    ensures count { result ≡ length (replies_of input.now (length out.old)) }
+    ensures replies { out.new ≡ over (replies_of input.now (length out.old)) out.old }
 {
     let end = 2 + 12 * (fields::get_number(input, 0, 2) as usize);
     if input.len() < end {

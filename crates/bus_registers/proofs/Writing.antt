@@ -9,19 +9,19 @@ use lib.Dec.{T, eqb}
 use lib.IntN.{ℤ}
 use lib.ListN.{length, set, take, drop, length-drop, drop_of_length-le}
 use lib.Seq.{take_at, take_all, take-length, drop_at, drop-drop, drop-set-lt, length-take-le}
-use Rattle.codes.specs.Codes.{ifPassed}
+use Rattle.codes.specs.Codes.{if_passed}
 use Rattle.codes.specs.declared.Check.{Check}
 use Rattle.codes.specs.declared.Check.TheVariants.{Pass, Refuse}
 use Rattle.jobs.specs.declared.Job.{Job}
-use Rattle.job_records.specs.Jobs.{readJob}
-use Rattle.registers.specs.Runs.{checkRun, foundBytes, recordShown}
-use Rattle.registers.specs.Registers.{ran, commanded, written, with_run, jobIn}
-use Rattle.registers.proofs.Found.{shown-long}
+use Rattle.job_records.specs.Jobs.{read_job}
+use Rattle.registers.specs.Runs.{check_run, found_bytes, record_shown}
+use Rattle.registers.specs.Registers.{ran, commanded, written, with_run, job_in}
+use Rattle.registers.proofs.Found.{shown_long}
 use Rattle.bus_runs.specs.declared.Shown.{Shown}
-use Rattle.bus_runs.specs.Lent.{shownOf, checkOf, TableRun, BoundsRun, RunCertified}
-use Rattle.bus_registers.specs.Written.{isRun, AnswerCertified, TableWritten, BoundsWritten, WriteCertified}
+use Rattle.bus_runs.specs.Lent.{shown_of, check_of, TableRun, BoundsRun, RunCertified}
+use Rattle.bus_registers.specs.Written.{is_run, AnswerCertified, TableWritten, BoundsWritten, WriteCertified}
 
-pub flag_small : (c : Check) → ifPassed c 1 2 ≤ 2
+pub flag_small : (c : Check) → if_passed c 1 2 ≤ 2
 flag_small Pass = omega arith
 flag_small (Refuse why) = omega arith
 
@@ -44,9 +44,9 @@ replaced s x m n there long =
     ∙ take_at x (drop 48 s) 40 long
 
 -- the job record in 136 bytes is whole
-pub job-there : (s part : List ℕ) → length s ≡ 136 → part ≡ take 72 (drop 64 s) → (readJob part).job ≡ jobIn s
-unfolding readJob
-job-there s part whole e =
+pub job_there : (s part : List ℕ) → length s ≡ 136 → part ≡ take 72 (drop 64 s) → (read_job part).job ≡ job_in s
+unfolding read_job
+job_there s part whole e =
     let l = length-drop 64 s in
     let all : part ≡ drop 64 s = e ∙ take_all 72 (drop 64 s) (omega arith) in
     rw (all, le-leb 72 (length (drop 64 s)) (omega arith))
@@ -55,34 +55,34 @@ module _ (store s : List ℕ) (table : List ℤ) (bounds : List ℕ) where
   abbrev pub Ran : List ℕ → List ℤ → List ℕ → Type 0
   Ran q u e =
       (q ≡ ran store s (length table) (length bounds))
-      × (TableRun store (jobIn s) table bounds u
-      × (BoundsRun store (jobIn s) table bounds e × AnswerCertified store (jobIn s) table bounds q))
+      × (TableRun store (job_in s) table bounds u
+      × (BoundsRun store (job_in s) table bounds e × AnswerCertified store (job_in s) table bounds q))
 
   module _ (r : Shown) (q : List ℕ) (u : List ℤ) (e : List ℕ) (whole : length s ≡ 136) (is : q ≡ with_run s r.check r.answer) where
     -- what a run of a job says
     abbrev Said : Job → Type 0
     Said job =
-        (r ≡ shownOf store job (length table) (length bounds))
+        (r ≡ shown_of store job (length table) (length bounds))
         × (TableRun store job table bounds u
         × (BoundsRun store job table bounds e × RunCertified store job table bounds r.answer))
 
-    shown-here : Said (jobIn s) → take 40 (drop 8 q) ≡ r.answer
-    unfolding with_run shownOf
-    shown-here said =
+    shown_here : Said (job_in s) → take 40 (drop 8 q) ≡ r.answer
+    unfolding with_run shown_of
+    shown_here said =
         let forty : length r.answer ≡ 40 =
         ap (λ (x : Shown). length x.answer) said.0
-        ∙ shown-long store (drop 64 s) (length table) (length bounds) (omega (arith, length-drop 64 s)) in
+        ∙ shown_long store (drop 64 s) (length table) (length bounds) (omega (arith, length-drop 64 s)) in
         ap (λ (l : List ℕ). take 40 (drop 8 l)) is ∙ replaced s r.answer _ _ (omega arith) forty
 
-    ran-here : Said (jobIn s) → Ran q u e
-    unfolding ran shownOf
-    ran-here said = (
+    ran_here : Said (job_in s) → Ran q u e
+    unfolding ran shown_of
+    ran_here said = (
       is ∙ ap (λ (x : Shown). with_run s x.check x.answer) said.0,
-      (said.1.0, (said.1.1.0, rw (shown-here said) said.1.1.1)),
+      (said.1.0, (said.1.1.0, rw (shown_here said) said.1.1.1)),
     )
 
-    pub run_ran : (job : Job) → job ≡ jobIn s → Said job → Ran q u e
-    run_ran job same said = ran-here (subst Said same said)
+    pub run_ran : (job : Job) → job ≡ job_in s → Said job → Ran q u e
+    run_ran job same said = ran_here (subst Said same said)
 
   module _ (value : ℕ) where
     abbrev pub Commanded : List ℕ → List ℤ → List ℕ → Type 0
@@ -94,9 +94,9 @@ module _ (store s : List ℕ) (table : List ℤ) (bounds : List ℕ) where
     never : {A : Type 0} → true ≡ false → A
     never e = absurd (subst T e tt)
 
-    pub run-commanded : (q : List ℕ) (u : List ℤ) (e : List ℕ) → value ≡ 2 → Ran q u e → Commanded q u e
+    pub run_commanded : (q : List ℕ) (u : List ℤ) (e : List ℕ) → value ≡ 2 → Ran q u e → Commanded q u e
     unfolding commanded
-    run-commanded q u e two r =
+    run_commanded q u e two r =
         let is = eq-eqb value 2 two in (
           rw is r.0,
           (
@@ -105,9 +105,9 @@ module _ (store s : List ℕ) (table : List ℤ) (bounds : List ℕ) where
           ),
         )
 
-    pub idle-commanded :
+    pub idle_commanded :
         (q : List ℕ) → eqb value 2 ≡ false → q ≡ commanded store s value (length table) (length bounds) → Commanded q table bounds
-    idle-commanded q is e = (
+    idle_commanded q is e = (
       e,
       (
         record { idle = λ h. refl; ran = λ h. never (sym h ∙ is) },
@@ -122,9 +122,9 @@ module _ (store s : List ℕ) (table : List ℤ) (bounds : List ℕ) where
           × (TableWritten s offset value store table bounds u
           × (BoundsWritten s offset value store table bounds e × WriteCertified s offset value store table bounds q))
 
-      pub command-written : (q : List ℕ) (u : List ℤ) (e : List ℕ) → offset ≡ 0 → Commanded q u e → Written q u e
+      pub command_written : (q : List ℕ) (u : List ℤ) (e : List ℕ) → offset ≡ 0 → Commanded q u e → Written q u e
       unfolding written
-      command-written q u e zeroth r = (
+      command_written q u e zeroth r = (
         rw (eq-eqb offset 0 zeroth) r.0,
         (
           subst (λ (o : ℕ). TableWritten s o value store table bounds u) (sym zeroth) r.1.0,
@@ -135,10 +135,10 @@ module _ (store s : List ℕ) (table : List ℤ) (bounds : List ℕ) where
         ),
       )
 
-      pub idle-written :
+      pub idle_written :
           (q : List ℕ) → (offset ≡ 0 → ⊥) → q ≡ written store s offset value (length table) (length bounds) → Written q table bounds
-      idle-written q other e =
-          let is : isRun offset value ≡ false = rw (ne_eqb offset 0 other) in (
+      idle_written q other e =
+          let is : is_run offset value ≡ false = rw (ne_eqb offset 0 other) in (
             e,
             (
               record { idle = λ h. refl; ran = λ h. never (sym h ∙ is) },

@@ -1,8 +1,8 @@
 // The registers of the fitter on the data bus: 136 bytes, the board's own state.
 ghost use Rattle.std.specs.Prelude.{◌≡◌, ◌<◌, length, set};
-ghost use Rattle.codes.specs.Codes.{ifPassed};
-ghost use Rattle.registers.specs.Runs.{refusalNumber};
-ghost use Rattle.registers.specs.Registers.{cleared, readAt, flagsAfter, with_run, ran, commanded, written, jobIn};
+ghost use Rattle.codes.specs.Codes.{if_passed};
+ghost use Rattle.registers.specs.Runs.{refusal_number};
+ghost use Rattle.registers.specs.Registers.{cleared, read_at, flags_after, with_run, ran, commanded, written, job_in};
 ghost use Rattle.bus_runs.specs.Lent.{TableRun, BoundsRun};
 ghost use Rattle.bus_registers.specs.Written.{AnswerCertified, TableWritten, BoundsWritten, WriteCertified};
 
@@ -23,7 +23,7 @@ pub fn reset() -> Registers
 
 // What a read of an offset gives, whatever the bytes hold.
 pub fn read(r: Registers, offset: usize) -> u8
-    ensures { result ≡ readAt r.bytes offset }
+    ensures { result ≡ read_at r.bytes offset }
 {
     if offset == 1 {
         return r.bytes[1] % 8;
@@ -61,7 +61,7 @@ fn stored(r: Registers, at: usize, value: u8) -> Registers
 
 // Done or refused.
 fn flag(check: Check) -> u8
-    ensures { result ≡ ifPassed check 1 2 }
+    ensures { result ≡ if_passed check 1 2 }
 {
     match check {
         Check::Pass => 1,
@@ -70,7 +70,7 @@ fn flag(check: Check) -> u8
 }
 
 fn refusal_number(check: Check) -> u8
-    ensures { result ≡ refusalNumber check }
+    ensures { result ≡ refusal_number check }
 {
     match check {
         Check::Pass => 0,
@@ -80,7 +80,7 @@ fn refusal_number(check: Check) -> u8
 
 // Byte 1 after a run.
 fn flags_after(check: Check, before: u8, enable: u8) -> u8
-    ensures { result ≡ flagsAfter check before enable }
+    ensures { result ≡ flags_after check before enable }
 {
     let flag = flag(check);
     if before / 4 % 2 == 1 {
@@ -111,9 +111,9 @@ fn with_run(r: Registers, shown: Shown) -> Registers
 fn run(r: Registers, store: &[u8], table: &mut [i16], bounds: &mut [u64]) -> Registers
     ensures registers { result.bytes
         ≡ ran store.now r.bytes (length table.old) (length bounds.old) }
-    ensures table { TableRun store.now (jobIn r.bytes) table.old bounds.old table.new }
-    ensures bounds { BoundsRun store.now (jobIn r.bytes) table.old bounds.old bounds.new }
-    ensures certificate { AnswerCertified store.now (jobIn r.bytes) table.old bounds.old result.bytes }
+    ensures table { TableRun store.now (job_in r.bytes) table.old bounds.old table.new }
+    ensures bounds { BoundsRun store.now (job_in r.bytes) table.old bounds.old bounds.new }
+    ensures certificate { AnswerCertified store.now (job_in r.bytes) table.old bounds.old result.bytes }
 {
     let bytes = r.bytes;
     with_run(r, bus_runs::run(&bytes[64..], store, table, bounds))

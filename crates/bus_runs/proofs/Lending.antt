@@ -9,24 +9,24 @@ use lib.Dec.{leb, eqb}
 use lib.IntN.{ℤ}
 use lib.ListN.{length, take, drop}
 use lib.Seq.{take-length, drop-length}
-use Rattle.codes.specs.Codes.{inOrder}
-use Rattle.codes.proofs.Checks.{refused-not-passed}
+use Rattle.codes.specs.Codes.{in_order}
+use Rattle.codes.proofs.Checks.{refused_not_passed}
 use Rattle.codes.specs.declared.Check.{Check}
 use Rattle.codes.specs.declared.Check.TheVariants.{Pass, Refuse}
 use Rattle.codes.specs.declared.Refusal.{Refusal}
 use Rattle.jobs.specs.declared.Job.{Job}
-use Rattle.search_checks.specs.Checks.{checkJob, checkSearch}
-use Rattle.search.specs.Search.{checkLent, searchedLent, searchAnswer, TableSearched, BoundsSearched, Certified}
+use Rattle.search_checks.specs.Checks.{check_job, check_search}
+use Rattle.search.specs.Search.{check_lent, searched_lent, search_answer, TableSearched, BoundsSearched, Certified}
 use Rattle.search.specs.declared.Answer.{Answer}
-use Rattle.registers.specs.Runs.{checkRun, runSearch}
-use Rattle.bus_runs.specs.Lent.{checkOf}
-use Rattle.bus_runs.specs.Inside.{numbersFor, RunSearched}
+use Rattle.registers.specs.Runs.{check_run, run_search}
+use Rattle.bus_runs.specs.Lent.{check_of}
+use Rattle.bus_runs.specs.Inside.{numbers_for, RunSearched}
 
-pub numbers-few : (r n : ℕ) → numbersFor r n ≤ n
-unfolding numbersFor
-numbers-few r n = go (eqb (n / 16) r) refl
+pub numbers_few : (r n : ℕ) → numbers_for r n ≤ n
+unfolding numbers_for
+numbers_few r n = go (eqb (n / 16) r) refl
   where
-    go : (b : Bool) → eqb (n / 16) r ≡ b → numbersFor r n ≤ n
+    go : (b : Bool) → eqb (n / 16) r ≡ b → numbers_for r n ≤ n
     go true is = rw is (omega arith)
     go false is = rw is (omega arith)
 
@@ -34,7 +34,7 @@ module _ (store : List ℕ) (job : Job) (table part : List ℤ) (bounds entries 
   -- what a search that was lent the numbers t of the table says
   abbrev Said : List ℤ → Type 0
   Said t =
-      (a ≡ searchAnswer store job t bounds)
+      (a ≡ search_answer store job t bounds)
       × (TableSearched store job t bounds part × (BoundsSearched store job t bounds entries × Certified store job t bounds a))
 
   abbrev Ran : List ℤ → Type 0
@@ -42,28 +42,28 @@ module _ (store : List ℕ) (job : Job) (table part : List ℤ) (bounds entries 
 
   -- the whole table
   module _ (same : eqb (length table / 16) job.rows ≡ true) where
-    same_check : checkLent store job table bounds ≡ checkOf store job table bounds
-    unfolding checkSearch checkRun
+    same_check : check_lent store job table bounds ≡ check_of store job table bounds
+    unfolding check_search check_run
     same_check = rw (same, and-true (leb 16 (length table)))
 
-    same-search : searchedLent store job table bounds ≡ runSearch store job
-    same-search = rw (eqb-true (length table / 16) job.rows same)
+    same_search : searched_lent store job table bounds ≡ run_search store job
+    same_search = rw (eqb-true (length table / 16) job.rows same)
 
-    whole-lent : Said table → Ran part
-    unfolding searchAnswer
-    whole-lent q = record {
-      told = q.0 ∙ rw (same_check, same-search);
-      rows = rw (same_check, same-search) at q.1.0;
-      entries = rw (same_check, same-search) at q.1.1.0;
+    whole_lent : Said table → Ran part
+    unfolding search_answer
+    whole_lent q = record {
+      told = q.0 ∙ rw (same_check, same_search);
+      rows = rw (same_check, same_search) at q.1.0;
+      entries = rw (same_check, same_search) at q.1.1.0;
     }
 
   -- none of it
   none_lent :
-      (why : Refusal) → checkSearch store job 0 (length bounds) ≡ Refuse why → checkOf store job table bounds ≡ Refuse why → Said [] →
+      (why : Refusal) → check_search store job 0 (length bounds) ≡ Refuse why → check_of store job table bounds ≡ Refuse why → Said [] →
       Ran (part ++ table)
-  unfolding searchAnswer
+  unfolding search_answer
   none_lent why is refuses q =
-      let never : checkOf store job table bounds ≡ Pass → ⊥ = λ h. refused-not-passed why (sym refuses ∙ h) in
+      let never : check_of store job table bounds ≡ Pass → ⊥ = λ h. refused_not_passed why (sym refuses ∙ h) in
       let empty : part ≡ [] = q.1.0.untouched why is in
       record {
         told = q.0 ∙ rw (is, refuses);
@@ -79,20 +79,20 @@ module _ (store : List ℕ) (job : Job) (table part : List ℤ) (bounds entries 
         };
       }
 
-  other-rows : eqb (length table / 16) job.rows ≡ false → Said [] → Ran (part ++ table)
-  unfolding checkSearch checkRun inOrder
-  other-rows other q = go (checkJob store job) refl
+  other_rows : eqb (length table / 16) job.rows ≡ false → Said [] → Ran (part ++ table)
+  unfolding check_search check_run in_order
+  other_rows other q = go (check_job store job) refl
     where
-      go : (first : Check) → checkJob store job ≡ first → Ran (part ++ table)
+      go : (first : Check) → check_job store job ≡ first → Ran (part ++ table)
       go Pass is = none_lent Refusal.Table (rw is) (rw (is, other, and-false (leb 16 (length table)))) q
       go (Refuse why) is = none_lent why (rw is) (rw is) q
 
-  by_rows : (b : Bool) → eqb (length table / 16) job.rows ≡ b → Said (take (numbersFor job.rows (length table)) table)
-      → Ran (part ++ drop (numbersFor job.rows (length table)) table)
-  unfolding numbersFor
+  by_rows : (b : Bool) → eqb (length table / 16) job.rows ≡ b → Said (take (numbers_for job.rows (length table)) table)
+      → Ran (part ++ drop (numbers_for job.rows (length table)) table)
+  unfolding numbers_for
   by_rows true is q =
-      rw (is, drop-length table, append-nil part) (whole-lent is (rw (is, take-length table) at q))
-  by_rows false is q = rw is (other-rows is (rw is at q))
+      rw (is, drop-length table, append-nil part) (whole_lent is (rw (is, take-length table) at q))
+  by_rows false is q = rw is (other_rows is (rw is at q))
 
-  pub lent_rows : (n : ℕ) → n ≡ numbersFor job.rows (length table) → Said (take n table) → Ran (part ++ drop n table)
+  pub lent_rows : (n : ℕ) → n ≡ numbers_for job.rows (length table) → Said (take n table) → Ran (part ++ drop n table)
   lent_rows n e q = rw e (by_rows (eqb (length table / 16) job.rows) refl (rw e at q))

@@ -8,31 +8,31 @@ use Rattle.fields.specs.Buffers.{written}
 use Rattle.search.specs.declared.Kind.{Kind}
 use Rattle.search.specs.declared.Kind.TheVariants.{Solved, Spent, Full, Refused}
 use Rattle.search.specs.declared.Answer.{Answer}
-use Rattle.search.specs.Search.{answerUnlessRefused}
-use Rattle.answer_records.specs.Answers.{answerBytes, checkAnswerWrite}
-use Rattle.answers.specs.Records.{recordOf}
-use Rattle.registers.specs.Runs.{runSearch}
-use Rattle.bus_runs.specs.Lent.{checkOf, TableRun, BoundsRun}
+use Rattle.search.specs.Search.{answer_unless_refused}
+use Rattle.answer_records.specs.Answers.{answer_bytes, check_answer_write}
+use Rattle.answers.specs.Records.{record_of}
+use Rattle.registers.specs.Runs.{run_search}
+use Rattle.bus_runs.specs.Lent.{check_of, TableRun, BoundsRun}
 
 -- how many numbers of a table are lent to the search of a job with r rows: all if the rows are r, else none, which check 8 refuses
-unfoldable pub numbersFor : ℕ → ℕ → ℕ
-numbersFor r numbers = cond (eqb (numbers / 16) r) numbers 0
+unfoldable pub numbers_for : ℕ → ℕ → ℕ
+numbers_for r numbers = cond (eqb (numbers / 16) r) numbers 0
 
 -- the answer, the table and the list of a run's search
 pub record RunSearched
     (store : List ℕ) (job : Job) (table : List ℤ) (bounds : List ℕ) (a : Answer) (u : List ℤ) (e : List ℕ) : Type 0
   where
-    pub told : a ≡ answerUnlessRefused (checkOf store job table bounds) (runSearch store job)
+    pub told : a ≡ answer_unless_refused (check_of store job table bounds) (run_search store job)
     pub rows : TableRun store job table bounds u
     pub entries : BoundsRun store job table bounds e
 
 -- an answer's check: solved, spent and full are done
-abbrev pub checkFor : Kind → Check
-checkFor Solved = Pass
-checkFor Spent = Pass
-checkFor Full = Pass
-checkFor (Refused why) = Refuse why
+abbrev pub check_for : Kind → Check
+check_for Solved = Pass
+check_for Spent = Pass
+check_for Full = Pass
+check_for (Refused why) = Refuse why
 
 -- the record of an answer, in 40 bytes that were zeros: check 9 refuses that of a refusal, so that the zeros stay
-unfoldable pub shownFor : Model → Answer → List ℕ
-shownFor m a = written (checkAnswerWrite (recordOf m a) (replicate 40 0)) (answerBytes (recordOf m a)) (replicate 40 0)
+unfoldable pub shown_for : Model → Answer → List ℕ
+shown_for m a = written (check_answer_write (record_of m a) (replicate 40 0)) (answer_bytes (record_of m a)) (replicate 40 0)

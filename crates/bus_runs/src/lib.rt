@@ -1,8 +1,8 @@
 // A run of the fitter on the data bus: the search of a job record, and what the registers show of it.
 ghost use Rattle.std.specs.Prelude.{◌≡◌, length};
-ghost use Rattle.job_records.specs.Jobs.{readJob};
-ghost use Rattle.bus_runs.specs.Lent.{shownOf, TableRun, BoundsRun, RunCertified};
-ghost use Rattle.bus_runs.specs.Inside.{numbersFor, RunSearched, checkFor, shownFor};
+ghost use Rattle.job_records.specs.Jobs.{read_job};
+ghost use Rattle.bus_runs.specs.Lent.{shown_of, TableRun, BoundsRun, RunCertified};
+ghost use Rattle.bus_runs.specs.Inside.{numbers_for, RunSearched, check_for, shown_for};
 
 use codes::Check;
 use jobs::{Job, Model};
@@ -17,7 +17,7 @@ pub struct Shown {
 
 // How many numbers of a table the search of a job with so many rows is lent.
 fn numbers_for(rows: u32, numbers: usize) -> usize
-    ensures { result ≡ numbersFor rows numbers }
+    ensures { result ≡ numbers_for rows numbers }
 {
     if numbers / 16 == (rows as usize) {
         numbers
@@ -35,7 +35,7 @@ fn search_rows(store: &[u8], job: Job, table: &mut [i16], bounds: &mut [u64]) ->
 }
 
 fn check_for(kind: Kind) -> Check
-    ensures { result ≡ checkFor kind }
+    ensures { result ≡ check_for kind }
 {
     match kind {
         Kind::Solved => Check::Pass,
@@ -47,7 +47,7 @@ fn check_for(kind: Kind) -> Check
 
 // The record of an answer, zeros for a refusal: check 9 refuses its record, and nothing is written.
 fn shown_for(m: Model, answer: Answer) -> [u8; 40]
-    ensures { result ≡ shownFor m answer }
+    ensures { result ≡ shown_for m answer }
 {
     let mut out = [0u8; 40];
     answer_records::write_answer(answers::record_of(m, answer), &mut out);
@@ -57,11 +57,11 @@ fn shown_for(m: Model, answer: Answer) -> [u8; 40]
 // The run of the job record in the first 72 bytes; fewer are a job of zeros, which is refused.
 pub fn run(bytes: &[u8], store: &[u8], table: &mut [i16], bounds: &mut [u64]) -> Shown
     ensures run { result
-        ≡ shownOf store.now (readJob bytes.now).job (length table.old) (length bounds.old) }
-    ensures table { TableRun store.now (readJob bytes.now).job table.old bounds.old table.new }
-    ensures bounds { BoundsRun store.now (readJob bytes.now).job table.old bounds.old
+        ≡ shown_of store.now (read_job bytes.now).job (length table.old) (length bounds.old) }
+    ensures table { TableRun store.now (read_job bytes.now).job table.old bounds.old table.new }
+    ensures bounds { BoundsRun store.now (read_job bytes.now).job table.old bounds.old
         bounds.new }
-    ensures certificate { RunCertified store.now (readJob bytes.now).job table.old bounds.old result.answer }
+    ensures certificate { RunCertified store.now (read_job bytes.now).job table.old bounds.old result.answer }
 {
     let read = job_records::read_job(bytes);
     let job = read.job;

@@ -2,8 +2,8 @@
 ghost use Rattle.std.specs.Prelude.{◌≡◌, length};
 ghost use Rattle.c_buffers.specs.Buffers.{filled};
 ghost use Rattle.c_boundary.specs.Boundary.{code_of};
-ghost use Rattle.c_answers.specs.Calls.{answerLengths, answerNumbers, readAnswerCall, answerVectorAfter, answerNumbersAfter};
-ghost use Rattle.c_answers.specs.Calls.{writeAnswerCall, answerRecordAfter};
+ghost use Rattle.c_answers.specs.Calls.{answer_lengths, answer_numbers, read_answer_call, answer_vector_after, answer_numbers_after};
+ghost use Rattle.c_answers.specs.Calls.{write_answer_call, answer_record_after};
 
 use answer_records::AnswerRecord;
 use c_boundary::{WRONG_LENGTH, check_code, refusal_code};
@@ -11,7 +11,7 @@ use c_buffers::{fill_coordinates, fill_numbers, vector_of};
 use codes::Check;
 
 fn lengths_right(vector: usize, numbers: usize) -> bool
-    ensures { result ≡ answerLengths vector numbers }
+    ensures { result ≡ answer_lengths vector numbers }
 {
     (vector == 8) & (numbers == 7)
 }
@@ -19,7 +19,7 @@ fn lengths_right(vector: usize, numbers: usize) -> bool
 // An answer into its two buffers.
 fn lay_answer(a: AnswerRecord, vector: &mut [i16], numbers: &mut [u64])
     ensures vector { vector.new ≡ filled vector.old a.vector }
-    ensures numbers { numbers.new ≡ filled numbers.old (answerNumbers a) }
+    ensures numbers { numbers.new ≡ filled numbers.old (answer_numbers a) }
     ensures long { length a.vector ≡ 8 }
 {
     let found = a.vector;
@@ -38,9 +38,9 @@ fn lay_answer(a: AnswerRecord, vector: &mut [i16], numbers: &mut [u64])
 
 // Reads an answer record of 40 bytes.
 pub fn read_answer(bytes: &[u8], vector: &mut [i16], numbers: &mut [u64]) -> u32
-    ensures code { result ≡ code_of (readAnswerCall bytes.now vector.old numbers.old) }
-    ensures vector { vector.new ≡ answerVectorAfter bytes.now vector.old numbers.old }
-    ensures numbers { numbers.new ≡ answerNumbersAfter bytes.now vector.old numbers.old }
+    ensures code { result ≡ code_of (read_answer_call bytes.now vector.old numbers.old) }
+    ensures vector { vector.new ≡ answer_vector_after bytes.now vector.old numbers.old }
+    ensures numbers { numbers.new ≡ answer_numbers_after bytes.now vector.old numbers.old }
 {
     if !lengths_right(vector.len(), numbers.len()) {
         return WRONG_LENGTH;
@@ -69,9 +69,9 @@ pub fn write_answer(
     scale: u8,
     bytes: &mut [u8],
 ) -> u32
-    ensures code { result ≡ code_of (writeAnswerCall vector.now cost bound count kind n d scale bytes.old) }
+    ensures code { result ≡ code_of (write_answer_call vector.now cost bound count kind n d scale bytes.old) }
     ensures bytes { bytes.new
-        ≡ answerRecordAfter vector.now cost bound count kind n d scale bytes.old }
+        ≡ answer_record_after vector.now cost bound count kind n d scale bytes.old }
 {
     if vector.len() != 8 {
         return WRONG_LENGTH;

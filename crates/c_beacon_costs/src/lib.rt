@@ -1,7 +1,7 @@
 // The cost beacon by beacon for C.
 ghost use Rattle.std.specs.Prelude.{◌≡◌};
-ghost use Rattle.c_boundary.specs.Boundary.{modelOf, code_of, valueAfter};
-ghost use Rattle.c_beacon_costs.specs.Calls.{costByBeaconCall, sumsAfterCall};
+ghost use Rattle.c_boundary.specs.Boundary.{model_of, code_of, value_after};
+ghost use Rattle.c_beacon_costs.specs.Calls.{cost_by_beacon_call, sums_after_call};
 
 use c_boundary::{WRONG_LENGTH, model_of, settle};
 use c_buffers::vector_of;
@@ -19,12 +19,12 @@ pub fn cost_by_beacon(
     value: &mut u64,
 ) -> u32
     ensures code { result
-        ≡ code_of (costByBeaconCall store.now (modelOf n d scale p eps) vector.now sums.old) }
+        ≡ code_of (cost_by_beacon_call store.now (model_of n d scale p eps) vector.now sums.old) }
     ensures value { value.new
-        ≡ valueAfter (costByBeaconCall store.now (modelOf n d scale p eps) vector.now sums.old)
+        ≡ value_after (cost_by_beacon_call store.now (model_of n d scale p eps) vector.now sums.old)
         value.old }
     ensures sums { sums.new
-        ≡ sumsAfterCall store.now (modelOf n d scale p eps) vector.now sums.old }
+        ≡ sums_after_call store.now (model_of n d scale p eps) vector.now sums.old }
 {
     if vector.len() != 8 {
         return WRONG_LENGTH;

@@ -3,7 +3,7 @@ use Rattle.std.specs.Prelude.{◌≡◌, List, ℕ, ◌*◌, ◌≤◌, ℤ, len
 use Rattle.integers.specs.Lists.{over}
 use Rattle.search.specs.declared.Answer.{Answer}
 use Rattle.boards.specs.Boards.{in_turn}
-use Rattle.c_boards.specs.Calls.{slot, slotCode, boardNumbers, oneBehindOther}
+use Rattle.c_boards.specs.Calls.{slot, slot_code, board_numbers, one_behind_other}
 
 -- The first i slots are handed over: what the lent codes, vectors and numbers hold then.
 pub record Handed
@@ -11,7 +11,7 @@ pub record Handed
     (numbers' : List ℕ) : Type 0
   where
     pub few : i ≤ 8
-    pub long : length (oneBehindOther (λ j. (slot count answers j).vector) i) ≡ 8 * i
-    pub codes-told : codes' ≡ over (in_turn (slotCode count answers) i) codes
-    pub vectors-told : vectors' ≡ over (oneBehindOther (λ j. (slot count answers j).vector) i) vectors
-    pub numbers-told : numbers' ≡ over (oneBehindOther (λ j. boardNumbers (slot count answers j)) i) numbers
+    pub long : length (one_behind_other (λ j. (slot count answers j).vector) i) ≡ 8 * i
+    pub codes_told : codes' ≡ over (in_turn (slot_code count answers) i) codes
+    pub vectors_told : vectors' ≡ over (one_behind_other (λ j. (slot count answers j).vector) i) vectors
+    pub numbers_told : numbers' ≡ over (one_behind_other (λ j. board_numbers (slot count answers j)) i) numbers

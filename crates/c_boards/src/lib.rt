@@ -1,11 +1,11 @@
 // One split budget for several boards, for C.
 ghost use Rattle.std.specs.Prelude.{◌≡◌, true, cond, length};
-ghost use Rattle.search.specs.Search.{kindNumber};
+ghost use Rattle.search.specs.Search.{kind_number};
 ghost use Rattle.c_buffers.specs.Buffers.{filled};
-ghost use Rattle.c_boundary.specs.Boundary.{answered, checkCall, code_of, ifAccepted};
-ghost use Rattle.c_search.specs.Calls.{outcomeOf};
-ghost use Rattle.c_boards.specs.Calls.{boardsLengths, answerCode, boardNumbers, codes_of, vectors_of, numbersOf};
-ghost use Rattle.c_boards.specs.Calls.{boardsCall, codesAfter, budgetsAfter, vectorsAfter, numbersAfter};
+ghost use Rattle.c_boundary.specs.Boundary.{answered, check_call, code_of, if_accepted};
+ghost use Rattle.c_search.specs.Calls.{outcome_of};
+ghost use Rattle.c_boards.specs.Calls.{boards_lengths, answer_code, board_numbers, codes_of, vectors_of, numbers_of};
+ghost use Rattle.c_boards.specs.Calls.{boards_call, codes_after, budgets_after, vectors_after, numbers_after};
 ghost use Rattle.c_boards.specs.Calls.{TableAfterCall, BoundsAfterCall, CertifiedCall};
 
 use boards::BoardAnswers;
@@ -15,13 +15,13 @@ use codes::Check;
 use search::{Answer, Kind};
 
 fn lengths_right(codes: usize, budgets: usize, vectors: usize, numbers: usize) -> bool
-    ensures { result ≡ boardsLengths codes budgets vectors numbers }
+    ensures { result ≡ boards_lengths codes budgets vectors numbers }
 {
     (codes == 8) & (budgets == 8) & (vectors == 64) & (numbers == 48)
 }
 
 fn kind_code(k: Kind) -> u32
-    ensures { result ≡ code_of (answered (outcomeOf k)) }
+    ensures { result ≡ code_of (answered (outcome_of k)) }
 {
     match k {
         Kind::Solved => 0,
@@ -32,7 +32,7 @@ fn kind_code(k: Kind) -> u32
 }
 
 fn kind_number(k: Kind) -> u64
-    ensures { result ≡ kindNumber k }
+    ensures { result ≡ kind_number k }
 {
     match k {
         Kind::Solved => 1,
@@ -44,9 +44,9 @@ fn kind_number(k: Kind) -> u64
 
 // One slot: its vector and its numbers into their places; answers its code, which is 0 without a job.
 fn hand_slot(a: Answer, used: bool, vector: &mut [i16], numbers: &mut [u64]) -> u32
-    ensures code { result ≡ cond used (answerCode a) 0 }
+    ensures code { result ≡ cond used (answer_code a) 0 }
     ensures vector { vector.new ≡ filled vector.old a.vector }
-    ensures numbers { numbers.new ≡ filled numbers.old (boardNumbers a) }
+    ensures numbers { numbers.new ≡ filled numbers.old (board_numbers a) }
     ensures long { length a.vector ≡ 8 }
 {
     let kind = a.kind;
@@ -75,7 +75,7 @@ fn each_slot(
     requires { (length codes.old ≡ 8) × (length vectors.old ≡ 64) × (length numbers.old ≡ 48) }
     ensures codes { codes.new ≡ codes_of count answers }
     ensures vectors { vectors.new ≡ vectors_of count answers }
-    ensures numbers { numbers.new ≡ numbersOf count answers }
+    ensures numbers { numbers.new ≡ numbers_of count answers }
 {
     let mut i: usize = 0;
     while i < 8 {
@@ -98,15 +98,15 @@ fn hand_over(
     vectors: &mut [i16],
     numbers: &mut [u64],
 ) -> u32
-    requires { boardsLengths (length codes.old) (length budgets.old) (length vectors.old) (length numbers.old) ≡ true }
-    ensures code { result ≡ code_of (checkCall true b.check) }
+    requires { boards_lengths (length codes.old) (length budgets.old) (length vectors.old) (length numbers.old) ≡ true }
+    ensures code { result ≡ code_of (check_call true b.check) }
     ensures codes { codes.new
-        ≡ ifAccepted (checkCall true b.check) (codes_of count b.answers) codes.old }
-    ensures budgets { budgets.new ≡ ifAccepted (checkCall true b.check) b.budgets budgets.old }
+        ≡ if_accepted (check_call true b.check) (codes_of count b.answers) codes.old }
+    ensures budgets { budgets.new ≡ if_accepted (check_call true b.check) b.budgets budgets.old }
     ensures vectors { vectors.new
-        ≡ ifAccepted (checkCall true b.check) (vectors_of count b.answers) vectors.old }
+        ≡ if_accepted (check_call true b.check) (vectors_of count b.answers) vectors.old }
     ensures numbers { numbers.new
-        ≡ ifAccepted (checkCall true b.check) (numbersOf count b.answers) numbers.old }
+        ≡ if_accepted (check_call true b.check) (numbers_of count b.answers) numbers.old }
 {
     let check = b.check;
     let answers = b.answers;
@@ -137,19 +137,19 @@ pub fn boards(
     numbers: &mut [u64],
 ) -> u32
     ensures code { result
-        ≡ code_of (boardsCall count total jobs.now stores.now lengths.now table.old
+        ≡ code_of (boards_call count total jobs.now stores.now lengths.now table.old
         bounds.old codes.old budgets.old vectors.old numbers.old) }
     ensures codes { codes.new
-        ≡ codesAfter count total jobs.now stores.now lengths.now table.old
+        ≡ codes_after count total jobs.now stores.now lengths.now table.old
         bounds.old codes.old budgets.old vectors.old numbers.old }
     ensures budgets { budgets.new
-        ≡ budgetsAfter count total jobs.now stores.now lengths.now table.old
+        ≡ budgets_after count total jobs.now stores.now lengths.now table.old
         bounds.old codes.old budgets.old vectors.old numbers.old }
     ensures vectors { vectors.new
-        ≡ vectorsAfter count total jobs.now stores.now lengths.now table.old
+        ≡ vectors_after count total jobs.now stores.now lengths.now table.old
         bounds.old codes.old budgets.old vectors.old numbers.old }
     ensures numbers { numbers.new
-        ≡ numbersAfter count total jobs.now stores.now lengths.now table.old
+        ≡ numbers_after count total jobs.now stores.now lengths.now table.old
         bounds.old codes.old budgets.old vectors.old numbers.old }
     ensures table { TableAfterCall count total jobs.now stores.now lengths.now table.old
         bounds.old codes.old budgets.old vectors.old numbers.old

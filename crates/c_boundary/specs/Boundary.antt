@@ -7,71 +7,71 @@ use Rattle.codes.specs.declared.Outcome.TheVariants.{Value, Refused}
 use Rattle.codes.specs.declared.Refusal.{Refusal}
 use Rattle.codes.specs.declared.Refusal.TheVariants.{Length, Shape, Scale, Loss, Box, Start, Stray, Table, Answer, Short, Beacon, OffGrid}
 use Rattle.codes.specs.declared.Refusal.TheVariants.{Rounds, Bounds, Order, Clash, Window, Jobs}
-use Rattle.codes.specs.Codes.{number_of, unlessRefused}
+use Rattle.codes.specs.Codes.{number_of, unless_refused}
 use Rattle.jobs.specs.declared.Job.{Job}
 use Rattle.jobs.specs.declared.Model.{Model}
 use Rattle.list_rows.specs.Rows.{row_at}
-use Rattle.c_buffers.specs.Buffers.{vectorFrom}
+use Rattle.c_buffers.specs.Buffers.{vector_from}
 
 -- n, d, S, p and ε, "a byte each" but for ε
-abbrev pub modelOf : ℕ → ℕ → ℕ → ℕ → ℕ → Model
-modelOf n d scale p eps = record { n = n; d = d; scale = scale; p = p; eps = eps }
+abbrev pub model_of : ℕ → ℕ → ℕ → ℕ → ℕ → Model
+model_of n d scale p eps = record { n = n; d = d; scale = scale; p = p; eps = eps }
 
 -- A job from its numbers, a box of 16 numbers, low then high, and the start vector.
-abbrev pub jobFrom : Model → ℕ → ℕ → ℕ → List ℤ → List ℤ → Job
-jobFrom m t budget rows corners start =
-    record { model = m; t = t; budget = budget; rows = rows; domain = row_at corners 0; start = vectorFrom start }
+abbrev pub job_from : Model → ℕ → ℕ → ℕ → List ℤ → List ℤ → Job
+job_from m t budget rows corners start =
+    record { model = m; t = t; budget = budget; rows = rows; domain = row_at corners 0; start = vector_from start }
 
 -- A call has buffers of the wrong length, or comes to an outcome of the product.
 pub data Call : Type 0 where
-  wrongLength : Call
+  wrong_length : Call
   answered : Outcome → Call
 
 -- The product is asked only if the lengths are right.
-abbrev pub ifLengths : Bool → Outcome → Call
-ifLengths true o = answered o
-ifLengths false o = wrongLength
+abbrev pub if_lengths : Bool → Outcome → Call
+if_lengths true o = answered o
+if_lengths false o = wrong_length
 
 -- A call that answers no number: its check alone tells what it comes to, and the 0 is stored nowhere.
-abbrev pub checkCall : Bool → Check → Call
-checkCall lengths check = ifLengths lengths (unlessRefused check 0)
+abbrev pub check_call : Bool → Check → Call
+check_call lengths check = if_lengths lengths (unless_refused check 0)
 
 -- "every refusal but 7 returns the number alone"; 7 "returns that record's number too".
-abbrev pub strayRecord : Refusal → ℕ
-strayRecord Length = 0
-strayRecord Shape = 0
-strayRecord Scale = 0
-strayRecord Loss = 0
-strayRecord Box = 0
-strayRecord Start = 0
-strayRecord (Stray record-number) = record-number
-strayRecord Table = 0
-strayRecord Answer = 0
-strayRecord Short = 0
-strayRecord Beacon = 0
-strayRecord OffGrid = 0
-strayRecord Rounds = 0
-strayRecord Bounds = 0
-strayRecord Order = 0
-strayRecord Clash = 0
-strayRecord Window = 0
-strayRecord Jobs = 0
+abbrev pub stray_record : Refusal → ℕ
+stray_record Length = 0
+stray_record Shape = 0
+stray_record Scale = 0
+stray_record Loss = 0
+stray_record Box = 0
+stray_record Start = 0
+stray_record (Stray record-number) = record-number
+stray_record Table = 0
+stray_record Answer = 0
+stray_record Short = 0
+stray_record Beacon = 0
+stray_record OffGrid = 0
+stray_record Rounds = 0
+stray_record Bounds = 0
+stray_record Order = 0
+stray_record Clash = 0
+stray_record Window = 0
+stray_record Jobs = 0
 
 -- The code: 0 for a value; of a refusal its number in the lowest 8 of 32 bits and the record's number in the other 24, where every record's
 -- number of a store fits (`Told` in Laws); or 255, which the paper's table does not have.
 abbrev pub code_of : Call → ℕ
-code_of wrongLength = 255
+code_of wrong_length = 255
 code_of (answered (Value v)) = 0
-code_of (answered (Refused r)) = number_of r + 256 * (strayRecord r % 16777216)
+code_of (answered (Refused r)) = number_of r + 256 * (stray_record r % 16777216)
 
 -- What lent memory holds after a call: what the call gives, if it is accepted, and else what it held.
-abbrev pub ifAccepted : {A : Type 0} → Call → A → A → A
-ifAccepted wrongLength given held = held
-ifAccepted (answered (Value v)) given held = given
-ifAccepted (answered (Refused r)) given held = held
+abbrev pub if_accepted : {A : Type 0} → Call → A → A → A
+if_accepted wrong_length given held = held
+if_accepted (answered (Value v)) given held = given
+if_accepted (answered (Refused r)) given held = held
 
 -- What the lent number holds after a call: the value, or what it held.
-abbrev pub valueAfter : Call → ℕ → ℕ
-valueAfter wrongLength held = held
-valueAfter (answered (Value v)) held = v
-valueAfter (answered (Refused r)) held = held
+abbrev pub value_after : Call → ℕ → ℕ
+value_after wrong_length held = held
+value_after (answered (Value v)) held = v
+value_after (answered (Refused r)) held = held

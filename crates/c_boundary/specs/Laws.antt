@@ -6,7 +6,7 @@ use Rattle.codes.specs.declared.Outcome.TheVariants.{Refused}
 use Rattle.codes.specs.declared.Refusal.{Refusal}
 use Rattle.codes.specs.declared.Refusal.TheVariants.{Stray}
 use Rattle.codes.specs.Codes.{number_of}
-use Rattle.points.specs.Points.{points_of, checkStore, checkStray}
+use Rattle.points.specs.Points.{points_of, check_store, check_stray}
 use Rattle.c_boundary.specs.Boundary.{answered, code_of}
 
 -- The remainder by 256 is the refusal's number. 7 "returns that record's number too": the quotient is the record's number, of every store
@@ -15,7 +15,7 @@ pub record Told : Type 0 where
   pub number : (r : Refusal) → code_of (answered (Refused r)) % 256 ≡ number_of r
   pub stray :
       (store : List ℕ) (d k : ℕ) →
-      checkStore (length store) ≡ Pass →
-      checkStray d (points_of store) ≡ Refuse (Stray k) →
+      check_store (length store) ≡ Pass →
+      check_stray d (points_of store) ≡ Refuse (Stray k) →
       code_of (answered (Refused (Stray k))) / 256 ≡ k
   pub apart : (o : Outcome) → code_of (answered o) ≡ 255 → ⊥

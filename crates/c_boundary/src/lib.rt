@@ -1,7 +1,7 @@
 // What the calls for C have in common: a model and a job out of numbers and buffers, and an outcome as a code and a lent number.
 ghost use Rattle.std.specs.Prelude.{◌≡◌, true};
 ghost use Rattle.codes.specs.declared.Outcome.TheVariants.{Refused};
-ghost use Rattle.c_boundary.specs.Boundary.{modelOf, jobFrom, answered, checkCall, strayRecord, code_of, valueAfter};
+ghost use Rattle.c_boundary.specs.Boundary.{model_of, job_from, answered, check_call, stray_record, code_of, value_after};
 
 use codes::{Check, Outcome, Refusal};
 use jobs::{Job, Model};
@@ -11,7 +11,7 @@ pub const WRONG_LENGTH: u32 = 255;
 
 // The record's number that a refusal carries, or 0.
 fn stray_record(r: Refusal) -> usize
-    ensures { result ≡ strayRecord r }
+    ensures { result ≡ stray_record r }
 {
     match r {
         Refusal::Stray(record) => record,
@@ -28,7 +28,7 @@ pub fn refusal_code(r: Refusal) -> u32
 
 // The code of a call that answers no number.
 pub fn check_code(c: Check) -> u32
-    ensures { result ≡ code_of (checkCall true c) }
+    ensures { result ≡ code_of (check_call true c) }
 {
     match c {
         Check::Pass => 0,
@@ -39,7 +39,7 @@ pub fn check_code(c: Check) -> u32
 // An outcome as this interface hands it over: the value goes into the lent number, which a refusal keeps.
 pub fn settle(o: Outcome, value: &mut u64) -> u32
     ensures code { result ≡ code_of (answered o) }
-    ensures value { value.new ≡ valueAfter (answered o) value.old }
+    ensures value { value.new ≡ value_after (answered o) value.old }
 {
     match o {
         Outcome::Value(v) => {
@@ -51,7 +51,7 @@ pub fn settle(o: Outcome, value: &mut u64) -> u32
 }
 
 pub fn model_of(n: u8, d: u8, scale: u8, p: u8, eps: u32) -> Model
-    ensures { result ≡ modelOf n d scale p eps }
+    ensures { result ≡ model_of n d scale p eps }
 {
     Model {
         n,
@@ -63,7 +63,7 @@ pub fn model_of(n: u8, d: u8, scale: u8, p: u8, eps: u32) -> Model
 }
 
 pub fn job_of(m: Model, t: u64, budget: u32, rows: u32, corners: &[i16], start: &[i16]) -> Job
-    ensures { result ≡ jobFrom m t budget rows corners.now start.now }
+    ensures { result ≡ job_from m t budget rows corners.now start.now }
 {
     let domain = list_rows::read_row(corners, 0);
     let first = c_buffers::vector_of(start);

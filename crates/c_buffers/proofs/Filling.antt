@@ -20,7 +20,7 @@ laid_more out from k z inside more =
     rw (e, s) at (paste-suc out 0 from k z within more)
 
 -- Where the lengths agree, all elements laid are the whole buffer.
-pub laid-whole : {A : Type 0} (out from : List A) → length out ≡ length from → laid out from (length from) ≡ from
-laid-whole out from same =
+pub laid_whole : {A : Type 0} (out from : List A) → length out ≡ length from → laid out from (length from) ≡ from
+laid_whole out from same =
     let nothing : drop (length from) out ≡ [] = ap (λ k. drop k out) (sym same) ∙ drop-length out in
     rw (take-length from, nothing) (append-nil from)

@@ -12,9 +12,9 @@ module _ {A : Type 0} (z : A) where
   elements v k zero = []
   elements v k (suc n) = get_or v k z ∷ elements v (suc k) n
 
-  pub elements-rest : (v : List A) (k n : ℕ) → k + n ≡ length v → elements v k n ≡ drop k v
-  elements-rest v k zero e =
+  pub elements_rest : (v : List A) (k n : ℕ) → k + n ≡ length v → elements v k n ≡ drop k v
+  elements_rest v k zero e =
       let end : k ≡ length v = omega arith in
       sym (ap (λ (j : ℕ). drop j v) end ∙ drop-length v)
-  elements-rest v k (suc n) e =
-      ap (λ (r : List A). get_or v k z ∷ r) (elements-rest v (suc k) n (omega arith)) ∙ sym (drop-cons v k z (omega arith))
+  elements_rest v k (suc n) e =
+      ap (λ (r : List A). get_or v k z ∷ r) (elements_rest v (suc k) n (omega arith)) ∙ sym (drop-cons v k z (omega arith))

@@ -6,8 +6,8 @@ abbrev pub exactly : {A : Type 0} → ℕ → A → List A → List A
 exactly k zero v = cond (eqb (length v) k) v (replicate k zero)
 
 -- a vector is a buffer of 8 numbers
-abbrev pub vectorFrom : List ℤ → List ℤ
-vectorFrom v = exactly 8 (pos 0) v
+abbrev pub vector_from : List ℤ → List ℤ
+vector_from v = exactly 8 (pos 0) v
 
 -- A buffer of just as many elements takes all of them; any other is kept.
 abbrev pub filled : {A : Type 0} → List A → List A → List A

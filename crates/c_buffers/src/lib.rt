@@ -1,10 +1,10 @@
 // Values out of the lent buffers of the calls for C, and elements into them.
 ghost use Rattle.std.specs.Prelude.{◌≡◌, pos};
-ghost use Rattle.c_buffers.specs.Buffers.{exactly, vectorFrom, filled};
+ghost use Rattle.c_buffers.specs.Buffers.{exactly, vector_from, filled};
 
 // A vector out of a buffer.
 pub fn vector_of(v: &[i16]) -> [i16; 8]
-    ensures { result ≡ vectorFrom v.now }
+    ensures { result ≡ vector_from v.now }
 {
     if v.len() != 8 {
         return [0i16; 8];

@@ -10,25 +10,25 @@ use lib.ListN.{length}
 use Rattle.registers.specs.Registers.{written}
 use Rattle.c_boundary.specs.Boundary.{code_of}
 use Rattle.bus_registers.specs.Written.{TableWritten, BoundsWritten, WriteCertified}
-use Rattle.c_bus.specs.Calls.{registersRight, registersCall, registersAfterWrite, TableAfterWrite, BoundsAfterWrite, CertifiedWrite}
+use Rattle.c_bus.specs.Calls.{registers_right, registers_call, registers_after_write, TableAfterWrite, BoundsAfterWrite, CertifiedWrite}
 
 module _ (registers : List ℕ) (offset value : ℕ) (store : List ℕ) (table : List ℤ) (bounds : List ℕ) where
   abbrev pub Called : ℕ → List ℕ → List ℤ → List ℕ → Type 0
   Called k q u e =
-      (k ≡ code_of (registersCall registers))
-      × ((q ≡ registersAfterWrite registers offset value store table bounds)
+      (k ≡ code_of (registers_call registers))
+      × ((q ≡ registers_after_write registers offset value store table bounds)
       × (TableAfterWrite registers offset value store table bounds u
       × (BoundsAfterWrite registers offset value store table bounds e
       × (k ≡ 0 → CertifiedWrite registers offset value store table bounds q))))
 
-  pub wrong-length : (length registers ≡ 136 → ⊥) → Called 255 registers table bounds
-  wrong-length other =
-      let wrong : registersRight registers ≡ false = ne_eqb (length registers) 136 other in
+  pub wrong_length_lem : (length registers ≡ 136 → ⊥) → Called 255 registers table bounds
+  wrong_length_lem other =
+      let wrong : registers_right registers ≡ false = ne_eqb (length registers) 136 other in
       let kept_table : TableAfterWrite registers offset value store table bounds table =
       record { taken = λ right. absurd (true≢false (sym right ∙ wrong)); kept = λ h. refl } in
-      let kept-bounds : BoundsAfterWrite registers offset value store table bounds bounds =
+      let kept_bounds : BoundsAfterWrite registers offset value store table bounds bounds =
       record { taken = λ right. absurd (true≢false (sym right ∙ wrong)); kept = λ h. refl } in
-      (rw wrong, (rw wrong, (kept_table, (kept-bounds, λ e. absurd (omega arith)))))
+      (rw wrong, (rw wrong, (kept_table, (kept_bounds, λ e. absurd (omega arith)))))
 
   -- what the write says of the registers s, which are those of the buffer
   abbrev Said : List ℕ → List ℕ → List ℤ → List ℕ → Type 0
@@ -37,15 +37,15 @@ module _ (registers : List ℕ) (offset value : ℕ) (store : List ℕ) (table :
       × (TableWritten s offset value store table bounds u
       × (BoundsWritten s offset value store table bounds e × WriteCertified s offset value store table bounds q))
 
-  pub right-length :
+  pub right_length :
       (s q q' : List ℕ) (u : List ℤ) (e : List ℕ) → length registers ≡ 136 → s ≡ registers → q' ≡ q → Said s q u e → Called 0 q' u e
-  right-length s q q' u e long same put said =
-      let right : registersRight registers ≡ true = eq-eqb (length registers) 136 long in
+  right_length s q q' u e long same put said =
+      let right : registers_right registers ≡ true = eq-eqb (length registers) 136 long in
       let here : Said registers q u e = subst (λ (x : List ℕ). Said x q u e) same said in
-      let now-table : TableAfterWrite registers offset value store table bounds u =
+      let now_table : TableAfterWrite registers offset value store table bounds u =
       record { taken = λ h. here.1.0; kept = λ wrong. absurd (true≢false (sym right ∙ wrong)) } in
-      let now-bounds : BoundsAfterWrite registers offset value store table bounds e =
+      let now_bounds : BoundsAfterWrite registers offset value store table bounds e =
       record { taken = λ h. here.1.1.0; kept = λ wrong. absurd (true≢false (sym right ∙ wrong)) } in (
         rw right,
-        (rw right (put ∙ here.0), (now-table, (now-bounds, λ k. rw put here.1.1.1))),
+        (rw right (put ∙ here.0), (now_table, (now_bounds, λ k. rw put here.1.1.1))),
       )

@@ -1,8 +1,8 @@
 // The registers of the fitter on the data bus for C: the caller keeps their 136 bytes.
 ghost use Rattle.std.specs.Prelude.{◌≡◌, length};
-ghost use Rattle.c_boundary.specs.Boundary.{code_of, valueAfter, ifAccepted};
+ghost use Rattle.c_boundary.specs.Boundary.{code_of, value_after, if_accepted};
 ghost use Rattle.registers.specs.Registers.{cleared};
-ghost use Rattle.c_bus.specs.Calls.{registersCall, readCall, registersAfterWrite, TableAfterWrite, BoundsAfterWrite, CertifiedWrite};
+ghost use Rattle.c_bus.specs.Calls.{registers_call, read_call, registers_after_write, TableAfterWrite, BoundsAfterWrite, CertifiedWrite};
 
 use bus_registers::Registers;
 use c_boundary::WRONG_LENGTH;
@@ -28,9 +28,9 @@ fn put_registers(buffer: &mut [u8], r: Registers)
 
 // Resets the registers.
 pub fn reset(registers: &mut [u8]) -> u32
-    ensures code { result ≡ code_of (registersCall registers.old) }
+    ensures code { result ≡ code_of (registers_call registers.old) }
     ensures registers { registers.new
-        ≡ ifAccepted (registersCall registers.old) cleared registers.old }
+        ≡ if_accepted (registers_call registers.old) cleared registers.old }
 {
     if registers.len() != 136 {
         return WRONG_LENGTH;
@@ -41,8 +41,8 @@ pub fn reset(registers: &mut [u8]) -> u32
 
 // Reads the byte at an offset.
 pub fn read_register(registers: &[u8], offset: usize, value: &mut u64) -> u32
-    ensures code { result ≡ code_of (readCall registers.now offset) }
-    ensures value { value.new ≡ valueAfter (readCall registers.now offset) value.old }
+    ensures code { result ≡ code_of (read_call registers.now offset) }
+    ensures value { value.new ≡ value_after (read_call registers.now offset) value.old }
 {
     if registers.len() != 136 {
         return WRONG_LENGTH;
@@ -60,9 +60,9 @@ pub fn write_register(
     table: &mut [i16],
     bounds: &mut [u64],
 ) -> u32
-    ensures code { result ≡ code_of (registersCall registers.old) }
+    ensures code { result ≡ code_of (registers_call registers.old) }
     ensures registers { registers.new
-        ≡ registersAfterWrite registers.old offset value store.now table.old bounds.old }
+        ≡ registers_after_write registers.old offset value store.now table.old bounds.old }
     ensures table { TableAfterWrite registers.old offset value store.now table.old bounds.old
         table.new }
     ensures bounds { BoundsAfterWrite registers.old offset value store.now table.old bounds.old

@@ -2,19 +2,19 @@
 -- table. Lengths are looked at before every other check.
 use Rattle.std.specs.Prelude.{List, ℕ, eqb, ℤ, length}
 use Rattle.jobs.specs.declared.Model.{Model}
-use Rattle.loss.specs.Loss.{lossAnswer}
-use Rattle.costs.specs.Answers.{costAnswer, boundAnswer}
+use Rattle.loss.specs.Loss.{loss_answer}
+use Rattle.costs.specs.Answers.{cost_answer, bound_answer}
 use Rattle.list_rows.specs.Rows.{row_at}
-use Rattle.c_boundary.specs.Boundary.{Call, ifLengths, answered}
+use Rattle.c_boundary.specs.Boundary.{Call, if_lengths, answered}
 
 -- the loss of a residual: no buffer
-abbrev pub lossCall : ℕ → ℕ → ℤ → Call
-lossCall p ε e = answered (lossAnswer p ε e)
+abbrev pub loss_call : ℕ → ℕ → ℤ → Call
+loss_call p ε e = answered (loss_answer p ε e)
 
 -- the cost of a vector
-abbrev pub costCall : List ℕ → Model → List ℤ → Call
-costCall store m v = ifLengths (eqb (length v) 8) (costAnswer store m v)
+abbrev pub cost_call : List ℕ → Model → List ℤ → Call
+cost_call store m v = if_lengths (eqb (length v) 8) (cost_answer store m v)
 
 -- the bound of a box
-abbrev pub boundCall : List ℕ → Model → List ℤ → Call
-boundCall store m row = ifLengths (eqb (length row) 16) (boundAnswer store m (row_at row 0))
+abbrev pub bound_call : List ℕ → Model → List ℤ → Call
+bound_call store m row = if_lengths (eqb (length row) 16) (bound_answer store m (row_at row 0))

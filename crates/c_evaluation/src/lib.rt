@@ -1,15 +1,15 @@
 // Losses, costs and bounds for C.
 ghost use Rattle.std.specs.Prelude.{◌≡◌};
-ghost use Rattle.c_boundary.specs.Boundary.{modelOf, code_of, valueAfter};
-ghost use Rattle.c_evaluation.specs.Calls.{lossCall, costCall, boundCall};
+ghost use Rattle.c_boundary.specs.Boundary.{model_of, code_of, value_after};
+ghost use Rattle.c_evaluation.specs.Calls.{loss_call, cost_call, bound_call};
 
 use c_boundary::{WRONG_LENGTH, model_of, settle};
 use c_buffers::vector_of;
 
 // The loss of a residual e.
 pub fn loss(p: u8, eps: u32, e: i64, value: &mut u64) -> u32
-    ensures code { result ≡ code_of (lossCall p eps e) }
-    ensures value { value.new ≡ valueAfter (lossCall p eps e) value.old }
+    ensures code { result ≡ code_of (loss_call p eps e) }
+    ensures value { value.new ≡ value_after (loss_call p eps e) value.old }
 {
     settle(loss::loss(p, eps, e), value)
 }
@@ -25,9 +25,9 @@ pub fn cost(
     vector: &[i16],
     value: &mut u64,
 ) -> u32
-    ensures code { result ≡ code_of (costCall store.now (modelOf n d scale p eps) vector.now) }
+    ensures code { result ≡ code_of (cost_call store.now (model_of n d scale p eps) vector.now) }
     ensures value { value.new
-        ≡ valueAfter (costCall store.now (modelOf n d scale p eps) vector.now) value.old }
+        ≡ value_after (cost_call store.now (model_of n d scale p eps) vector.now) value.old }
 {
     if vector.len() != 8 {
         return WRONG_LENGTH;
@@ -49,9 +49,9 @@ pub fn bound(
     corners: &[i16],
     value: &mut u64,
 ) -> u32
-    ensures code { result ≡ code_of (boundCall store.now (modelOf n d scale p eps) corners.now) }
+    ensures code { result ≡ code_of (bound_call store.now (model_of n d scale p eps) corners.now) }
     ensures value { value.new
-        ≡ valueAfter (boundCall store.now (modelOf n d scale p eps) corners.now) value.old }
+        ≡ value_after (bound_call store.now (model_of n d scale p eps) corners.now) value.old }
 {
     if corners.len() != 16 {
         return WRONG_LENGTH;

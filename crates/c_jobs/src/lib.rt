@@ -2,9 +2,9 @@
 ghost use Rattle.std.specs.Prelude.{◌≡◌, length};
 ghost use Rattle.list_rows.specs.Rows.{with_row};
 ghost use Rattle.c_buffers.specs.Buffers.{filled};
-ghost use Rattle.c_boundary.specs.Boundary.{modelOf, code_of};
-ghost use Rattle.c_jobs.specs.Calls.{jobLengths, jobNumbers, readJobCall, jobNumbersAfter, cornersAfter, startAfter};
-ghost use Rattle.c_jobs.specs.Calls.{regionLengths, writeJobCall, jobRecordAfter};
+ghost use Rattle.c_boundary.specs.Boundary.{model_of, code_of};
+ghost use Rattle.c_jobs.specs.Calls.{job_lengths, job_numbers, read_job_call, job_numbers_after, corners_after, start_after};
+ghost use Rattle.c_jobs.specs.Calls.{region_lengths, write_job_call, job_record_after};
 
 use c_boundary::{WRONG_LENGTH, check_code, job_of, model_of, refusal_code};
 use c_buffers::{fill_coordinates, fill_numbers};
@@ -12,20 +12,20 @@ use codes::Check;
 use jobs::Job;
 
 fn job_lengths_right(numbers: usize, corners: usize, start: usize) -> bool
-    ensures { result ≡ jobLengths numbers corners start }
+    ensures { result ≡ job_lengths numbers corners start }
 {
     (numbers == 8) & (corners == 16) & (start == 8)
 }
 
 fn region_lengths_right(corners: usize, start: usize) -> bool
-    ensures { result ≡ regionLengths corners start }
+    ensures { result ≡ region_lengths corners start }
 {
     (corners == 16) & (start == 8)
 }
 
 // A job into its three buffers.
 fn lay_job(j: Job, numbers: &mut [u64], corners: &mut [i16], start: &mut [i16])
-    ensures numbers { numbers.new ≡ filled numbers.old (jobNumbers j) }
+    ensures numbers { numbers.new ≡ filled numbers.old (job_numbers j) }
     ensures corners { corners.new ≡ with_row corners.old 0 j.domain }
     ensures start { start.new ≡ filled start.old j.start }
     ensures long { length j.start ≡ 8 }
@@ -51,13 +51,13 @@ fn lay_job(j: Job, numbers: &mut [u64], corners: &mut [i16], start: &mut [i16])
 // Reads the job record in the first 72 bytes.
 pub fn read_job(bytes: &[u8], numbers: &mut [u64], corners: &mut [i16], start: &mut [i16]) -> u32
     ensures code { result
-        ≡ code_of (readJobCall bytes.now numbers.old corners.old start.old) }
+        ≡ code_of (read_job_call bytes.now numbers.old corners.old start.old) }
     ensures numbers { numbers.new
-        ≡ jobNumbersAfter bytes.now numbers.old corners.old start.old }
+        ≡ job_numbers_after bytes.now numbers.old corners.old start.old }
     ensures corners { corners.new
-        ≡ cornersAfter bytes.now numbers.old corners.old start.old }
+        ≡ corners_after bytes.now numbers.old corners.old start.old }
     ensures start { start.new
-        ≡ startAfter bytes.now numbers.old corners.old start.old }
+        ≡ start_after bytes.now numbers.old corners.old start.old }
 {
     if !job_lengths_right(numbers.len(), corners.len(), start.len()) {
         return WRONG_LENGTH;
@@ -88,9 +88,9 @@ pub fn write_job(
     start: &[i16],
     bytes: &mut [u8],
 ) -> u32
-    ensures code { result ≡ code_of (writeJobCall corners.now start.now bytes.old) }
+    ensures code { result ≡ code_of (write_job_call corners.now start.now bytes.old) }
     ensures bytes { bytes.new
-        ≡ jobRecordAfter (modelOf n d scale p eps) t budget rows corners.now start.now bytes.old }
+        ≡ job_record_after (model_of n d scale p eps) t budget rows corners.now start.now bytes.old }
 {
     if !region_lengths_right(corners.len(), start.len()) {
         return WRONG_LENGTH;

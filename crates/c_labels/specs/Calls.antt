@@ -2,13 +2,13 @@
 -- refusal 10.
 use Rattle.std.specs.Prelude.{cond, List, ℕ, eqb, ℤ, length}
 use Rattle.jobs.specs.declared.Model.{Model}
-use Rattle.labels.specs.Labels.{labelsAnswer, labelled}
-use Rattle.c_boundary.specs.Boundary.{Call, ifLengths}
+use Rattle.labels.specs.Labels.{labels_answer, labelled}
+use Rattle.c_boundary.specs.Boundary.{Call, if_lengths}
 
 -- the number of labels, or what refuses
-abbrev pub labelsCall : List ℕ → Model → List ℤ → List ℕ → Call
-labelsCall store m v out = ifLengths (eqb (length v) 8) (labelsAnswer store m v out)
+abbrev pub labels_call : List ℕ → Model → List ℤ → List ℕ → Call
+labels_call store m v out = if_lengths (eqb (length v) 8) (labels_answer store m v out)
 
 -- the lent labels afterwards
-abbrev pub labelsAfter : List ℕ → Model → List ℤ → List ℕ → List ℕ
-labelsAfter store m v out = cond (eqb (length v) 8) (labelled store m v out) out
+abbrev pub labels_after : List ℕ → Model → List ℤ → List ℕ → List ℕ
+labels_after store m v out = cond (eqb (length v) 8) (labelled store m v out) out

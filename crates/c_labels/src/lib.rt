@@ -1,7 +1,7 @@
 // Labels for C.
 ghost use Rattle.std.specs.Prelude.{◌≡◌};
-ghost use Rattle.c_boundary.specs.Boundary.{modelOf, code_of, valueAfter};
-ghost use Rattle.c_labels.specs.Calls.{labelsCall, labelsAfter};
+ghost use Rattle.c_boundary.specs.Boundary.{model_of, code_of, value_after};
+ghost use Rattle.c_labels.specs.Calls.{labels_call, labels_after};
 
 use c_boundary::{WRONG_LENGTH, model_of, settle};
 use c_buffers::vector_of;
@@ -19,12 +19,12 @@ pub fn labels(
     value: &mut u64,
 ) -> u32
     ensures code { result
-        ≡ code_of (labelsCall store.now (modelOf n d scale p eps) vector.now labels.old) }
+        ≡ code_of (labels_call store.now (model_of n d scale p eps) vector.now labels.old) }
     ensures value { value.new
-        ≡ valueAfter (labelsCall store.now (modelOf n d scale p eps) vector.now labels.old)
+        ≡ value_after (labels_call store.now (model_of n d scale p eps) vector.now labels.old)
         value.old }
     ensures labels { labels.new
-        ≡ labelsAfter store.now (modelOf n d scale p eps) vector.now labels.old }
+        ≡ labels_after store.now (model_of n d scale p eps) vector.now labels.old }
 {
     if vector.len() != 8 {
         return WRONG_LENGTH;

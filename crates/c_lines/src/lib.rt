@@ -1,22 +1,22 @@
 // Lines of coefficients for C, each coefficient by the bit pattern of its single-precision number.
 ghost use Rattle.std.specs.Prelude.{◌≡◌};
 ghost use Rattle.c_boundary.specs.Boundary.{code_of};
-ghost use Rattle.c_lines.specs.Calls.{lineLengths, writeLineCall, patternsAfter, readLineCall, coordinatesAfter};
+ghost use Rattle.c_lines.specs.Calls.{line_lengths, write_line_call, patterns_after, read_line_call, coordinates_after};
 
 use c_boundary::{WRONG_LENGTH, refusal_code};
 use c_buffers::{coordinates_of, fill_coordinates, fill_patterns, patterns_of};
 use codes::Check;
 
 fn lengths_right(coordinates: usize, patterns: usize) -> bool
-    ensures { result ≡ lineLengths coordinates patterns }
+    ensures { result ≡ line_lengths coordinates patterns }
 {
     (coordinates == 4) & (patterns == 4)
 }
 
 // Writes a line: the patterns of its four coefficients.
 pub fn write_line(d: u8, scale: u8, coordinates: &[i16], patterns: &mut [u32]) -> u32
-    ensures code { result ≡ code_of (writeLineCall d scale coordinates.now patterns.old) }
-    ensures patterns { patterns.new ≡ patternsAfter d scale coordinates.now patterns.old }
+    ensures code { result ≡ code_of (write_line_call d scale coordinates.now patterns.old) }
+    ensures patterns { patterns.new ≡ patterns_after d scale coordinates.now patterns.old }
 {
     if !lengths_right(coordinates.len(), patterns.len()) {
         return WRONG_LENGTH;
@@ -36,8 +36,8 @@ pub fn write_line(d: u8, scale: u8, coordinates: &[i16], patterns: &mut [u32]) -
 
 // Reads a line from the patterns of its four coefficients.
 pub fn read_line(d: u8, scale: u8, patterns: &[u32], coordinates: &mut [i16]) -> u32
-    ensures code { result ≡ code_of (readLineCall d scale coordinates.old patterns.now) }
-    ensures coordinates { coordinates.new ≡ coordinatesAfter d scale coordinates.old patterns.now }
+    ensures code { result ≡ code_of (read_line_call d scale coordinates.old patterns.now) }
+    ensures coordinates { coordinates.new ≡ coordinates_after d scale coordinates.old patterns.now }
 {
     if !lengths_right(coordinates.len(), patterns.len()) {
         return WRONG_LENGTH;

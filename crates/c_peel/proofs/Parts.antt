@@ -6,37 +6,37 @@ use native.Mathlib.Omega.{arith}
 use lib.ListN.{length, take, drop, get_or, length-append, length-drop, drop_of_length-le}
 use lib.Seq.{length-take-le, take_at, take-length, take_all, take-suc, drop-drop, drop-append-add}
 use Rattle.c_buffers.specs.Buffers.{filled}
-use Rattle.c_buffers.proofs.Buffers.{filled-whole}
+use Rattle.c_buffers.proofs.Buffers.{filled_whole}
 use Rattle.c_peel.specs.Inside.{laid}
 
 -- a part that a leaf filled
-pub laid-part : {A : Type 0} (out from part : List A) (a n : ℕ) → n ≡ length from → a + length from ≤ length out →
+pub laid_part : {A : Type 0} (out from part : List A) (a n : ℕ) → n ≡ length from → a + length from ≤ length out →
     part ≡ filled (take n (drop a out)) from → take a out ++ (part ++ drop n (drop a out)) ≡ laid out a from
-laid-part {A = A} out from part a n e h w =
+laid_part {A = A} out from part a n e h w =
     let room : length (take n (drop a out)) ≡ length from = length-take-le n (drop a out) (omega (arith, length-drop a out)) ∙ e in
-    ap₂ (λ (x y : List A). take a out ++ (x ++ y)) (w ∙ filled-whole (take n (drop a out)) from room)
+    ap₂ (λ (x y : List A). take a out ++ (x ++ y)) (w ∙ filled_whole (take n (drop a out)) from room)
     (drop-drop n a out ∙ ap (λ (k : ℕ). drop (a + k) out) e)
 
 -- one more part at the end
-flatten-more : {A : Type 0} (xs : List (List A)) (x : List A) → flatten (xs ++ (x ∷ [])) ≡ flatten xs ++ x
+flatten_more : {A : Type 0} (xs : List (List A)) (x : List A) → flatten (xs ++ (x ∷ [])) ≡ flatten xs ++ x
 unfolding flatten
-flatten-more [] x = append-nil x
-flatten-more {A = A} (y ∷ xs) x = ap (λ (l : List A). y ++ l) (flatten-more xs x) ∙ sym (append_assoc y (flatten xs) x)
+flatten_more [] x = append-nil x
+flatten_more {A = A} (y ∷ xs) x = ap (λ (l : List A). y ++ l) (flatten_more xs x) ∙ sym (append_assoc y (flatten xs) x)
 
 module _ {A : Type 0} {B : Type 0} (f : A → List B) (parts : List A) (old : List B) where
   pub record Laid (k n : ℕ) (out : List B) : Type 0 where
     pub long : length (flatten (map f (take k parts))) ≡ n
     pub whole : out ≡ flatten (map f (take k parts)) ++ drop n old
 
-  pub none-laid : Laid 0 0 old
+  pub none_laid : Laid 0 0 old
   unfolding flatten
-  none-laid = record { long = refl; whole = refl }
+  none_laid = record { long = refl; whole = refl }
 
-  pub one-laid : (k n n' : ℕ) (out after : List B) (d : A) → k < length parts → n' ≡ n + length (f (get_or parts k d)) →
+  pub one_laid : (k n n' : ℕ) (out after : List B) (d : A) → k < length parts → n' ≡ n + length (f (get_or parts k d)) →
       after ≡ laid out n (f (get_or parts k d)) →
       Laid k n out →
       Laid (k + 1) n' after
-  one-laid k n n' out after d h w l g =
+  one_laid k n n' out after d h w l g =
       let a = get_or parts k d in
       let before = flatten (map f (take k parts)) in
       let next : flatten (map f (take (k + 1) parts)) ≡ before ++ f a =
@@ -44,7 +44,7 @@ module _ {A : Type 0} {B : Type 0} (f : A → List B) (parts : List A) (old : Li
       ap (λ (xs : List A). flatten (map f xs))
       (ap (λ (j : ℕ). take j parts) plus ∙ take-suc parts k d h)
       ∙ ap flatten (map-append f (take k parts) (a ∷ []))
-      ∙ flatten-more (map f (take k parts)) (f a) in
+      ∙ flatten_more (map f (take k parts)) (f a) in
       let behind : drop (n + length (f a)) out ≡ drop (n + length (f a)) old =
       ap (drop (n + length (f a))) g.whole
       ∙ ap (λ (j : ℕ). drop (j + length (f a)) (before ++ drop n old)) (sym g.long)
@@ -59,8 +59,8 @@ module _ {A : Type 0} {B : Type 0} (f : A → List B) (parts : List A) (old : Li
             ∙ ap₂ (λ (x : List B) (j : ℕ). x ++ drop j old) (sym next) (sym w);
       }
 
-  pub still-long : (k n : ℕ) (out : List B) → n ≤ length old → Laid k n out → length out ≡ length old
-  still-long k n out h g =
+  pub still_long : (k n : ℕ) (out : List B) → n ≤ length old → Laid k n out → length out ≡ length old
+  still_long k n out h g =
       ap length g.whole
       ∙ length-append (flatten (map f (take k parts))) (drop n old)
       ∙ omega (arith, g.long, length-drop n old)

@@ -3,36 +3,36 @@ use Rattle.std.specs.Prelude.{◌≡◌, Bool, true, false, cond, ◌&&◌, ℕ,
 use mathlib.Core.List.{List, [], ◌∷◌, map, flatten}
 use Rattle.codes.specs.declared.Check.TheVariants.{Pass}
 use Rattle.codes.specs.declared.Outcome.{Outcome}
-use Rattle.codes.specs.Codes.{unlessRefused}
+use Rattle.codes.specs.Codes.{unless_refused}
 use Rattle.jobs.specs.declared.Job.{Job}
 use Rattle.jobs.specs.declared.Model.{Model}
 use Rattle.points.specs.Points.{points_of}
-use Rattle.list_rows.specs.Rows.{rowCount}
+use Rattle.list_rows.specs.Rows.{row_count}
 use Rattle.search.specs.declared.Answer.{Answer}
-use Rattle.search.specs.Search.{kindNumber}
+use Rattle.search.specs.Search.{kind_number}
 use Rattle.rounds.specs.Laws.{Peeling}
 use Rattle.peel.specs.declared.Peeled.{Peeled}
-use Rattle.peel.specs.Peel.{checkLent, peelAnswer, labelsAfter, TablePeeled, BoundsPeeled}
-use Rattle.c_boundary.specs.Boundary.{Call, ifLengths, ifAccepted, jobFrom}
+use Rattle.peel.specs.Peel.{check_lent, peel_answer, labels_after, TablePeeled, BoundsPeeled}
+use Rattle.c_boundary.specs.Boundary.{Call, if_lengths, if_accepted, job_from}
 
 -- the number of rounds, or the refusal
-abbrev pub outcomeOf : Peeled → Outcome
-outcomeOf r = unlessRefused r.check r.rounds
+abbrev pub outcome_of : Peeled → Outcome
+outcome_of r = unless_refused r.check r.rounds
 
 -- "vector, C, L, count, open boxes and peak" behind the kind: the numbers of a round, 0 where none was run
-abbrev pub roundNumbers : Answer → List ℕ
-roundNumbers a = kindNumber a.kind ∷ a.cost ∷ a.bound ∷ a.count ∷ a.«open» ∷ a.peak ∷ []
+abbrev pub round_numbers : Answer → List ℕ
+round_numbers a = kind_number a.kind ∷ a.cost ∷ a.bound ∷ a.count ∷ a.«open» ∷ a.peak ∷ []
 
 -- round after round, "the answers of all rounds run are given"
 unfoldable pub vectors_of : List Answer → List ℤ
 vectors_of answers = flatten (map (λ a. a.vector) answers)
 
-unfoldable pub numbersOf : List Answer → List ℕ
-numbersOf answers = flatten (map roundNumbers answers)
+unfoldable pub numbers_of : List Answer → List ℕ
+numbers_of answers = flatten (map round_numbers answers)
 
 -- a box, the start vector, and room for four vectors and four times six numbers
-abbrev pub peelLengths : ℕ → ℕ → ℕ → ℕ → Bool
-peelLengths corners start vectors numbers = eqb corners 16 && eqb start 8 && eqb vectors 32 && eqb numbers 24
+abbrev pub peel_lengths : ℕ → ℕ → ℕ → ℕ → Bool
+peel_lengths corners start vectors numbers = eqb corners 16 && eqb start 8 && eqb vectors 32 && eqb numbers 24
 
 -- What a call is given: r is told by the table, so the rows of a job record are not asked for.
 module _
@@ -41,28 +41,28 @@ module _
   where
     -- whether the lengths are right, the job, and the answer to it
     abbrev right : Bool
-    right = peelLengths (length corners) (length start) (length vectors) (length numbers)
+    right = peel_lengths (length corners) (length start) (length vectors) (length numbers)
 
     abbrev job : Job
-    job = jobFrom m t budget 0 corners start
+    job = job_from m t budget 0 corners start
 
     abbrev told : Peeled
-    told = peelAnswer store job limit table bounds labels
+    told = peel_answer store job limit table bounds labels
 
     -- what the call comes to
-    abbrev pub peelCall : Call
-    peelCall = ifLengths right (outcomeOf told)
+    abbrev pub peel_call : Call
+    peel_call = if_lengths right (outcome_of told)
 
     -- the lent vectors and numbers afterwards
-    abbrev pub vectorsAfter : List ℤ
-    vectorsAfter = ifAccepted peelCall (vectors_of told.answers) vectors
+    abbrev pub vectors_after : List ℤ
+    vectors_after = if_accepted peel_call (vectors_of told.answers) vectors
 
-    abbrev pub numbersAfter : List ℕ
-    numbersAfter = ifAccepted peelCall (numbersOf told.answers) numbers
+    abbrev pub numbers_after : List ℕ
+    numbers_after = if_accepted peel_call (numbers_of told.answers) numbers
 
     -- the labels, as peeling leaves them, or as they were where a length is wrong
-    abbrev pub labelsAfterCall : List ℕ
-    labelsAfterCall = cond right (labelsAfter store job limit table bounds labels) labels
+    abbrev pub labels_after_call : List ℕ
+    labels_after_call = cond right (labels_after store job limit table bounds labels) labels
 
     -- so the table
     pub record TableAfterCall (after : List ℤ) : Type 0 where
@@ -76,10 +76,10 @@ module _
 
     -- What is handed over with the code 0: the job was accepted, what is lent holds its rounds and labels, and of these all is shown that
     -- rounds/specs/Laws.antt says.
-    pub record PeelingCall (newValue : ℕ) (newVectors : List ℤ) (newNumbers newLabels : List ℕ) : Type 0 where
-      pub accepted : checkLent store job limit table bounds labels ≡ Pass
-      pub count : newValue ≡ told.rounds
-      pub lines : newVectors ≡ vectors_of told.answers
-      pub answers : newNumbers ≡ numbersOf told.answers
-      pub labelled : newLabels ≡ labelsAfter store job limit table bounds labels
-      pub shown : Peeling job (rowCount table) limit (points_of store)
+    pub record PeelingCall (new_value : ℕ) (new_vectors : List ℤ) (new_numbers new_labels : List ℕ) : Type 0 where
+      pub accepted : check_lent store job limit table bounds labels ≡ Pass
+      pub count : new_value ≡ told.rounds
+      pub lines : new_vectors ≡ vectors_of told.answers
+      pub answers : new_numbers ≡ numbers_of told.answers
+      pub labelled : new_labels ≡ labels_after store job limit table bounds labels
+      pub shown : Peeling job (row_count table) limit (points_of store)

@@ -1,7 +1,7 @@
 // The answers of rounds, laid into two buffers one after the other.
 ghost use Rattle.std.specs.Prelude.{◌≡◌, ◌+◌, ◌*◌, ◌≤◌, length};
-ghost use Rattle.search.specs.Search.{kindNumber};
-ghost use Rattle.c_peel.specs.Calls.{roundNumbers, vectors_of, numbersOf};
+ghost use Rattle.search.specs.Search.{kind_number};
+ghost use Rattle.c_peel.specs.Calls.{round_numbers, vectors_of, numbers_of};
 ghost use Rattle.c_peel.specs.Inside.{laid};
 
 use c_buffers::{fill_coordinates, fill_numbers};
@@ -9,7 +9,7 @@ use search::{Answer, Kind};
 
 // "kind (1 solved, 2 spent, 3 full)", 0 where no round was run.
 fn kind_number(kind: Kind) -> u64
-    ensures { result ≡ kindNumber kind }
+    ensures { result ≡ kind_number kind }
 {
     match kind {
         Kind::Solved => 1,
@@ -23,7 +23,7 @@ fn kind_number(kind: Kind) -> u64
 fn lay(a: Answer, k: usize, vectors: &mut [i16], numbers: &mut [u64])
     requires { (k * 8 + 8 ≤ length vectors.old) × (k * 6 + 6 ≤ length numbers.old) }
     ensures vectors { vectors.new ≡ laid vectors.old (k * 8) a.vector }
-    ensures numbers { numbers.new ≡ laid numbers.old (k * 6) (roundNumbers a) }
+    ensures numbers { numbers.new ≡ laid numbers.old (k * 6) (round_numbers a) }
     ensures long { length a.vector ≡ 8 }
 {
     let kind = a.kind;
@@ -44,7 +44,7 @@ fn lay(a: Answer, k: usize, vectors: &mut [i16], numbers: &mut [u64])
 pub fn lay_all(answers: [Answer; 4], vectors: &mut [i16], numbers: &mut [u64])
     requires { (length vectors.old ≡ 32) × (length numbers.old ≡ 24) }
     ensures vectors { vectors.new ≡ vectors_of answers }
-    ensures numbers { numbers.new ≡ numbersOf answers }
+    ensures numbers { numbers.new ≡ numbers_of answers }
 {
     let mut k: usize = 0;
     while k < 4 {

@@ -2,9 +2,9 @@
 mod laying;
 
 ghost use Rattle.std.specs.Prelude.{◌≡◌, length};
-ghost use Rattle.c_boundary.specs.Boundary.{modelOf, answered, code_of, valueAfter, ifAccepted};
-ghost use Rattle.c_peel.specs.Calls.{outcomeOf, vectors_of, numbersOf, peelLengths};
-ghost use Rattle.c_peel.specs.Calls.{peelCall, vectorsAfter, numbersAfter, labelsAfterCall};
+ghost use Rattle.c_boundary.specs.Boundary.{model_of, answered, code_of, value_after, if_accepted};
+ghost use Rattle.c_peel.specs.Calls.{outcome_of, vectors_of, numbers_of, peel_lengths};
+ghost use Rattle.c_peel.specs.Calls.{peel_call, vectors_after, numbers_after, labels_after_call};
 ghost use Rattle.c_peel.specs.Calls.{TableAfterCall, BoundsAfterCall, PeelingCall};
 
 use crate::laying::lay_all;
@@ -13,7 +13,7 @@ use codes::Check;
 use peel::Peeled;
 
 fn lengths_right(corners: usize, start: usize, vectors: usize, numbers: usize) -> bool
-    ensures { result ≡ peelLengths corners start vectors numbers }
+    ensures { result ≡ peel_lengths corners start vectors numbers }
 {
     (corners == 16) & (start == 8) & (vectors == 32) & (numbers == 24)
 }
@@ -21,12 +21,12 @@ fn lengths_right(corners: usize, start: usize, vectors: usize, numbers: usize) -
 // The rounds as this interface hands them over.
 fn hand_over(r: Peeled, vectors: &mut [i16], numbers: &mut [u64], value: &mut u64) -> u32
     requires { (length vectors.old ≡ 32) × (length numbers.old ≡ 24) }
-    ensures code { result ≡ code_of (answered (outcomeOf r)) }
-    ensures value { value.new ≡ valueAfter (answered (outcomeOf r)) value.old }
+    ensures code { result ≡ code_of (answered (outcome_of r)) }
+    ensures value { value.new ≡ value_after (answered (outcome_of r)) value.old }
     ensures vectors { vectors.new
-        ≡ ifAccepted (answered (outcomeOf r)) (vectors_of r.answers) vectors.old }
+        ≡ if_accepted (answered (outcome_of r)) (vectors_of r.answers) vectors.old }
     ensures numbers { numbers.new
-        ≡ ifAccepted (answered (outcomeOf r)) (numbersOf r.answers) numbers.old }
+        ≡ if_accepted (answered (outcome_of r)) (numbers_of r.answers) numbers.old }
 {
     let check = r.check;
     match check {
@@ -62,29 +62,29 @@ pub fn peel(
     value: &mut u64,
 ) -> u32
     ensures code { result
-        ≡ code_of (peelCall store.now (modelOf n d scale p eps) t budget corners.now start.now limit
+        ≡ code_of (peel_call store.now (model_of n d scale p eps) t budget corners.now start.now limit
         table.old bounds.old labels.old vectors.old numbers.old) }
     ensures value { value.new
-        ≡ valueAfter (peelCall store.now (modelOf n d scale p eps) t budget corners.now start.now limit
+        ≡ value_after (peel_call store.now (model_of n d scale p eps) t budget corners.now start.now limit
         table.old bounds.old labels.old vectors.old numbers.old)
         value.old }
     ensures vectors { vectors.new
-        ≡ vectorsAfter store.now (modelOf n d scale p eps) t budget corners.now start.now limit
+        ≡ vectors_after store.now (model_of n d scale p eps) t budget corners.now start.now limit
         table.old bounds.old labels.old vectors.old numbers.old }
     ensures numbers { numbers.new
-        ≡ numbersAfter store.now (modelOf n d scale p eps) t budget corners.now start.now limit
+        ≡ numbers_after store.now (model_of n d scale p eps) t budget corners.now start.now limit
         table.old bounds.old labels.old vectors.old numbers.old }
     ensures labels { labels.new
-        ≡ labelsAfterCall store.now (modelOf n d scale p eps) t budget corners.now start.now limit
+        ≡ labels_after_call store.now (model_of n d scale p eps) t budget corners.now start.now limit
         table.old bounds.old labels.old vectors.old numbers.old }
-    ensures table { TableAfterCall store.now (modelOf n d scale p eps) t budget corners.now start.now limit
+    ensures table { TableAfterCall store.now (model_of n d scale p eps) t budget corners.now start.now limit
         table.old bounds.old labels.old vectors.old numbers.old
         table.new }
-    ensures bounds { BoundsAfterCall store.now (modelOf n d scale p eps) t budget corners.now start.now limit
+    ensures bounds { BoundsAfterCall store.now (model_of n d scale p eps) t budget corners.now start.now limit
         table.old bounds.old labels.old vectors.old numbers.old
         bounds.new }
     ensures peeling { result ≡ 0 →
-        PeelingCall store.now (modelOf n d scale p eps) t budget corners.now start.now limit
+        PeelingCall store.now (model_of n d scale p eps) t budget corners.now start.now limit
         table.old bounds.old labels.old vectors.old numbers.old
         value.new vectors.new numbers.new labels.new }
 {

@@ -5,11 +5,11 @@ use Prim.Native.Nat.{ℕ}
 use lib.Dec.{eqb, eqb→eq}
 use Rattle.integers.proofs.Tests.{and_parts}
 use Rattle.c_boundary.proofs.Lengths.{both}
-use Rattle.c_ranges.specs.Calls.{rangesLengths}
+use Rattle.c_ranges.specs.Calls.{ranges_lengths}
 
-pub ranges-lengths : (corners start patterns cases numbers : ℕ) → rangesLengths corners start patterns cases numbers ≡ true
+pub ranges_lengths_lem : (corners start patterns cases numbers : ℕ) → ranges_lengths corners start patterns cases numbers ≡ true
     → (patterns ≡ 16) × (cases ≡ 8) × (numbers ≡ 3)
-ranges-lengths corners start patterns cases numbers right =
+ranges_lengths_lem corners start patterns cases numbers right =
     let given = eqb corners 16 && eqb start 8 in
     let p = eqb patterns 16 in
     let c = eqb cases 8 in

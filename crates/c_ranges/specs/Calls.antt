@@ -14,15 +14,15 @@ use Rattle.ranges.specs.declared.Kind.{Kind}
 use Rattle.ranges.specs.declared.Kind.TheVariants.{Finished, Spent, Full}
 use Rattle.ranges.specs.declared.Kind.TheVariants as kinds
 use Rattle.ranges.specs.declared.Answer.{Answer}
-use Rattle.ranges.specs.Ranges.{kindNumber, checkLent, rangesAnswer, TableRanged, RangesCertified}
-use Rattle.c_boundary.specs.Boundary.{Call, ifLengths, ifAccepted, jobFrom}
+use Rattle.ranges.specs.Ranges.{kind_number, check_lent, ranges_answer, TableRanged, RangesCertified}
+use Rattle.c_boundary.specs.Boundary.{Call, if_lengths, if_accepted, job_from}
 
 -- the kind by its number, or the refusal
-abbrev pub outcomeOf : Kind → Outcome
-outcomeOf Finished = Value (kindNumber Finished)
-outcomeOf Spent = Value (kindNumber Spent)
-outcomeOf Full = Value (kindNumber Full)
-outcomeOf (kinds.Refused why) = Refused why
+abbrev pub outcome_of : Kind → Outcome
+outcome_of Finished = Value (kind_number Finished)
+outcome_of Spent = Value (kind_number Spent)
+outcome_of Full = Value (kind_number Full)
+outcome_of (kinds.Refused why) = Refused why
 
 -- "one single-precision value, a low and a high value, or none": 1, 2 and 0
 abbrev pub case_of : Range → ℕ
@@ -42,29 +42,29 @@ high_bits (Between low high) = to_bits binary32 high
 high_bits Nothing = 0
 
 -- the range of a coordinate, the first being 0
-abbrev pub rangeAt : List Slot → ℕ → Range
-rangeAt slots k = (get_or slots k (record { range = Nothing })).range
+abbrev pub range_at : List Slot → ℕ → Range
+range_at slots k = (get_or slots k (record { range = Nothing })).range
 
 -- of each coordinate in order, its case; and the bits of its low end and of its high end
 abbrev pub cases_of : List Slot → List ℕ
 cases_of slots =
-    case_of (rangeAt slots 0) ∷ case_of (rangeAt slots 1) ∷ case_of (rangeAt slots 2) ∷ case_of (rangeAt slots 3)
-    ∷ case_of (rangeAt slots 4) ∷ case_of (rangeAt slots 5) ∷ case_of (rangeAt slots 6) ∷ case_of (rangeAt slots 7) ∷ []
+    case_of (range_at slots 0) ∷ case_of (range_at slots 1) ∷ case_of (range_at slots 2) ∷ case_of (range_at slots 3)
+    ∷ case_of (range_at slots 4) ∷ case_of (range_at slots 5) ∷ case_of (range_at slots 6) ∷ case_of (range_at slots 7) ∷ []
 
-abbrev pub patternsOf : List Slot → List ℕ
-patternsOf slots =
-    low_bits (rangeAt slots 0) ∷ high_bits (rangeAt slots 0) ∷ low_bits (rangeAt slots 1) ∷ high_bits (rangeAt slots 1)
-    ∷ low_bits (rangeAt slots 2) ∷ high_bits (rangeAt slots 2) ∷ low_bits (rangeAt slots 3) ∷ high_bits (rangeAt slots 3)
-    ∷ low_bits (rangeAt slots 4) ∷ high_bits (rangeAt slots 4) ∷ low_bits (rangeAt slots 5) ∷ high_bits (rangeAt slots 5)
-    ∷ low_bits (rangeAt slots 6) ∷ high_bits (rangeAt slots 6) ∷ low_bits (rangeAt slots 7) ∷ high_bits (rangeAt slots 7) ∷ []
+abbrev pub patterns_of : List Slot → List ℕ
+patterns_of slots =
+    low_bits (range_at slots 0) ∷ high_bits (range_at slots 0) ∷ low_bits (range_at slots 1) ∷ high_bits (range_at slots 1)
+    ∷ low_bits (range_at slots 2) ∷ high_bits (range_at slots 2) ∷ low_bits (range_at slots 3) ∷ high_bits (range_at slots 3)
+    ∷ low_bits (range_at slots 4) ∷ high_bits (range_at slots 4) ∷ low_bits (range_at slots 5) ∷ high_bits (range_at slots 5)
+    ∷ low_bits (range_at slots 6) ∷ high_bits (range_at slots 6) ∷ low_bits (range_at slots 7) ∷ high_bits (range_at slots 7) ∷ []
 
 -- the splits counted, the open boxes and the peak of their number
-abbrev pub rangesNumbers : Answer → List ℕ
-rangesNumbers a = a.count ∷ a.«open» ∷ a.peak ∷ []
+abbrev pub ranges_numbers : Answer → List ℕ
+ranges_numbers a = a.count ∷ a.«open» ∷ a.peak ∷ []
 
 -- a box, the start vector, and room for 16 patterns, 8 cases and three numbers
-abbrev pub rangesLengths : ℕ → ℕ → ℕ → ℕ → ℕ → Bool
-rangesLengths corners start patterns cases numbers =
+abbrev pub ranges_lengths : ℕ → ℕ → ℕ → ℕ → ℕ → Bool
+ranges_lengths corners start patterns cases numbers =
     eqb corners 16 && eqb start 8 && eqb patterns 16 && eqb cases 8 && eqb numbers 3
 
 -- What a call is given: t isn't used and r is told by the table, so neither is asked for.
@@ -73,27 +73,27 @@ module _
   where
     -- whether the lengths are right, the job, and the answer to it
     abbrev right : Bool
-    right = rangesLengths (length corners) (length start) (length patterns) (length cases) (length numbers)
+    right = ranges_lengths (length corners) (length start) (length patterns) (length cases) (length numbers)
 
     abbrev job : Job
-    job = jobFrom m 0 budget 0 corners start
+    job = job_from m 0 budget 0 corners start
 
     abbrev found : Answer
-    found = rangesAnswer store job K table
+    found = ranges_answer store job K table
 
     -- what the call comes to
-    abbrev pub rangesCall : Call
-    rangesCall = ifLengths right (outcomeOf found.kind)
+    abbrev pub ranges_call : Call
+    ranges_call = if_lengths right (outcome_of found.kind)
 
     -- the lent patterns, cases and numbers afterwards
-    abbrev pub patternsAfter : List ℕ
-    patternsAfter = ifAccepted rangesCall (patternsOf found.slots) patterns
+    abbrev pub patterns_after : List ℕ
+    patterns_after = if_accepted ranges_call (patterns_of found.slots) patterns
 
-    abbrev pub casesAfter : List ℕ
-    casesAfter = ifAccepted rangesCall (cases_of found.slots) cases
+    abbrev pub cases_after : List ℕ
+    cases_after = if_accepted ranges_call (cases_of found.slots) cases
 
-    abbrev pub numbersAfter : List ℕ
-    numbersAfter = ifAccepted rangesCall (rangesNumbers found) numbers
+    abbrev pub numbers_after : List ℕ
+    numbers_after = if_accepted ranges_call (ranges_numbers found) numbers
 
     -- the table afterwards: as the search leaves it, or as it was where a length is wrong
     pub record TableAfterCall (after : List ℤ) : Type 0 where
@@ -101,10 +101,10 @@ module _
       pub kept : right ≡ false → after ≡ table
 
     -- What is handed over with the code 0 is exact: the job was accepted, and of its answer everything holds that request 13 promises.
-    pub record CertifiedCall (newValue : ℕ) (newPatterns newCases newNumbers : List ℕ) : Type 0 where
-      pub accepted : checkLent store job K table ≡ Pass
-      pub kind : newValue ≡ kindNumber found.kind
-      pub bits : newPatterns ≡ patternsOf found.slots
-      pub case : newCases ≡ cases_of found.slots
-      pub told : newNumbers ≡ rangesNumbers found
+    pub record CertifiedCall (new_value : ℕ) (new_patterns new_cases new_numbers : List ℕ) : Type 0 where
+      pub accepted : check_lent store job K table ≡ Pass
+      pub kind : new_value ≡ kind_number found.kind
+      pub bits : new_patterns ≡ patterns_of found.slots
+      pub case : new_cases ≡ cases_of found.slots
+      pub told : new_numbers ≡ ranges_numbers found
       pub certified : RangesCertified store job K table found

@@ -1,10 +1,10 @@
 // The ranges of all coefficients for C.
 ghost use Rattle.std.specs.Prelude.{◌≡◌, ◌<◌, length};
 ghost use Rattle.c_buffers.specs.Buffers.{filled};
-ghost use Rattle.c_boundary.specs.Boundary.{modelOf, answered, code_of, valueAfter, ifAccepted};
-ghost use Rattle.c_ranges.specs.Calls.{outcomeOf, case_of, low_bits, high_bits, rangeAt, cases_of, patternsOf};
-ghost use Rattle.c_ranges.specs.Calls.{rangesNumbers, rangesLengths};
-ghost use Rattle.c_ranges.specs.Calls.{rangesCall, patternsAfter, casesAfter, numbersAfter, TableAfterCall, CertifiedCall};
+ghost use Rattle.c_boundary.specs.Boundary.{model_of, answered, code_of, value_after, if_accepted};
+ghost use Rattle.c_ranges.specs.Calls.{outcome_of, case_of, low_bits, high_bits, range_at, cases_of, patterns_of};
+ghost use Rattle.c_ranges.specs.Calls.{ranges_numbers, ranges_lengths};
+ghost use Rattle.c_ranges.specs.Calls.{ranges_call, patterns_after, cases_after, numbers_after, TableAfterCall, CertifiedCall};
 
 use c_boundary::{WRONG_LENGTH, job_of, model_of, settle};
 use c_buffers::{fill_bytes, fill_numbers, fill_patterns};
@@ -14,7 +14,7 @@ use range_hulls::{Range, Slot};
 use ranges::{Answer, Kind};
 
 fn outcome_of(k: Kind) -> Outcome
-    ensures { result ≡ outcomeOf k }
+    ensures { result ≡ outcome_of k }
 {
     match k {
         Kind::Finished => Outcome::Value(1),
@@ -56,7 +56,7 @@ fn high_bits(r: Range) -> u32
 
 fn range_at(slots: [Slot; 8], k: usize) -> Range
     requires { k < 8 }
-    ensures { result ≡ rangeAt slots k }
+    ensures { result ≡ range_at slots k }
 {
     let slot = slots[k];
     slot.range
@@ -80,7 +80,7 @@ fn cases_of(slots: [Slot; 8]) -> [u8; 8]
 
 // The bits of the low and of the high end of each coordinate.
 fn patterns_of(slots: [Slot; 8]) -> [u32; 16]
-    ensures { result ≡ patternsOf slots }
+    ensures { result ≡ patterns_of slots }
 {
     let r1 = range_at(slots, 0);
     let r2 = range_at(slots, 1);
@@ -117,7 +117,7 @@ fn lengths_right(
     cases: usize,
     numbers: usize,
 ) -> bool
-    ensures { result ≡ rangesLengths corners start patterns cases numbers }
+    ensures { result ≡ ranges_lengths corners start patterns cases numbers }
 {
     (corners == 16) & (start == 8) & (patterns == 16) & (cases == 8) & (numbers == 3)
 }
@@ -130,14 +130,14 @@ fn hand_over(
     numbers: &mut [u64],
     value: &mut u64,
 ) -> u32
-    ensures code { result ≡ code_of (answered (outcomeOf a.kind)) }
-    ensures value { value.new ≡ valueAfter (answered (outcomeOf a.kind)) value.old }
+    ensures code { result ≡ code_of (answered (outcome_of a.kind)) }
+    ensures value { value.new ≡ value_after (answered (outcome_of a.kind)) value.old }
     ensures patterns { patterns.new
-        ≡ ifAccepted (answered (outcomeOf a.kind)) (filled patterns.old (patternsOf a.slots)) patterns.old }
+        ≡ if_accepted (answered (outcome_of a.kind)) (filled patterns.old (patterns_of a.slots)) patterns.old }
     ensures cases { cases.new
-        ≡ ifAccepted (answered (outcomeOf a.kind)) (filled cases.old (cases_of a.slots)) cases.old }
+        ≡ if_accepted (answered (outcome_of a.kind)) (filled cases.old (cases_of a.slots)) cases.old }
     ensures numbers { numbers.new
-        ≡ ifAccepted (answered (outcomeOf a.kind)) (filled numbers.old (rangesNumbers a)) numbers.old }
+        ≡ if_accepted (answered (outcome_of a.kind)) (filled numbers.old (ranges_numbers a)) numbers.old }
 {
     let kind = a.kind;
     let slots = a.slots;
@@ -176,24 +176,24 @@ pub fn ranges(
     value: &mut u64,
 ) -> u32
     ensures code { result
-        ≡ code_of (rangesCall store.now (modelOf n d scale p eps) budget ceiling corners.now start.now
+        ≡ code_of (ranges_call store.now (model_of n d scale p eps) budget ceiling corners.now start.now
         table.old patterns.old cases.old numbers.old) }
     ensures value { value.new
-        ≡ valueAfter (rangesCall store.now (modelOf n d scale p eps) budget ceiling corners.now start.now
+        ≡ value_after (ranges_call store.now (model_of n d scale p eps) budget ceiling corners.now start.now
         table.old patterns.old cases.old numbers.old) value.old }
     ensures patterns { patterns.new
-        ≡ patternsAfter store.now (modelOf n d scale p eps) budget ceiling corners.now start.now
+        ≡ patterns_after store.now (model_of n d scale p eps) budget ceiling corners.now start.now
         table.old patterns.old cases.old numbers.old }
     ensures cases { cases.new
-        ≡ casesAfter store.now (modelOf n d scale p eps) budget ceiling corners.now start.now
+        ≡ cases_after store.now (model_of n d scale p eps) budget ceiling corners.now start.now
         table.old patterns.old cases.old numbers.old }
     ensures numbers { numbers.new
-        ≡ numbersAfter store.now (modelOf n d scale p eps) budget ceiling corners.now start.now
+        ≡ numbers_after store.now (model_of n d scale p eps) budget ceiling corners.now start.now
         table.old patterns.old cases.old numbers.old }
-    ensures table { TableAfterCall store.now (modelOf n d scale p eps) budget ceiling corners.now start.now
+    ensures table { TableAfterCall store.now (model_of n d scale p eps) budget ceiling corners.now start.now
         table.old patterns.old cases.old numbers.old table.new }
     ensures ranges { result ≡ 0 →
-        CertifiedCall store.now (modelOf n d scale p eps) budget ceiling corners.now start.now
+        CertifiedCall store.now (model_of n d scale p eps) budget ceiling corners.now start.now
         table.old patterns.old cases.old numbers.old value.new
         patterns.new cases.new numbers.new }
 {

@@ -10,50 +10,50 @@ use Rattle.jobs.specs.declared.Model.{Model}
 use Rattle.search.specs.declared.Kind.{Kind}
 use Rattle.search.specs.declared.Kind.TheVariants.{Solved, Spent, Full, Refused}
 use Rattle.search.specs.declared.Answer.{Answer}
-use Rattle.search.specs.Search.{kindNumber, answerUnlessRefused, checkLent, searchedLent, searchAnswer, Certified}
-use Rattle.c_boundary.specs.Boundary.{answered, code_of, valueAfter, ifAccepted, jobFrom}
-use Rattle.c_search.specs.Calls.{outcomeOf, searchNumbers, CertifiedCall}
-use Rattle.c_boundary.proofs.Codes.{refusal-not-0, given-at-0}
+use Rattle.search.specs.Search.{kind_number, answer_unless_refused, check_lent, searched_lent, search_answer, Certified}
+use Rattle.c_boundary.specs.Boundary.{answered, code_of, value_after, if_accepted, job_from}
+use Rattle.c_search.specs.Calls.{outcome_of, search_numbers, CertifiedCall}
+use Rattle.c_boundary.proofs.Codes.{refusal_not_0, given_at_0}
 
 -- the value at 0
-kind-at-0 : (k : Kind) (held : ℕ) → code_of (answered (outcomeOf k)) ≡ 0 → valueAfter (answered (outcomeOf k)) held ≡ kindNumber k
-kind-at-0 Solved held e = refl
-kind-at-0 Spent held e = refl
-kind-at-0 Full held e = refl
-kind-at-0 (Refused why) held e = absurd (refusal-not-0 why e)
+kind_at_0 : (k : Kind) (held : ℕ) → code_of (answered (outcome_of k)) ≡ 0 → value_after (answered (outcome_of k)) held ≡ kind_number k
+kind_at_0 Solved held e = refl
+kind_at_0 Spent held e = refl
+kind_at_0 Full held e = refl
+kind_at_0 (Refused why) held e = absurd (refusal_not_0 why e)
 
 -- the check of a search at 0
 module _ (store : List ℕ) (job : Job) (table : List ℤ) (bounds : List ℕ) where
-  passed-at-0 : (check : Check) →
-      code_of (answered (outcomeOf (answerUnlessRefused check (searchedLent store job table bounds)).kind)) ≡ 0 → check ≡ Pass
-  passed-at-0 Pass e = refl
-  passed-at-0 (Refuse why) e = absurd (refusal-not-0 why e)
+  passed_at_0 : (check : Check) →
+      code_of (answered (outcome_of (answer_unless_refused check (searched_lent store job table bounds)).kind)) ≡ 0 → check ≡ Pass
+  passed_at_0 Pass e = refl
+  passed_at_0 (Refuse why) e = absurd (refusal_not_0 why e)
 
-  accepted-at-0 : code_of (answered (outcomeOf (searchAnswer store job table bounds).kind)) ≡ 0 → checkLent store job table bounds ≡ Pass
-  unfolding searchAnswer
-  accepted-at-0 e = passed-at-0 (checkLent store job table bounds) e
+  accepted_at_0 : code_of (answered (outcome_of (search_answer store job table bounds).kind)) ≡ 0 → check_lent store job table bounds ≡ Pass
+  unfolding search_answer
+  accepted_at_0 e = passed_at_0 (check_lent store job table bounds) e
 
 module _
     (store : List ℕ) (m : Model) (t budget : ℕ) (corners start table : List ℤ) (bounds : List ℕ) (vector : List ℤ) (numbers : List ℕ)
   where
     abbrev job : Job
-    job = jobFrom m t budget 0 corners start
+    job = job_from m t budget 0 corners start
 
     -- r is what the search answered; the rest is what is left where it was handed over
-    pub certified-call :
-        (r : Answer) (held newValue : ℕ) (newVector : List ℤ) (newNumbers : List ℕ) →
-        r ≡ searchAnswer store job table bounds →
+    pub certified_call :
+        (r : Answer) (held new_value : ℕ) (new_vector : List ℤ) (new_numbers : List ℕ) →
+        r ≡ search_answer store job table bounds →
         Certified store job table bounds r →
-        code_of (answered (outcomeOf r.kind)) ≡ 0 →
-        newValue ≡ valueAfter (answered (outcomeOf r.kind)) held →
-        newVector ≡ ifAccepted (answered (outcomeOf r.kind)) r.vector vector →
-        newNumbers ≡ ifAccepted (answered (outcomeOf r.kind)) (searchNumbers r) numbers →
-        CertifiedCall store m t budget corners start table bounds vector numbers newValue newVector newNumbers
-    certified-call r held newValue newVector newNumbers found certificate at-0 value laid told =
+        code_of (answered (outcome_of r.kind)) ≡ 0 →
+        new_value ≡ value_after (answered (outcome_of r.kind)) held →
+        new_vector ≡ if_accepted (answered (outcome_of r.kind)) r.vector vector →
+        new_numbers ≡ if_accepted (answered (outcome_of r.kind)) (search_numbers r) numbers →
+        CertifiedCall store m t budget corners start table bounds vector numbers new_value new_vector new_numbers
+    certified_call r held new_value new_vector new_numbers found certificate at-0 value laid told =
         record {
-          accepted = accepted-at-0 store job table bounds (ap (λ (a : Answer). code_of (answered (outcomeOf a.kind))) (sym found) ∙ at-0);
-          kind = value ∙ kind-at-0 r.kind held at-0 ∙ ap (λ (a : Answer). kindNumber a.kind) found;
-          best = laid ∙ given-at-0 (outcomeOf r.kind) r.vector vector at-0 ∙ ap (λ (a : Answer). a.vector) found;
-          told = told ∙ given-at-0 (outcomeOf r.kind) (searchNumbers r) numbers at-0 ∙ ap searchNumbers found;
+          accepted = accepted_at_0 store job table bounds (ap (λ (a : Answer). code_of (answered (outcome_of a.kind))) (sym found) ∙ at-0);
+          kind = value ∙ kind_at_0 r.kind held at-0 ∙ ap (λ (a : Answer). kind_number a.kind) found;
+          best = laid ∙ given_at_0 (outcome_of r.kind) r.vector vector at-0 ∙ ap (λ (a : Answer). a.vector) found;
+          told = told ∙ given_at_0 (outcome_of r.kind) (search_numbers r) numbers at-0 ∙ ap search_numbers found;
           certified = subst (Certified store job table bounds) found certificate;
         }

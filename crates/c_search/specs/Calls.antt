@@ -9,23 +9,23 @@ use Rattle.search.specs.declared.Kind.{Kind}
 use Rattle.search.specs.declared.Kind.TheVariants.{Solved, Spent, Full}
 use Rattle.search.specs.declared.Kind.TheVariants as kinds
 use Rattle.search.specs.declared.Answer.{Answer}
-use Rattle.search.specs.Search.{kindNumber, checkLent, searchAnswer, TableSearched, BoundsSearched, Certified}
-use Rattle.c_boundary.specs.Boundary.{Call, ifLengths, ifAccepted, jobFrom}
+use Rattle.search.specs.Search.{kind_number, check_lent, search_answer, TableSearched, BoundsSearched, Certified}
+use Rattle.c_boundary.specs.Boundary.{Call, if_lengths, if_accepted, job_from}
 
 -- the kind by its number, or the refusal
-abbrev pub outcomeOf : Kind → Outcome
-outcomeOf Solved = Value (kindNumber Solved)
-outcomeOf Spent = Value (kindNumber Spent)
-outcomeOf Full = Value (kindNumber Full)
-outcomeOf (kinds.Refused why) = Refused why
+abbrev pub outcome_of : Kind → Outcome
+outcome_of Solved = Value (kind_number Solved)
+outcome_of Spent = Value (kind_number Spent)
+outcome_of Full = Value (kind_number Full)
+outcome_of (kinds.Refused why) = Refused why
 
 -- "vector, C, L, count, open boxes and peak": the numbers among them
-abbrev pub searchNumbers : Answer → List ℕ
-searchNumbers a = a.cost ∷ a.bound ∷ a.count ∷ a.«open» ∷ a.peak ∷ []
+abbrev pub search_numbers : Answer → List ℕ
+search_numbers a = a.cost ∷ a.bound ∷ a.count ∷ a.«open» ∷ a.peak ∷ []
 
 -- a box, the start vector, and room for a vector and five numbers
-abbrev pub searchLengths : ℕ → ℕ → ℕ → ℕ → Bool
-searchLengths corners start vector numbers = eqb corners 16 && eqb start 8 && eqb vector 8 && eqb numbers 5
+abbrev pub search_lengths : ℕ → ℕ → ℕ → ℕ → Bool
+search_lengths corners start vector numbers = eqb corners 16 && eqb start 8 && eqb vector 8 && eqb numbers 5
 
 -- What a call is given: r is told by the table, so the rows of a job record are not asked for.
 module _
@@ -33,24 +33,24 @@ module _
   where
     -- whether the lengths are right, the job, and the answer to it
     abbrev right : Bool
-    right = searchLengths (length corners) (length start) (length vector) (length numbers)
+    right = search_lengths (length corners) (length start) (length vector) (length numbers)
 
     abbrev job : Job
-    job = jobFrom m t budget 0 corners start
+    job = job_from m t budget 0 corners start
 
     abbrev found : Answer
-    found = searchAnswer store job table bounds
+    found = search_answer store job table bounds
 
     -- what the call comes to
-    abbrev pub searchCall : Call
-    searchCall = ifLengths right (outcomeOf found.kind)
+    abbrev pub search_call : Call
+    search_call = if_lengths right (outcome_of found.kind)
 
     -- the lent vector and numbers afterwards
-    abbrev pub vectorAfter : List ℤ
-    vectorAfter = ifAccepted searchCall found.vector vector
+    abbrev pub vector_after : List ℤ
+    vector_after = if_accepted search_call found.vector vector
 
-    abbrev pub numbersAfter : List ℕ
-    numbersAfter = ifAccepted searchCall (searchNumbers found) numbers
+    abbrev pub numbers_after : List ℕ
+    numbers_after = if_accepted search_call (search_numbers found) numbers
 
     -- the table afterwards: as a search leaves it, or as it was where a length is wrong
     pub record TableAfterCall (after : List ℤ) : Type 0 where
@@ -64,9 +64,9 @@ module _
 
     -- What is handed over with the code 0 is certified: the job was accepted, the lent value, vector and numbers afterwards are those of
     -- its answer, and of that answer demand 3 holds.
-    pub record CertifiedCall (newValue : ℕ) (newVector : List ℤ) (newNumbers : List ℕ) : Type 0 where
-      pub accepted : checkLent store job table bounds ≡ Pass
-      pub kind : newValue ≡ kindNumber found.kind
-      pub best : newVector ≡ found.vector
-      pub told : newNumbers ≡ searchNumbers found
+    pub record CertifiedCall (new_value : ℕ) (new_vector : List ℤ) (new_numbers : List ℕ) : Type 0 where
+      pub accepted : check_lent store job table bounds ≡ Pass
+      pub kind : new_value ≡ kind_number found.kind
+      pub best : new_vector ≡ found.vector
+      pub told : new_numbers ≡ search_numbers found
       pub certified : Certified store job table bounds found

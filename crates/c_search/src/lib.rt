@@ -1,9 +1,9 @@
 // The search for C.
 ghost use Rattle.std.specs.Prelude.{◌≡◌, length};
 ghost use Rattle.c_buffers.specs.Buffers.{filled};
-ghost use Rattle.c_boundary.specs.Boundary.{modelOf, answered, code_of, valueAfter, ifAccepted};
-ghost use Rattle.c_search.specs.Calls.{outcomeOf, searchNumbers, searchLengths};
-ghost use Rattle.c_search.specs.Calls.{searchCall, vectorAfter, numbersAfter, TableAfterCall, BoundsAfterCall, CertifiedCall};
+ghost use Rattle.c_boundary.specs.Boundary.{model_of, answered, code_of, value_after, if_accepted};
+ghost use Rattle.c_search.specs.Calls.{outcome_of, search_numbers, search_lengths};
+ghost use Rattle.c_search.specs.Calls.{search_call, vector_after, numbers_after, TableAfterCall, BoundsAfterCall, CertifiedCall};
 
 use c_boundary::{WRONG_LENGTH, job_of, model_of, settle};
 use c_buffers::{fill_coordinates, fill_numbers};
@@ -11,7 +11,7 @@ use codes::Outcome;
 use search::{Answer, Kind};
 
 fn outcome_of(k: Kind) -> Outcome
-    ensures { result ≡ outcomeOf k }
+    ensures { result ≡ outcome_of k }
 {
     match k {
         Kind::Solved => Outcome::Value(1),
@@ -22,19 +22,19 @@ fn outcome_of(k: Kind) -> Outcome
 }
 
 fn lengths_right(corners: usize, start: usize, vector: usize, numbers: usize) -> bool
-    ensures { result ≡ searchLengths corners start vector numbers }
+    ensures { result ≡ search_lengths corners start vector numbers }
 {
     (corners == 16) & (start == 8) & (vector == 8) & (numbers == 5)
 }
 
 // An answer as this interface hands it over.
 fn hand_over(a: Answer, vector: &mut [i16], numbers: &mut [u64], value: &mut u64) -> u32
-    ensures code { result ≡ code_of (answered (outcomeOf a.kind)) }
-    ensures value { value.new ≡ valueAfter (answered (outcomeOf a.kind)) value.old }
+    ensures code { result ≡ code_of (answered (outcome_of a.kind)) }
+    ensures value { value.new ≡ value_after (answered (outcome_of a.kind)) value.old }
     ensures vector { vector.new
-        ≡ ifAccepted (answered (outcomeOf a.kind)) (filled vector.old a.vector) vector.old }
+        ≡ if_accepted (answered (outcome_of a.kind)) (filled vector.old a.vector) vector.old }
     ensures numbers { numbers.new
-        ≡ ifAccepted (answered (outcomeOf a.kind)) (filled numbers.old (searchNumbers a)) numbers.old }
+        ≡ if_accepted (answered (outcome_of a.kind)) (filled numbers.old (search_numbers a)) numbers.old }
     ensures long { length a.vector ≡ 8 }
 {
     let kind = a.kind;
@@ -77,23 +77,23 @@ pub fn search(
     value: &mut u64,
 ) -> u32
     ensures code { result
-        ≡ code_of (searchCall store.now (modelOf n d scale p eps) t budget corners.now start.now
+        ≡ code_of (search_call store.now (model_of n d scale p eps) t budget corners.now start.now
         table.old bounds.old vector.old numbers.old) }
     ensures value { value.new
-        ≡ valueAfter (searchCall store.now (modelOf n d scale p eps) t budget corners.now start.now
+        ≡ value_after (search_call store.now (model_of n d scale p eps) t budget corners.now start.now
         table.old bounds.old vector.old numbers.old) value.old }
     ensures vector { vector.new
-        ≡ vectorAfter store.now (modelOf n d scale p eps) t budget corners.now start.now
+        ≡ vector_after store.now (model_of n d scale p eps) t budget corners.now start.now
         table.old bounds.old vector.old numbers.old }
     ensures numbers { numbers.new
-        ≡ numbersAfter store.now (modelOf n d scale p eps) t budget corners.now start.now
+        ≡ numbers_after store.now (model_of n d scale p eps) t budget corners.now start.now
         table.old bounds.old vector.old numbers.old }
-    ensures table { TableAfterCall store.now (modelOf n d scale p eps) t budget corners.now start.now
+    ensures table { TableAfterCall store.now (model_of n d scale p eps) t budget corners.now start.now
         table.old bounds.old vector.old numbers.old table.new }
-    ensures bounds { BoundsAfterCall store.now (modelOf n d scale p eps) t budget corners.now start.now
+    ensures bounds { BoundsAfterCall store.now (model_of n d scale p eps) t budget corners.now start.now
         table.old bounds.old vector.old numbers.old bounds.new }
     ensures certificate { result ≡ 0 →
-        CertifiedCall store.now (modelOf n d scale p eps) t budget corners.now start.now
+        CertifiedCall store.now (model_of n d scale p eps) t budget corners.now start.now
         table.old bounds.old vector.old numbers.old value.new vector.new
         numbers.new }
 {

@@ -1,21 +1,21 @@
 // Splitting one box for C.
 ghost use Rattle.std.specs.Prelude.{◌≡◌};
 ghost use Rattle.c_boundary.specs.Boundary.{code_of};
-ghost use Rattle.c_split.specs.Calls.{splitLengths, splitCall, halvesAfter};
+ghost use Rattle.c_split.specs.Calls.{split_lengths, split_call, halves_after};
 
 use c_boundary::{WRONG_LENGTH, refusal_code};
 use codes::Check;
 
 fn lengths_right(corners: usize, halves: usize) -> bool
-    ensures { result ≡ splitLengths corners halves }
+    ensures { result ≡ split_lengths corners halves }
 {
     (corners == 16) & (32 <= halves)
 }
 
 // Splits one box; the left half goes into the first row of `halves`, the right one into the second.
 pub fn split(n: u8, d: u8, corners: &[i16], halves: &mut [i16]) -> u32
-    ensures code { result ≡ code_of (splitCall n d corners.now halves.old) }
-    ensures halves { halves.new ≡ halvesAfter n d corners.now halves.old }
+    ensures code { result ≡ code_of (split_call n d corners.now halves.old) }
+    ensures halves { halves.new ≡ halves_after n d corners.now halves.old }
 {
     if !lengths_right(corners.len(), halves.len()) {
         return WRONG_LENGTH;

@@ -9,57 +9,57 @@ use lib.ListN.{length}
 use Rattle.codes.specs.declared.Check.{Check}
 use Rattle.codes.specs.declared.Check.TheVariants.{Pass, Refuse}
 use Rattle.codes.specs.declared.Outcome.{Outcome}
-use Rattle.codes.specs.Codes.{unlessRefused}
+use Rattle.codes.specs.Codes.{unless_refused}
 use Rattle.jobs.specs.declared.Job.{Job}
 use Rattle.jobs.specs.declared.Model.{Model}
 use Rattle.sharing.specs.Sharing.{SharedTable, SharedBounds}
-use Rattle.sharing.proofs.Sharing.{table-shared, bounds-shared}
-use Rattle.window_runs.specs.Windows.{checkPass, countLent}
+use Rattle.sharing.proofs.Sharing.{table_shared, bounds_shared}
+use Rattle.window_runs.specs.Windows.{check_pass, count_lent}
 use Rattle.window_runs.proofs.Passing.{Promised}
-use Rattle.c_boundary.specs.Boundary.{answered, code_of, valueAfter, jobFrom}
-use Rattle.c_boundary.proofs.Codes.{refusal-not-0}
-use Rattle.c_windows.specs.Calls.{windowsLengths, windowsCall, searchesOfCall, outAfterCall, CertifiedWindows}
+use Rattle.c_boundary.specs.Boundary.{answered, code_of, value_after, job_from}
+use Rattle.c_boundary.proofs.Codes.{refusal_not_0}
+use Rattle.c_windows.specs.Calls.{windows_lengths, windows_call, searches_of_call, out_after_call, CertifiedWindows}
 
-passed-at-0 : (check : Check) (count : ℕ) → code_of (answered (unlessRefused check count)) ≡ 0 → check ≡ Pass
-passed-at-0 Pass count e = refl
-passed-at-0 (Refuse why) count e = absurd (refusal-not-0 why e)
+passed_at_0 : (check : Check) (count : ℕ) → code_of (answered (unless_refused check count)) ≡ 0 → check ≡ Pass
+passed_at_0 Pass count e = refl
+passed_at_0 (Refuse why) count e = absurd (refusal_not_0 why e)
 
 module _
     (store : List ℕ) (m : Model) (t budget : ℕ) (corners start : List ℤ) (k h : ℕ) (table : List ℤ) (bounds out : List ℕ)
   where
     abbrev job : Job
-    job = jobFrom m t budget 0 corners start
+    job = job_from m t budget 0 corners start
 
     -- the code, the value before and after, and what is lent afterwards
     abbrev Handed : ℕ → ℕ → ℕ → List ℤ → List ℕ → List ℕ → Type 0
-    Handed code held newValue u e o =
-        (code ≡ code_of (windowsCall store m t budget corners start k h table bounds out))
-        × ((newValue ≡ valueAfter (windowsCall store m t budget corners start k h table bounds out) held)
-        × ((o ≡ outAfterCall store m t budget corners start k h table bounds out)
-        × (SharedTable (searchesOfCall store m t budget corners start k h table bounds out) table u
-        × (SharedBounds (searchesOfCall store m t budget corners start k h table bounds out) bounds e
-        × (code ≡ 0 → CertifiedWindows store m t budget corners start k h table bounds out newValue o)))))
+    Handed code held new_value u e o =
+        (code ≡ code_of (windows_call store m t budget corners start k h table bounds out))
+        × ((new_value ≡ value_after (windows_call store m t budget corners start k h table bounds out) held)
+        × ((o ≡ out_after_call store m t budget corners start k h table bounds out)
+        × (SharedTable (searches_of_call store m t budget corners start k h table bounds out) table u
+        × (SharedBounds (searches_of_call store m t budget corners start k h table bounds out) bounds e
+        × (code ≡ 0 → CertifiedWindows store m t budget corners start k h table bounds out new_value o)))))
 
-    pub kept : (held : ℕ) → windowsLengths (length corners) (length start) ≡ false → Handed 255 held held table bounds out
+    pub kept : (held : ℕ) → windows_lengths (length corners) (length start) ≡ false → Handed 255 held held table bounds out
     kept held wrong =
-        rw wrong (refl, (refl, (refl, (table-shared.none table, (bounds-shared.none bounds, λ e. absurd (omega arith))))))
+        rw wrong (refl, (refl, (refl, (table_shared.none table, (bounds_shared.none bounds, λ e. absurd (omega arith))))))
 
-    module _ (right : windowsLengths (length corners) (length start) ≡ true) (a : Outcome) (u : List ℤ) (e o : List ℕ)
-        (p : Promised store job k h table bounds out a u e o) (code held newValue : ℕ) (is_code : code ≡ code_of (answered a))
-        (is-value : newValue ≡ valueAfter (answered a) held) where
-      passes : code ≡ 0 → checkPass store job k h table bounds out ≡ Pass
+    module _ (right : windows_lengths (length corners) (length start) ≡ true) (a : Outcome) (u : List ℤ) (e o : List ℕ)
+        (p : Promised store job k h table bounds out a u e o) (code held new_value : ℕ) (is_code : code ≡ code_of (answered a))
+        (is-value : new_value ≡ value_after (answered a) held) where
+      passes : code ≡ 0 → check_pass store job k h table bounds out ≡ Pass
       passes at-0 =
-          passed-at-0 (checkPass store job k h table bounds out) (countLent store job k h table bounds out)
+          passed_at_0 (check_pass store job k h table bounds out) (count_lent store job k h table bounds out)
           (ap (λ (x : Outcome). code_of (answered x)) (sym p.0) ∙ sym is_code ∙ at-0)
 
-      counted : code ≡ 0 → newValue ≡ countLent store job k h table bounds out
+      counted : code ≡ 0 → new_value ≡ count_lent store job k h table bounds out
       counted at-0 = is-value ∙ rw (p.0, passes at-0) refl
 
-      pub handed : Handed code held newValue u e o
+      pub handed : Handed code held new_value u e o
       handed = rw right (
         is_code ∙ ap (λ (x : Outcome). code_of (answered x)) p.0,
         (
-          is-value ∙ ap (λ (x : Outcome). valueAfter (answered x) held) p.0,
+          is-value ∙ ap (λ (x : Outcome). value_after (answered x) held) p.0,
           (
             p.1.0,
             (

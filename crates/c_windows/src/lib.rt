@@ -1,13 +1,13 @@
 // A pass through the windows of a store, for C.
 ghost use Rattle.std.specs.Prelude.{◌≡◌};
 ghost use Rattle.sharing.specs.Sharing.{SharedTable, SharedBounds};
-ghost use Rattle.c_boundary.specs.Boundary.{modelOf, code_of, valueAfter};
-ghost use Rattle.c_windows.specs.Calls.{windowsLengths, windowsCall, searchesOfCall, outAfterCall, CertifiedWindows};
+ghost use Rattle.c_boundary.specs.Boundary.{model_of, code_of, value_after};
+ghost use Rattle.c_windows.specs.Calls.{windows_lengths, windows_call, searches_of_call, out_after_call, CertifiedWindows};
 
 use c_boundary::{WRONG_LENGTH, job_of, model_of, settle};
 
 fn lengths_right(corners: usize, start: usize) -> bool
-    ensures { result ≡ windowsLengths corners start }
+    ensures { result ≡ windows_lengths corners start }
 {
     (corners == 16) & (start == 8)
 }
@@ -33,22 +33,22 @@ pub fn windows(
     value: &mut u64,
 ) -> u32
     ensures code { result
-        ≡ code_of (windowsCall store.now (modelOf n d scale p eps) t budget corners.now start.now k h
+        ≡ code_of (windows_call store.now (model_of n d scale p eps) t budget corners.now start.now k h
         table.old bounds.old out.old) }
     ensures value { value.new
-        ≡ valueAfter (windowsCall store.now (modelOf n d scale p eps) t budget corners.now start.now k h
+        ≡ value_after (windows_call store.now (model_of n d scale p eps) t budget corners.now start.now k h
         table.old bounds.old out.old) value.old }
     ensures output { out.new
-        ≡ outAfterCall store.now (modelOf n d scale p eps) t budget corners.now start.now k h
+        ≡ out_after_call store.now (model_of n d scale p eps) t budget corners.now start.now k h
         table.old bounds.old out.old }
     ensures table { SharedTable
-        (searchesOfCall store.now (modelOf n d scale p eps) t budget corners.now start.now k h
+        (searches_of_call store.now (model_of n d scale p eps) t budget corners.now start.now k h
         table.old bounds.old out.old) table.old table.new }
     ensures bounds { SharedBounds
-        (searchesOfCall store.now (modelOf n d scale p eps) t budget corners.now start.now k h
+        (searches_of_call store.now (model_of n d scale p eps) t budget corners.now start.now k h
         table.old bounds.old out.old) bounds.old bounds.new }
     ensures certificate { result ≡ 0 →
-        CertifiedWindows store.now (modelOf n d scale p eps) t budget corners.now start.now k h
+        CertifiedWindows store.now (model_of n d scale p eps) t budget corners.now start.now k h
         table.old bounds.old out.old value.new out.new }
 {
     if !lengths_right(corners.len(), start.len()) {

@@ -2,31 +2,31 @@
 // of its own, with the same contract. A call takes numbers and buffers with their lengths, and returns 0, the code of a refusal, or 255 for
 // a buffer of the wrong length. What it answers goes into lent memory, which a refusal leaves as it is.
 ghost use Rattle.std.specs.Prelude.{◌≡◌};
-ghost use Rattle.beacon.specs.Beacon.{storeAfter};
-ghost use Rattle.c_boundary.specs.Boundary.{modelOf, code_of, valueAfter, ifAccepted};
-ghost use Rattle.c_evaluation.specs.Calls.{lossCall, costCall, boundCall};
-ghost use Rattle.c_split.specs.Calls.{splitCall, halvesAfter};
-ghost use Rattle.c_labels.specs.Calls.{labelsCall, labelsAfter};
-ghost use Rattle.c_beacon_costs.specs.Calls.{costByBeaconCall, sumsAfterCall};
-ghost use Rattle.c_search.specs.Calls.{searchCall, vectorAfter, numbersAfter, TableAfterCall, BoundsAfterCall, CertifiedCall};
+ghost use Rattle.beacon.specs.Beacon.{store_after};
+ghost use Rattle.c_boundary.specs.Boundary.{model_of, code_of, value_after, if_accepted};
+ghost use Rattle.c_evaluation.specs.Calls.{loss_call, cost_call, bound_call};
+ghost use Rattle.c_split.specs.Calls.{split_call, halves_after};
+ghost use Rattle.c_labels.specs.Calls.{labels_call, labels_after};
+ghost use Rattle.c_beacon_costs.specs.Calls.{cost_by_beacon_call, sums_after_call};
+ghost use Rattle.c_search.specs.Calls.{search_call, vector_after, numbers_after, TableAfterCall, BoundsAfterCall, CertifiedCall};
 ghost use Rattle.c_boards.specs.Calls as Boards;
 ghost use Rattle.c_ranges.specs.Calls as rangeCalls;
 ghost use Rattle.c_peel.specs.Calls as peeling;
-ghost use Rattle.merge.specs.Merge.{outputAfter};
-ghost use Rattle.c_stores.specs.Calls.{mergeCall, takeInCall};
+ghost use Rattle.merge.specs.Merge.{output_after};
+ghost use Rattle.c_stores.specs.Calls.{merge_call, take_in_call};
 ghost use Rattle.sharing.specs.Sharing.{SharedTable, SharedBounds};
-ghost use Rattle.c_windows.specs.Calls.{windowsCall, searchesOfCall, outAfterCall, CertifiedWindows};
+ghost use Rattle.c_windows.specs.Calls.{windows_call, searches_of_call, out_after_call, CertifiedWindows};
 ghost use Rattle.registers.specs.Registers.{cleared};
-ghost use Rattle.c_bus.specs.Calls.{registersCall, readCall, registersAfterWrite, TableAfterWrite, BoundsAfterWrite, CertifiedWrite};
-ghost use Rattle.c_jobs.specs.Calls.{readJobCall, jobNumbersAfter, cornersAfter, startAfter, writeJobCall, jobRecordAfter};
-ghost use Rattle.c_answers.specs.Calls.{readAnswerCall, answerVectorAfter, answerNumbersAfter, writeAnswerCall, answerRecordAfter};
-ghost use Rattle.c_lines.specs.Calls.{writeLineCall, patternsAfter, readLineCall, coordinatesAfter};
+ghost use Rattle.c_bus.specs.Calls.{registers_call, read_call, registers_after_write, TableAfterWrite, BoundsAfterWrite, CertifiedWrite};
+ghost use Rattle.c_jobs.specs.Calls.{read_job_call, job_numbers_after, corners_after, start_after, write_job_call, job_record_after};
+ghost use Rattle.c_answers.specs.Calls.{read_answer_call, answer_vector_after, answer_numbers_after, write_answer_call, answer_record_after};
+ghost use Rattle.c_lines.specs.Calls.{write_line_call, patterns_after, read_line_call, coordinates_after};
 
 // The loss of a residual e.
 #[unsafe(no_mangle)]
 pub extern "C" fn vengutari_loss(p: u8, eps: u32, e: i64, value: &mut u64) -> u32
-    ensures code { result ≡ code_of (lossCall p eps e) }
-    ensures value { value.new ≡ valueAfter (lossCall p eps e) value.old }
+    ensures code { result ≡ code_of (loss_call p eps e) }
+    ensures value { value.new ≡ value_after (loss_call p eps e) value.old }
 {
     c_evaluation::loss(p, eps, e, value)
 }
@@ -43,9 +43,9 @@ pub extern "C" fn vengutari_cost(
     vector: &[i16],
     value: &mut u64,
 ) -> u32
-    ensures code { result ≡ code_of (costCall store.now (modelOf n d scale p eps) vector.now) }
+    ensures code { result ≡ code_of (cost_call store.now (model_of n d scale p eps) vector.now) }
     ensures value { value.new
-        ≡ valueAfter (costCall store.now (modelOf n d scale p eps) vector.now) value.old }
+        ≡ value_after (cost_call store.now (model_of n d scale p eps) vector.now) value.old }
 {
     c_evaluation::cost(store, n, d, scale, p, eps, vector, value)
 }
@@ -62,9 +62,9 @@ pub extern "C" fn vengutari_bound(
     corners: &[i16],
     value: &mut u64,
 ) -> u32
-    ensures code { result ≡ code_of (boundCall store.now (modelOf n d scale p eps) corners.now) }
+    ensures code { result ≡ code_of (bound_call store.now (model_of n d scale p eps) corners.now) }
     ensures value { value.new
-        ≡ valueAfter (boundCall store.now (modelOf n d scale p eps) corners.now) value.old }
+        ≡ value_after (bound_call store.now (model_of n d scale p eps) corners.now) value.old }
 {
     c_evaluation::bound(store, n, d, scale, p, eps, corners, value)
 }
@@ -72,8 +72,8 @@ pub extern "C" fn vengutari_bound(
 // Splits one box; the left half goes into the first row of `halves`, the right one into the second.
 #[unsafe(no_mangle)]
 pub extern "C" fn vengutari_split(n: u8, d: u8, corners: &[i16], halves: &mut [i16]) -> u32
-    ensures code { result ≡ code_of (splitCall n d corners.now halves.old) }
-    ensures halves { halves.new ≡ halvesAfter n d corners.now halves.old }
+    ensures code { result ≡ code_of (split_call n d corners.now halves.old) }
+    ensures halves { halves.new ≡ halves_after n d corners.now halves.old }
 {
     c_split::split(n, d, corners, halves)
 }
@@ -92,12 +92,12 @@ pub extern "C" fn vengutari_labels(
     value: &mut u64,
 ) -> u32
     ensures code { result
-        ≡ code_of (labelsCall store.now (modelOf n d scale p eps) vector.now labels.old) }
+        ≡ code_of (labels_call store.now (model_of n d scale p eps) vector.now labels.old) }
     ensures value { value.new
-        ≡ valueAfter (labelsCall store.now (modelOf n d scale p eps) vector.now labels.old)
+        ≡ value_after (labels_call store.now (model_of n d scale p eps) vector.now labels.old)
         value.old }
     ensures labels { labels.new
-        ≡ labelsAfter store.now (modelOf n d scale p eps) vector.now labels.old }
+        ≡ labels_after store.now (model_of n d scale p eps) vector.now labels.old }
 {
     c_labels::labels(store, n, d, scale, p, eps, vector, labels, value)
 }
@@ -116,12 +116,12 @@ pub extern "C" fn vengutari_cost_by_beacon(
     value: &mut u64,
 ) -> u32
     ensures code { result
-        ≡ code_of (costByBeaconCall store.now (modelOf n d scale p eps) vector.now sums.old) }
+        ≡ code_of (cost_by_beacon_call store.now (model_of n d scale p eps) vector.now sums.old) }
     ensures value { value.new
-        ≡ valueAfter (costByBeaconCall store.now (modelOf n d scale p eps) vector.now sums.old)
+        ≡ value_after (cost_by_beacon_call store.now (model_of n d scale p eps) vector.now sums.old)
         value.old }
     ensures sums { sums.new
-        ≡ sumsAfterCall store.now (modelOf n d scale p eps) vector.now sums.old }
+        ≡ sums_after_call store.now (model_of n d scale p eps) vector.now sums.old }
 {
     c_beacon_costs::cost_by_beacon(store, n, d, scale, p, eps, vector, sums, value)
 }
@@ -147,23 +147,23 @@ pub extern "C" fn vengutari_search(
     value: &mut u64,
 ) -> u32
     ensures code { result
-        ≡ code_of (searchCall store.now (modelOf n d scale p eps) t budget corners.now start.now
+        ≡ code_of (search_call store.now (model_of n d scale p eps) t budget corners.now start.now
         table.old bounds.old vector.old numbers.old) }
     ensures value { value.new
-        ≡ valueAfter (searchCall store.now (modelOf n d scale p eps) t budget corners.now start.now
+        ≡ value_after (search_call store.now (model_of n d scale p eps) t budget corners.now start.now
         table.old bounds.old vector.old numbers.old) value.old }
     ensures vector { vector.new
-        ≡ vectorAfter store.now (modelOf n d scale p eps) t budget corners.now start.now
+        ≡ vector_after store.now (model_of n d scale p eps) t budget corners.now start.now
         table.old bounds.old vector.old numbers.old }
     ensures numbers { numbers.new
-        ≡ numbersAfter store.now (modelOf n d scale p eps) t budget corners.now start.now
+        ≡ numbers_after store.now (model_of n d scale p eps) t budget corners.now start.now
         table.old bounds.old vector.old numbers.old }
-    ensures table { TableAfterCall store.now (modelOf n d scale p eps) t budget corners.now start.now
+    ensures table { TableAfterCall store.now (model_of n d scale p eps) t budget corners.now start.now
         table.old bounds.old vector.old numbers.old table.new }
-    ensures bounds { BoundsAfterCall store.now (modelOf n d scale p eps) t budget corners.now start.now
+    ensures bounds { BoundsAfterCall store.now (model_of n d scale p eps) t budget corners.now start.now
         table.old bounds.old vector.old numbers.old bounds.new }
     ensures certificate { result ≡ 0 →
-        CertifiedCall store.now (modelOf n d scale p eps) t budget corners.now start.now
+        CertifiedCall store.now (model_of n d scale p eps) t budget corners.now start.now
         table.old bounds.old vector.old numbers.old value.new vector.new
         numbers.new }
 {
@@ -195,22 +195,22 @@ pub extern "C" fn vengutari_windows(
     value: &mut u64,
 ) -> u32
     ensures code { result
-        ≡ code_of (windowsCall store.now (modelOf n d scale p eps) t budget corners.now start.now k h
+        ≡ code_of (windows_call store.now (model_of n d scale p eps) t budget corners.now start.now k h
         table.old bounds.old out.old) }
     ensures value { value.new
-        ≡ valueAfter (windowsCall store.now (modelOf n d scale p eps) t budget corners.now start.now k h
+        ≡ value_after (windows_call store.now (model_of n d scale p eps) t budget corners.now start.now k h
         table.old bounds.old out.old) value.old }
     ensures output { out.new
-        ≡ outAfterCall store.now (modelOf n d scale p eps) t budget corners.now start.now k h
+        ≡ out_after_call store.now (model_of n d scale p eps) t budget corners.now start.now k h
         table.old bounds.old out.old }
     ensures table { SharedTable
-        (searchesOfCall store.now (modelOf n d scale p eps) t budget corners.now start.now k h
+        (searches_of_call store.now (model_of n d scale p eps) t budget corners.now start.now k h
         table.old bounds.old out.old) table.old table.new }
     ensures bounds { SharedBounds
-        (searchesOfCall store.now (modelOf n d scale p eps) t budget corners.now start.now k h
+        (searches_of_call store.now (model_of n d scale p eps) t budget corners.now start.now k h
         table.old bounds.old out.old) bounds.old bounds.new }
     ensures certificate { result ≡ 0 →
-        CertifiedWindows store.now (modelOf n d scale p eps) t budget corners.now start.now k h
+        CertifiedWindows store.now (model_of n d scale p eps) t budget corners.now start.now k h
         table.old bounds.old out.old value.new out.new }
 {
     c_windows::windows(
@@ -235,19 +235,19 @@ pub extern "C" fn vengutari_boards(
     numbers: &mut [u64],
 ) -> u32
     ensures code { result
-        ≡ code_of (Boards.boardsCall count total jobs.now stores.now lengths.now table.old
+        ≡ code_of (Boards.boards_call count total jobs.now stores.now lengths.now table.old
         bounds.old codes.old budgets.old vectors.old numbers.old) }
     ensures codes { codes.new
-        ≡ Boards.codesAfter count total jobs.now stores.now lengths.now table.old
+        ≡ Boards.codes_after count total jobs.now stores.now lengths.now table.old
         bounds.old codes.old budgets.old vectors.old numbers.old }
     ensures budgets { budgets.new
-        ≡ Boards.budgetsAfter count total jobs.now stores.now lengths.now table.old
+        ≡ Boards.budgets_after count total jobs.now stores.now lengths.now table.old
         bounds.old codes.old budgets.old vectors.old numbers.old }
     ensures vectors { vectors.new
-        ≡ Boards.vectorsAfter count total jobs.now stores.now lengths.now table.old
+        ≡ Boards.vectors_after count total jobs.now stores.now lengths.now table.old
         bounds.old codes.old budgets.old vectors.old numbers.old }
     ensures numbers { numbers.new
-        ≡ Boards.numbersAfter count total jobs.now stores.now lengths.now table.old
+        ≡ Boards.numbers_after count total jobs.now stores.now lengths.now table.old
         bounds.old codes.old budgets.old vectors.old numbers.old }
     ensures table { Boards.TableAfterCall count total jobs.now stores.now lengths.now table.old
         bounds.old codes.old budgets.old vectors.old numbers.old
@@ -286,25 +286,25 @@ pub extern "C" fn vengutari_ranges(
     value: &mut u64,
 ) -> u32
     ensures code { result
-        ≡ code_of (rangeCalls.rangesCall store.now (modelOf n d scale p eps) budget ceiling corners.now
+        ≡ code_of (rangeCalls.ranges_call store.now (model_of n d scale p eps) budget ceiling corners.now
         start.now table.old patterns.old cases.old numbers.old) }
     ensures value { value.new
-        ≡ valueAfter (rangeCalls.rangesCall store.now (modelOf n d scale p eps) budget ceiling corners.now
+        ≡ value_after (rangeCalls.ranges_call store.now (model_of n d scale p eps) budget ceiling corners.now
         start.now table.old patterns.old cases.old numbers.old)
         value.old }
     ensures patterns { patterns.new
-        ≡ rangeCalls.patternsAfter store.now (modelOf n d scale p eps) budget ceiling corners.now
+        ≡ rangeCalls.patterns_after store.now (model_of n d scale p eps) budget ceiling corners.now
         start.now table.old patterns.old cases.old numbers.old }
     ensures cases { cases.new
-        ≡ rangeCalls.casesAfter store.now (modelOf n d scale p eps) budget ceiling corners.now start.now
+        ≡ rangeCalls.cases_after store.now (model_of n d scale p eps) budget ceiling corners.now start.now
         table.old patterns.old cases.old numbers.old }
     ensures numbers { numbers.new
-        ≡ rangeCalls.numbersAfter store.now (modelOf n d scale p eps) budget ceiling corners.now start.now
+        ≡ rangeCalls.numbers_after store.now (model_of n d scale p eps) budget ceiling corners.now start.now
         table.old patterns.old cases.old numbers.old }
-    ensures table { rangeCalls.TableAfterCall store.now (modelOf n d scale p eps) budget ceiling corners.now start.now
+    ensures table { rangeCalls.TableAfterCall store.now (model_of n d scale p eps) budget ceiling corners.now start.now
         table.old patterns.old cases.old numbers.old table.new }
     ensures ranges { result ≡ 0 →
-        rangeCalls.CertifiedCall store.now (modelOf n d scale p eps) budget ceiling corners.now start.now
+        rangeCalls.CertifiedCall store.now (model_of n d scale p eps) budget ceiling corners.now start.now
         table.old patterns.old cases.old numbers.old value.new
         patterns.new cases.new numbers.new }
 {
@@ -337,30 +337,30 @@ pub extern "C" fn vengutari_peel(
     value: &mut u64,
 ) -> u32
     ensures code { result
-        ≡ code_of (peeling.peelCall store.now (modelOf n d scale p eps) t budget corners.now start.now limit
+        ≡ code_of (peeling.peel_call store.now (model_of n d scale p eps) t budget corners.now start.now limit
         table.old bounds.old labels.old vectors.old numbers.old) }
     ensures value { value.new
-        ≡ valueAfter
-        (peeling.peelCall store.now (modelOf n d scale p eps) t budget corners.now start.now limit
+        ≡ value_after
+        (peeling.peel_call store.now (model_of n d scale p eps) t budget corners.now start.now limit
         table.old bounds.old labels.old vectors.old numbers.old)
         value.old }
     ensures vectors { vectors.new
-        ≡ peeling.vectorsAfter store.now (modelOf n d scale p eps) t budget corners.now start.now limit
+        ≡ peeling.vectors_after store.now (model_of n d scale p eps) t budget corners.now start.now limit
         table.old bounds.old labels.old vectors.old numbers.old }
     ensures numbers { numbers.new
-        ≡ peeling.numbersAfter store.now (modelOf n d scale p eps) t budget corners.now start.now limit
+        ≡ peeling.numbers_after store.now (model_of n d scale p eps) t budget corners.now start.now limit
         table.old bounds.old labels.old vectors.old numbers.old }
     ensures labels { labels.new
-        ≡ peeling.labelsAfterCall store.now (modelOf n d scale p eps) t budget corners.now start.now limit
+        ≡ peeling.labels_after_call store.now (model_of n d scale p eps) t budget corners.now start.now limit
         table.old bounds.old labels.old vectors.old numbers.old }
-    ensures table { peeling.TableAfterCall store.now (modelOf n d scale p eps) t budget corners.now start.now limit
+    ensures table { peeling.TableAfterCall store.now (model_of n d scale p eps) t budget corners.now start.now limit
         table.old bounds.old labels.old vectors.old numbers.old
         table.new }
-    ensures bounds { peeling.BoundsAfterCall store.now (modelOf n d scale p eps) t budget corners.now start.now limit
+    ensures bounds { peeling.BoundsAfterCall store.now (model_of n d scale p eps) t budget corners.now start.now limit
         table.old bounds.old labels.old vectors.old numbers.old
         bounds.new }
     ensures peeling { result ≡ 0 →
-        peeling.PeelingCall store.now (modelOf n d scale p eps) t budget corners.now start.now limit
+        peeling.PeelingCall store.now (model_of n d scale p eps) t budget corners.now start.now limit
         table.old bounds.old labels.old vectors.old numbers.old
         value.new vectors.new numbers.new labels.new }
 {
@@ -378,10 +378,10 @@ pub extern "C" fn vengutari_take_in(
     beacon: &[u8],
     value: &mut u64,
 ) -> u32
-    ensures code { result ≡ code_of (takeInCall store.old mark beacon.now) }
+    ensures code { result ≡ code_of (take_in_call store.old mark beacon.now) }
     ensures value { value.new
-        ≡ valueAfter (takeInCall store.old mark beacon.now) value.old }
-    ensures store { store.new ≡ storeAfter store.old mark beacon.now }
+        ≡ value_after (take_in_call store.old mark beacon.now) value.old }
+    ensures store { store.new ≡ store_after store.old mark beacon.now }
 {
     c_stores::take_in(store, mark, beacon, value)
 }
@@ -394,10 +394,10 @@ pub extern "C" fn vengutari_merge(
     out: &mut [u8],
     value: &mut u64,
 ) -> u32
-    ensures code { result ≡ code_of (mergeCall first.now second.now out.old) }
+    ensures code { result ≡ code_of (merge_call first.now second.now out.old) }
     ensures value { value.new
-        ≡ valueAfter (mergeCall first.now second.now out.old) value.old }
-    ensures output { out.new ≡ outputAfter first.now second.now out.old }
+        ≡ value_after (merge_call first.now second.now out.old) value.old }
+    ensures output { out.new ≡ output_after first.now second.now out.old }
 {
     c_stores::merge(first, second, out, value)
 }
@@ -411,13 +411,13 @@ pub extern "C" fn vengutari_read_job(
     start: &mut [i16],
 ) -> u32
     ensures code { result
-        ≡ code_of (readJobCall bytes.now numbers.old corners.old start.old) }
+        ≡ code_of (read_job_call bytes.now numbers.old corners.old start.old) }
     ensures numbers { numbers.new
-        ≡ jobNumbersAfter bytes.now numbers.old corners.old start.old }
+        ≡ job_numbers_after bytes.now numbers.old corners.old start.old }
     ensures corners { corners.new
-        ≡ cornersAfter bytes.now numbers.old corners.old start.old }
+        ≡ corners_after bytes.now numbers.old corners.old start.old }
     ensures start { start.new
-        ≡ startAfter bytes.now numbers.old corners.old start.old }
+        ≡ start_after bytes.now numbers.old corners.old start.old }
 {
     c_jobs::read_job(bytes, numbers, corners, start)
 }
@@ -437,9 +437,9 @@ pub extern "C" fn vengutari_write_job(
     start: &[i16],
     bytes: &mut [u8],
 ) -> u32
-    ensures code { result ≡ code_of (writeJobCall corners.now start.now bytes.old) }
+    ensures code { result ≡ code_of (write_job_call corners.now start.now bytes.old) }
     ensures bytes { bytes.new
-        ≡ jobRecordAfter (modelOf n d scale p eps) t budget rows corners.now start.now bytes.old }
+        ≡ job_record_after (model_of n d scale p eps) t budget rows corners.now start.now bytes.old }
 {
     c_jobs::write_job(n, d, scale, p, eps, t, budget, rows, corners, start, bytes)
 }
@@ -451,9 +451,9 @@ pub extern "C" fn vengutari_read_answer(
     vector: &mut [i16],
     numbers: &mut [u64],
 ) -> u32
-    ensures code { result ≡ code_of (readAnswerCall bytes.now vector.old numbers.old) }
-    ensures vector { vector.new ≡ answerVectorAfter bytes.now vector.old numbers.old }
-    ensures numbers { numbers.new ≡ answerNumbersAfter bytes.now vector.old numbers.old }
+    ensures code { result ≡ code_of (read_answer_call bytes.now vector.old numbers.old) }
+    ensures vector { vector.new ≡ answer_vector_after bytes.now vector.old numbers.old }
+    ensures numbers { numbers.new ≡ answer_numbers_after bytes.now vector.old numbers.old }
 {
     c_answers::read_answer(bytes, vector, numbers)
 }
@@ -471,9 +471,9 @@ pub extern "C" fn vengutari_write_answer(
     scale: u8,
     bytes: &mut [u8],
 ) -> u32
-    ensures code { result ≡ code_of (writeAnswerCall vector.now cost bound count kind n d scale bytes.old) }
+    ensures code { result ≡ code_of (write_answer_call vector.now cost bound count kind n d scale bytes.old) }
     ensures bytes { bytes.new
-        ≡ answerRecordAfter vector.now cost bound count kind n d scale bytes.old }
+        ≡ answer_record_after vector.now cost bound count kind n d scale bytes.old }
 {
     c_answers::write_answer(vector, cost, bound, count, kind, n, d, scale, bytes)
 }
@@ -486,8 +486,8 @@ pub extern "C" fn vengutari_write_line(
     coordinates: &[i16],
     patterns: &mut [u32],
 ) -> u32
-    ensures code { result ≡ code_of (writeLineCall d scale coordinates.now patterns.old) }
-    ensures patterns { patterns.new ≡ patternsAfter d scale coordinates.now patterns.old }
+    ensures code { result ≡ code_of (write_line_call d scale coordinates.now patterns.old) }
+    ensures patterns { patterns.new ≡ patterns_after d scale coordinates.now patterns.old }
 {
     c_lines::write_line(d, scale, coordinates, patterns)
 }
@@ -500,8 +500,8 @@ pub extern "C" fn vengutari_read_line(
     patterns: &[u32],
     coordinates: &mut [i16],
 ) -> u32
-    ensures code { result ≡ code_of (readLineCall d scale coordinates.old patterns.now) }
-    ensures coordinates { coordinates.new ≡ coordinatesAfter d scale coordinates.old patterns.now }
+    ensures code { result ≡ code_of (read_line_call d scale coordinates.old patterns.now) }
+    ensures coordinates { coordinates.new ≡ coordinates_after d scale coordinates.old patterns.now }
 {
     c_lines::read_line(d, scale, patterns, coordinates)
 }
@@ -509,9 +509,9 @@ pub extern "C" fn vengutari_read_line(
 // Resets the registers of the fitter on the data bus.
 #[unsafe(no_mangle)]
 pub extern "C" fn vengutari_reset(registers: &mut [u8]) -> u32
-    ensures code { result ≡ code_of (registersCall registers.old) }
+    ensures code { result ≡ code_of (registers_call registers.old) }
     ensures registers { registers.new
-        ≡ ifAccepted (registersCall registers.old) cleared registers.old }
+        ≡ if_accepted (registers_call registers.old) cleared registers.old }
 {
     c_bus::reset(registers)
 }
@@ -519,8 +519,8 @@ pub extern "C" fn vengutari_reset(registers: &mut [u8]) -> u32
 // Reads the register at an offset.
 #[unsafe(no_mangle)]
 pub extern "C" fn vengutari_read_register(registers: &[u8], offset: usize, value: &mut u64) -> u32
-    ensures code { result ≡ code_of (readCall registers.now offset) }
-    ensures value { value.new ≡ valueAfter (readCall registers.now offset) value.old }
+    ensures code { result ≡ code_of (read_call registers.now offset) }
+    ensures value { value.new ≡ value_after (read_call registers.now offset) value.old }
 {
     c_bus::read_register(registers, offset, value)
 }
@@ -535,9 +535,9 @@ pub extern "C" fn vengutari_write_register(
     table: &mut [i16],
     bounds: &mut [u64],
 ) -> u32
-    ensures code { result ≡ code_of (registersCall registers.old) }
+    ensures code { result ≡ code_of (registers_call registers.old) }
     ensures registers { registers.new
-        ≡ registersAfterWrite registers.old offset value store.now table.old bounds.old }
+        ≡ registers_after_write registers.old offset value store.now table.old bounds.old }
     ensures table { TableAfterWrite registers.old offset value store.now table.old bounds.old
         table.new }
     ensures bounds { BoundsAfterWrite registers.old offset value store.now table.old bounds.old

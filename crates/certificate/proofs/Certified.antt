@@ -13,19 +13,19 @@ use Rattle.integers.proofs.Lists.{all_map}
 use Rattle.boxes.specs.declared.Box.{Box}
 use Rattle.boxes.specs.Boxes.{InBox, volume}
 use Rattle.boxes.specs.Laws.{Bounds}
-use Rattle.certificate.specs.Search.{State, Kind, solved, Answer, Next, stop, go, lowerBound, begin, split, isSolved, answer, step}
+use Rattle.certificate.specs.Search.{State, Kind, solved, Answer, Next, stop, go, lower_bound, begin, split, is_solved, answer, step}
 use Rattle.certificate.specs.Search.{run, search}
 use Rattle.certificate.specs.Certificate.{Reached, beginning, counting, Finished, Certificate, state_of}
-use Rattle.certificate.proofs.Ahead.{tied, ahead-is, ahead-le, settled-le}
-use Rattle.certificate.proofs.Smallest.{lower-below, lower-le}
-use Rattle.certificate.proofs.Cover.{nothing-open, count-few, open_more, open-few}
-use Rattle.certificate.proofs.Steps.{gap, solved-later, solved-zero, solved-near, unsolved-open, Case, solves, spends, fills, goes}
-use Rattle.certificate.proofs.Steps.{step_case, run-stops, run-goes}
-use Rattle.certificate.proofs.Reached.{Held, split-covers, held}
+use Rattle.certificate.proofs.Ahead.{tied, ahead_is, ahead_le, settled_le}
+use Rattle.certificate.proofs.Smallest.{lower_below, lower_le}
+use Rattle.certificate.proofs.Cover.{nothing_open, count_few, open_more, open_few}
+use Rattle.certificate.proofs.Steps.{gap, solved_later, solved_zero, solved_near, unsolved_open, Case, solves, spends, fills, goes}
+use Rattle.certificate.proofs.Steps.{step_case, run_stops, run_goes}
+use Rattle.certificate.proofs.Reached.{Held, split_covers, held}
 
-empty-zero : (bs : List Box) → (length bs ≡ 0) ↔ (bs ≡ [])
-empty-zero [] = (λ z. refl, λ e. refl)
-empty-zero (b ∷ bs) = (λ z. absurd (omega arith), λ e. ap length e)
+empty_zero : (bs : List Box) → (length bs ≡ 0) ↔ (bs ≡ [])
+empty_zero [] = (λ z. refl, λ e. refl)
+empty_zero (b ∷ bs) = (λ z. absurd (omega arith), λ e. ap length e)
 
 module _ (cost : List ℤ → ℕ) (bound : Box → ℕ) (budget rows t : ℕ) (start : List ℤ) (box : Box) where
   abbrev FinishedRun : ℕ → State → Type 0
@@ -39,7 +39,7 @@ module _ (cost : List ℤ → ℕ) (bound : Box → ℕ) (budget rows t : ℕ) (
       FinishedRun (suc n) s
   unfolding answer
   stops n s r within e =
-      rw (run-stops cost bound budget rows t s n e) (record { reached = r; stopped = e; told = refl; within = within })
+      rw (run_stops cost bound budget rows t s n e) (record { reached = r; stopped = e; told = refl; within = within })
 
   -- a step stops, or the run goes on
   steps :
@@ -53,7 +53,7 @@ module _ (cost : List ℤ → ℕ) (bound : Box → ℕ) (budget rows t : ℕ) (
   steps n s r within on e (solves yet) = stops n s r within e
   steps n s r within on e (spends unsolved all) = stops n s r within e
   steps n s r within on e (fills unsolved many) = stops n s r within e
-  steps n s r within on e (goes unsolved left few) = rw (run-goes cost bound budget rows t s n e) (on left e)
+  steps n s r within on e (goes unsolved left few) = rw (run_goes cost bound budget rows t s n e) (on left e)
 
   -- n splits are left
   finishes :
@@ -83,66 +83,66 @@ module _ (cost : List ℤ → ℕ) (bound : Box → ℕ) (budget rows t : ℕ) (
     case : Case cost bound budget rows t s (stop r.kind)
     case = rw f.stopped at (step_case cost bound budget rows t s)
 
-    is-solved : {kind : Kind} → Case cost bound budget rows t s (stop kind) → (kind ≡ solved) ↔ (isSolved cost bound t s ≡ true)
-    is-solved (solves yet) = (λ e. yet, λ k. refl)
-    is-solved (spends unsolved all) =
+    is_solved_lem : {kind : Kind} → Case cost bound budget rows t s (stop kind) → (kind ≡ solved) ↔ (is_solved cost bound t s ≡ true)
+    is_solved_lem (solves yet) = (λ e. yet, λ k. refl)
+    is_solved_lem (spends unsolved all) =
         (λ e. let z : ◌≡◌ {A = ℕ} 0 1 = cc in absurd (omega arith), λ k. absurd (true≢false (sym k ∙ unsolved)))
-    is-solved (fills unsolved many) =
+    is_solved_lem (fills unsolved many) =
         (λ e. let z : ◌≡◌ {A = ℕ} 0 1 = cc in absurd (omega arith), λ k. absurd (true≢false (sym k ∙ unsolved)))
 
     -- what is spent had a split to come, and what is full would have had more open boxes than half of V
-    suffices-case :
+    suffices_case :
         {kind : Kind} →
         Case cost bound budget rows t s (stop kind) →
         volume box - 1 ≤ budget →
         volume box ≤ 2 * rows →
         kind ≡ solved
-    suffices-case (solves yet) enough room = refl
-    suffices-case (spends unsolved all) enough room = absurd (omega (arith, open_more h.covers (unsolved-open cost bound t s unsolved)))
-    suffices-case (fills unsolved many) enough room =
-        absurd (omega (arith, open-few (split-covers cost bound laws t box s (unsolved-open cost bound t s unsolved) h.covers)))
+    suffices_case (solves yet) enough room = refl
+    suffices_case (spends unsolved all) enough room = absurd (omega (arith, open_more h.covers (unsolved_open cost bound t s unsolved)))
+    suffices_case (fills unsolved many) enough room =
+        absurd (omega (arith, open_few (split_covers cost bound laws t box s (unsolved_open cost bound t s unsolved) h.covers)))
 
-    iff : (r.kind ≡ solved) ↔ (isSolved cost bound t s ≡ true)
-    iff = is-solved case
+    iff : (r.kind ≡ solved) ↔ (is_solved cost bound t s ≡ true)
+    iff = is_solved_lem case
 
     empties : t ≡ 0 → r.kind ≡ solved → r.list ≡ []
-    empties z e = (empty-zero r.list).0 (eqb-true (length r.list) 0 (sym (solved-zero cost bound t s z) ∙ iff.0 e))
+    empties z e = (empty_zero r.list).0 (eqb-true (length r.list) 0 (sym (solved_zero cost bound t s z) ∙ iff.0 e))
 
     pub certify : Certificate cost bound budget rows t start box r
     unfolding answer
     certify =
         let c = cost r.vector in
-        let low = lowerBound bound c r.list in
-        let same-cost : r.cost ≡ c = ap (λ (a : Answer). a.cost) f.told in
-        let same-bound : r.bound ≡ low = ap (λ (a : Answer). a.bound) f.told in
+        let low = lower_bound bound c r.list in
+        let same_cost : r.cost ≡ c = ap (λ (a : Answer). a.cost) f.told in
+        let same_bound : r.bound ≡ low = ap (λ (a : Answer). a.bound) f.told in
         let le =
-        lower-le bound c r.list
-        (all_map (λ b k. ahead-le t c r.vector (bound b) b.low k) h.sound.kept) in
+        lower_le bound c r.list
+        (all_map (λ b k. ahead_le t c r.vector (bound b) b.low k) h.sound.kept) in
         record {
-          inside = h.sound.best-in;
-          exact = same-cost;
+          inside = h.sound.best_in;
+          exact = same_cost;
           ordered = omega arith;
           least = λ v j.
-              h.covers.covered v j (r.bound ≤ cost v) (λ k. omega (arith, settled-le cost t r.vector v k))
-              (all_map (λ b k m. omega (arith, laws.sound b v m)) (lower-below bound c r.list));
+              h.covers.covered v j (r.bound ≤ cost v) (λ k. omega (arith, settled_le cost t r.vector v k))
+              (all_map (λ b k m. omega (arith, laws.sound b v m)) (lower_below bound c r.list));
           counted = f.reached;
-          few = omega (arith, count-few h.covers);
+          few = omega (arith, count_few h.covers);
           reads = λ later.
-              let same = solved-later cost bound t s later in (
-                λ e. omega (arith, solved-near cost bound t s (iff.0 e)),
+              let same = solved_later cost bound t s later in (
+                λ e. omega (arith, solved_near cost bound t s (iff.0 e)),
                 λ k. iff.1 (same ∙ le-leb (gap cost bound s) t (omega arith)),
               );
-          reads-empty =
-              λ z. (empties z, λ e. iff.1 (solved-zero cost bound t s z ∙ eq-eqb (length r.list) 0 ((empty-zero r.list).1 e)));
-          near = λ e. omega (arith, solved-near cost bound t s (iff.0 e));
+          reads_empty =
+              λ z. (empties z, λ e. iff.1 (solved_zero cost bound t s z ∙ eq-eqb (length r.list) 0 ((empty_zero r.list).1 e)));
+          near = λ e. omega (arith, solved_near cost bound t s (iff.0 e));
           first = λ z e.
-              let seen = nothing-open h.covers (empties z e) in
+              let seen = nothing_open h.covers (empties z e) in
               record {
-                inside = h.sound.best-in;
-                cheapest = λ v j. settled-le cost t r.vector v (seen v j);
-                earliest = λ v j same k. seen v j (ahead-is t c r.vector (cost v) v (tied z same k));
+                inside = h.sound.best_in;
+                cheapest = λ v j. settled_le cost t r.vector v (seen v j);
+                earliest = λ v j same k. seen v j (ahead_is t c r.vector (cost v) v (tied z same k));
               };
-          suffices = λ enough room. suffices-case case (omega arith) (omega arith);
+          suffices = λ enough room. suffices_case case (omega arith) (omega arith);
         }
 
   -- the certificate, for every cost and bound with the two laws

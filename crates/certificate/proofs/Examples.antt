@@ -5,21 +5,21 @@ use mathlib.Core.List.{List, [], ◌∷◌, map}
 use Prim.Native.Nat.{ℕ, min}
 use lib.IntN.{ℤ, pos, negsuc, nat_abs, ◌+ℤ◌}
 use lib.ListN.{get_or}
-use Rattle.integers.specs.Integers.{floorHalf}
+use Rattle.integers.specs.Integers.{floor_half}
 use Rattle.boxes.specs.declared.Box.{Box}
-use Rattle.boxes.specs.Boxes.{before, sideSize, sides, from, each, gridBetween, grid}
-use Rattle.boxes.specs.Split.{firstLargest, left_half, right_half}
-use Rattle.certificate.specs.Search.{Kind, solved, spent, Answer, ahead, lowerBound, firstSmallest, better, begin, split, isSolved}
-use Rattle.certificate.specs.Search.{answer, ifRoom, step, follow, run, search}
+use Rattle.boxes.specs.Boxes.{before, side_size, sides, from, each, grid_between, grid}
+use Rattle.boxes.specs.Split.{first_largest, left_half, right_half}
+use Rattle.certificate.specs.Search.{Kind, solved, spent, Answer, ahead, lower_bound, first_smallest, better, begin, split, is_solved}
+use Rattle.certificate.specs.Search.{answer, if_room, step, follow, run, search}
 
-abbrev leastOf : List ℕ → ℕ
-leastOf [] = 0
-leastOf (x ∷ []) = x
-leastOf (x ∷ y ∷ ys) = min x (leastOf (y ∷ ys))
+abbrev least_of : List ℕ → ℕ
+least_of [] = 0
+least_of (x ∷ []) = x
+least_of (x ∷ y ∷ ys) = min x (least_of (y ∷ ys))
 
 -- a search with 4 rows, by the cost, t, the budget, the start vector, and the low and the high vector of the box
 abbrev found : (List ℤ → ℕ) → ℕ → ℕ → List ℤ → List ℤ → List ℤ → Answer
-found cost t budget start low high = search cost (λ b. leastOf (map cost (grid b))) budget 4 t start (record { low = low; high = high })
+found cost t budget start low high = search cost (λ b. least_of (map cost (grid b))) budget 4 t start (record { low = low; high = high })
 
 -- kind, vector, C, L, count, open boxes, peak
 abbrev told : Kind → List ℤ → ℕ → ℕ → ℕ → List Box → ℕ → Answer
@@ -41,12 +41,12 @@ away k x v = nat_abs (get_or v k (pos 0) +ℤ x)
 
 pub record Ties : Type 0 where
   -- "a spent or full answer may have C = L"
-  pub spent-even : found even 0 0 (one (pos 1)) (one (pos 0)) (one (pos 1))
+  pub spent_even : found even 0 0 (one (pos 1)) (one (pos 0)) (one (pos 1))
       ≡ told spent (one (pos 1)) 7 7 0 (record { low = one (pos 0); high = one (pos 1) } ∷ []) 1
   -- with a budget the first vector is found, and no box is open then
-  pub solved-even : found even 0 9 (one (pos 1)) (one (pos 0)) (one (pos 1)) ≡ told solved (one (pos 0)) 7 7 1 [] 1
+  pub solved_even : found even 0 9 (one (pos 1)) (one (pos 0)) (one (pos 1)) ≡ told solved (one (pos 0)) 7 7 1 [] 1
   -- "For larger t the answer remains as it was": the start vector, before any split
-  pub later-even : found even 1 9 (one (pos 1)) (one (pos 0)) (one (pos 1)) ≡ told solved (one (pos 1)) 7 7 0 [] 0
+  pub later_even : found even 1 9 (one (pos 1)) (one (pos 0)) (one (pos 1)) ≡ told solved (one (pos 1)) 7 7 0 [] 0
   -- −1 comes before 0
   pub signed : found even 0 9 (one (pos 0)) (one (negsuc 0)) (one (pos 0)) ≡ told solved (one (negsuc 0)) 7 7 1 [] 1
   -- A box of one vector whose bound is above C is not kept, though its low vector comes before best.
@@ -56,6 +56,6 @@ pub record Ties : Type 0 where
       ≡ told solved (two (pos 1) (negsuc 1)) 0 0 2 [] 2
 
 pub ties : Ties
-unfolding floorHalf before sideSize sides from each gridBetween firstLargest left_half right_half ahead lowerBound firstSmallest better begin
-    split isSolved answer ifRoom step follow run search
-ties = record { spent-even = refl; solved-even = refl; later-even = refl; signed = refl; dearer = refl; earlier = refl }
+unfolding floor_half before side_size sides from each grid_between first_largest left_half right_half ahead lower_bound first_smallest better begin
+    split is_solved answer if_room step follow run search
+ties = record { spent_even = refl; solved_even = refl; later_even = refl; signed = refl; dearer = refl; earlier = refl }

@@ -9,7 +9,7 @@ use lib.ListN.{length, get_or, take, drop}
 use Rattle.integers.specs.Lists.{All, none, also}
 use Rattle.integers.proofs.Lists.{all_head, all_tail, all_map, all_of}
 use Rattle.integers.proofs.Tests.{by_cond, is_true, is_false}
-use Rattle.certificate.specs.Search.{keepIf}
+use Rattle.certificate.specs.Search.{keep_if}
 
 module _ {A : Type 0} where
   abbrev pub sum : (A → ℕ) → List A → ℕ
@@ -21,31 +21,31 @@ module _ {A : Type 0} where
     here : {xs : List A} → Takes x (x ∷ xs) xs
     there : {y : A} {ys zs : List A} → Takes x ys zs → Takes x (y ∷ ys) (y ∷ zs)
 
-  pub sum-append : (f : A → ℕ) (xs ys : List A) → sum f (xs ++ ys) ≡ sum f xs + sum f ys
-  sum-append f [] ys = omega arith
-  sum-append f (x ∷ xs) ys = omega (arith, sum-append f xs ys)
+  pub sum_append : (f : A → ℕ) (xs ys : List A) → sum f (xs ++ ys) ≡ sum f xs + sum f ys
+  sum_append f [] ys = omega arith
+  sum_append f (x ∷ xs) ys = omega (arith, sum_append f xs ys)
 
   -- n to each
-  pub sum-each : (f : A → ℕ) (n : ℕ) {xs : List A} → All (λ x. n ≤ f x) xs → n * length xs ≤ sum f xs
-  sum-each f n none = omega arith
-  sum-each f n (also h hs) = omega (arith, sum-each f n hs)
+  pub sum_each : (f : A → ℕ) (n : ℕ) {xs : List A} → All (λ x. n ≤ f x) xs → n * length xs ≤ sum f xs
+  sum_each f n none = omega arith
+  sum_each f n (also h hs) = omega (arith, sum_each f n hs)
 
   -- what is kept has passed
-  pub all-kept {ℓ} : {P : A → Type ℓ} {xs : List A} (p : A → Bool) → All P xs → All (λ x. T (p x) × P x) (keepIf p xs)
-  all-kept p none = none
-  all-kept {P} p (also {x} h hs) =
-      let kept = all-kept p hs in
+  pub all_kept {ℓ} : {P : A → Type ℓ} {xs : List A} (p : A → Bool) → All P xs → All (λ x. T (p x) × P x) (keep_if p xs)
+  all_kept p none = none
+  all_kept {P} p (also {x} h hs) =
+      let kept = all_kept p hs in
       by_cond (All (λ x. T (p x) × P x)) (p x) (λ t. also (t, h) kept) (λ t. kept)
 
-  pub passed-kept : (p : A → Bool) (xs : List A) → All (λ x. T (p x)) (keepIf p xs)
-  passed-kept p xs = all_map (λ x h. h.0) (all-kept {P = λ x. Unit {0}} p (all_of (λ x. tt) xs))
+  pub passed_kept : (p : A → Bool) (xs : List A) → All (λ x. T (p x)) (keep_if p xs)
+  passed_kept p xs = all_map (λ x h. h.0) (all_kept {P = λ x. Unit {0}} p (all_of (λ x. tt) xs))
 
   -- what holds of the kept ones and of whatever fails holds of all
   pub kept-all {ℓ ℓ'} :
       {P : A → Type ℓ} {R : A → Type ℓ'} {xs : List A} (p : A → Bool) →
       ((x : A) → R x → T (not (p x)) → P x) →
       All R xs →
-      All P (keepIf p xs) →
+      All P (keep_if p xs) →
       All P xs
   kept-all p f none k = none
   kept-all {P} p f (also {x} {xs} h hs) k =
@@ -54,24 +54,24 @@ module _ {A : Type 0} where
       (λ t k. also (f x h t) (kept-all p f hs k))
       k
 
-  pub sum_kept : (f : A → ℕ) (p : A → Bool) (xs : List A) → sum f (keepIf p xs) ≤ sum f xs
+  pub sum_kept : (f : A → ℕ) (p : A → Bool) (xs : List A) → sum f (keep_if p xs) ≤ sum f xs
   sum_kept f p [] = omega arith
   sum_kept f p (x ∷ xs) =
       let kept = sum_kept f p xs in
       by_cond (λ ys. sum f ys ≤ f x + sum f xs) (p x) (λ t. omega arith) (λ t. omega arith)
 
   -- one part of the list after the other
-  pub append-kept : (p : A → Bool) (xs ys : List A) → keepIf p (xs ++ ys) ≡ keepIf p xs ++ keepIf p ys
-  append-kept p [] ys = refl
-  append-kept p (x ∷ xs) ys =
-      by_cond (λ kept. keepIf p (x ∷ (xs ++ ys)) ≡ kept ++ keepIf p ys) (p x)
-      (λ t. rw (is_true (p x) t, append-kept p xs ys))
-      (λ t. rw (is_false (p x) t, append-kept p xs ys))
+  pub append_kept : (p : A → Bool) (xs ys : List A) → keep_if p (xs ++ ys) ≡ keep_if p xs ++ keep_if p ys
+  append_kept p [] ys = refl
+  append_kept p (x ∷ xs) ys =
+      by_cond (λ kept. keep_if p (x ∷ (xs ++ ys)) ≡ kept ++ keep_if p ys) (p x)
+      (λ t. rw (is_true (p x) t, append_kept p xs ys))
+      (λ t. rw (is_false (p x) t, append_kept p xs ys))
 
-  pub length-kept : (p : A → Bool) (xs : List A) → length (keepIf p xs) ≤ length xs
-  length-kept p [] = omega arith
-  length-kept p (x ∷ xs) =
-      let rest = length-kept p xs in
+  pub length_kept : (p : A → Bool) (xs : List A) → length (keep_if p xs) ≤ length xs
+  length_kept p [] = omega arith
+  length_kept p (x ∷ xs) =
+      let rest = length_kept p xs in
       by_cond (λ (kept : List A). length kept ≤ suc (length xs)) (p x) (λ t. omega arith) (λ t. omega arith)
 
   -- the element at a place is taken out by what stands before and after it
@@ -88,9 +88,9 @@ module _ {A : Type 0} where
   all-takes here p h = also p h
   all-takes (there t) p (also h hs) = also h (all-takes t p hs)
 
-  pub takes-sum : (f : A → ℕ) {x : A} {ys zs : List A} → Takes x ys zs → sum f ys ≡ f x + sum f zs
-  takes-sum f here = refl
-  takes-sum f (there t) = omega (arith, takes-sum f t)
+  pub takes_sum : (f : A → ℕ) {x : A} {ys zs : List A} → Takes x ys zs → sum f ys ≡ f x + sum f zs
+  takes_sum f here = refl
+  takes_sum f (there t) = omega (arith, takes_sum f t)
 
   -- what holds of each element holds at each place
   pub all-at {ℓ} : {P : A → Type ℓ} {xs : List A} (d : A) → All P xs → (k : ℕ) → k < length xs → P (get_or xs k d)

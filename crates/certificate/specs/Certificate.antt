@@ -44,7 +44,7 @@ module _ (cost : List ℤ → ℕ) (bound : Box → ℕ) (budget rows t : ℕ) (
     -- "The answer reads solved exactly when C − L is at most t,
     pub reads : 1 ≤ t → (r.kind ≡ solved) ↔ (r.cost - r.bound ≤ t)
     -- 02: for t = 0 "the certificate reads solved exactly when no box is open, so a spent or full answer may have C = L."
-    pub reads-empty : t ≡ 0 → (r.kind ≡ solved) ↔ (r.list ≡ [])
+    pub reads_empty : t ≡ 0 → (r.kind ≡ solved) ↔ (r.list ≡ [])
     -- So whatever t is, C − L is at most t where the answer reads solved.
     pub near : r.kind ≡ solved → r.cost - r.bound ≤ t
     -- 02: "With t = 0, a solved answer is to be the first of all vectors of least cost, comparing coordinate 1 first, whatever the start."

@@ -4,15 +4,15 @@ use Rattle.integers.specs.Lists.{All}
 use Rattle.boxes.specs.declared.Box.{Box}
 use Rattle.boxes.specs.Boxes.{InBox, volume}
 use Rattle.boxes.specs.Laws.{Bounds}
-use Rattle.certificate.specs.Search.{State, solved, Answer, keeps, lowerBound, firstSmallest, boxAt, better, lowest, isSolved}
+use Rattle.certificate.specs.Search.{State, solved, Answer, keeps, lower_bound, first_smallest, box_at, better, lowest, is_solved}
 use Rattle.certificate.specs.Certificate.{Reached, First, Certificate}
 
 -- "the first box with the smallest bound": its bound is L, none is smaller, and those before it are larger.
 pub record Smallest (bound : Box → ℕ) (list : List Box) : Type 0 where
-  pub inside : firstSmallest bound list < length list
-  pub lowest : (c : ℕ) → bound (boxAt list (firstSmallest bound list)) ≡ lowerBound bound c list
-  pub none-smaller : (k : ℕ) → k < length list → bound (boxAt list (firstSmallest bound list)) ≤ bound (boxAt list k)
-  pub first : (k : ℕ) → k < firstSmallest bound list → bound (boxAt list (firstSmallest bound list)) < bound (boxAt list k)
+  pub inside : first_smallest bound list < length list
+  pub lowest : (c : ℕ) → bound (box_at list (first_smallest bound list)) ≡ lower_bound bound c list
+  pub none_smaller : (k : ℕ) → k < length list → bound (box_at list (first_smallest bound list)) ≤ bound (box_at list k)
+  pub first : (k : ℕ) → k < first_smallest bound list → bound (box_at list (first_smallest bound list)) < bound (box_at list k)
 
 -- So it is with every list that has a box.
 abbrev pub AllSmallest : Type 0
@@ -26,7 +26,7 @@ pub record Open (root b : Box) : Type 0 where
 -- A state of a search of `box`: the best vector lies in the box, the open boxes are such as are kept, the list is no longer than peak,
 -- peak is at most r (at the beginning one box may be open, whatever r is), and the count is within the budget.
 pub record Sound (cost : List ℤ → ℕ) (bound : Box → ℕ) (budget rows t : ℕ) (box : Box) (s : State) : Type 0 where
-  pub best-in : InBox s.best box
+  pub best_in : InBox s.best box
   pub opened : All (Open box) s.list
   pub kept : All (λ b. T (keeps bound t (cost s.best) s.best b)) s.list
   pub longest : length s.list ≤ s.peak
@@ -55,7 +55,7 @@ AllCosted =
 
 -- A box that is not kept beside the best vector: none of its vectors becomes best, and it is not kept after another vector is tried.
 pub record Dropped (cost : List ℤ → ℕ) (bound : Box → ℕ) (t : ℕ) (best : List ℤ) (b : Box) : Type 0 where
-  pub none-better : (v : List ℤ) → InBox v b → better cost t best v ≡ best
+  pub none_better : (v : List ℤ) → InBox v b → better cost t best v ≡ best
   pub later : (v : List ℤ) → keeps bound t (cost (better cost t best v)) (better cost t best v) b ≡ false
 
 -- "then the right child's": so where the right half is not kept, to cost its low vector changes nothing.
@@ -74,7 +74,7 @@ pub record Later (cost : List ℤ → ℕ) (bound : Box → ℕ) (t : ℕ) : Typ
   -- "becomes best only if cheaper"
   pub cheaper : (best v : List ℤ) → better cost t best v ≡ cond (ltb (cost v) (cost best)) v best
   -- "if C − L ≤ t, answer solved"
-  pub near : (s : State) → isSolved cost bound t s ≡ leb (cost s.best - lowest cost bound s) t
+  pub near : (s : State) → is_solved cost bound t s ≡ leb (cost s.best - lowest cost bound s) t
 
 abbrev pub AllLater : Type 0
 AllLater = (cost : List ℤ → ℕ) (bound : Box → ℕ) (t : ℕ) → 1 ≤ t → Later cost bound t

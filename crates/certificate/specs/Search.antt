@@ -3,7 +3,7 @@
 use Rattle.std.specs.Prelude.{Bool, cond, ◌&&◌, ◌||◌, List, [], ◌∷◌, ◌++◌, ℕ, zero, suc, ◌-◌, min, max, leb, ltb, eqb, ℤ, length, get_or, take, drop}
 use Rattle.boxes.specs.declared.Box.{Box}
 use Rattle.boxes.specs.Boxes.{before}
-use Rattle.boxes.specs.Split.{left_half, right_half, zeroBox}
+use Rattle.boxes.specs.Split.{left_half, right_half, zero_box}
 
 -- "State: the best vector and C, a list of open boxes, the split count, and peak (the longest that the list has been)."
 -- C is the cost of the best vector.
@@ -38,9 +38,9 @@ unfoldable pub ahead : ℕ → ℕ → List ℤ → ℕ → List ℤ → Bool
 ahead t c best a v = ltb a c || (eqb t 0 && eqb a c && before v best)
 
 -- "keep in order" what passes a test
-abbrev pub keepIf : {A : Type 0} → (A → Bool) → List A → List A
-keepIf p [] = []
-keepIf p (x ∷ xs) = cond (p x) (x ∷ keepIf p xs) (keepIf p xs)
+abbrev pub keep_if : {A : Type 0} → (A → Bool) → List A → List A
+keep_if p [] = []
+keep_if p (x ∷ xs) = cond (p x) (x ∷ keep_if p xs) (keep_if p xs)
 
 module _ (bound : Box → ℕ) where
   -- "keep in order the boxes with bounds below the new C." 02: for t = 0 a box "is kept also when its bound equals C and its low vector
@@ -49,18 +49,18 @@ module _ (bound : Box → ℕ) where
   keeps t c best b = ahead t c best (bound b) b.low
 
   -- "L is C if the list is empty, else the smallest bound in it."
-  unfoldable pub lowerBound : ℕ → List Box → ℕ
-  lowerBound c [] = c
-  lowerBound c (b ∷ bs) = min (bound b) (lowerBound (bound b) bs)
+  unfoldable pub lower_bound : ℕ → List Box → ℕ
+  lower_bound c [] = c
+  lower_bound c (b ∷ bs) = min (bound b) (lower_bound (bound b) bs)
 
   -- the place of "the first box with the smallest bound": the first stays where none after it has a smaller one
-  unfoldable pub firstSmallest : List Box → ℕ
-  firstSmallest [] = 0
-  firstSmallest (b ∷ bs) = cond (leb (bound b) (lowerBound (bound b) bs)) 0 (suc (firstSmallest bs))
+  unfoldable pub first_smallest : List Box → ℕ
+  first_smallest [] = 0
+  first_smallest (b ∷ bs) = cond (leb (bound b) (lower_bound (bound b) bs)) 0 (suc (first_smallest bs))
 
 -- the box at place k, and the list without it
-abbrev pub boxAt : List Box → ℕ → Box
-boxAt list k = get_or list k zeroBox
+abbrev pub box_at : List Box → ℕ → Box
+box_at list k = get_or list k zero_box
 
 abbrev pub without : List Box → ℕ → List Box
 without list k = take k list ++ drop (suc k) list
@@ -74,28 +74,28 @@ module _ (cost : List ℤ → ℕ) (bound : Box → ℕ) where
   -- the changed rule is for "a box, the given one at the beginning included".
   unfoldable pub begin : ℕ → List ℤ → Box → State
   begin t start box =
-      let held = keepIf (keeps bound t (cost start) start) (box ∷ []) in
+      let held = keep_if (keeps bound t (cost start) start) (box ∷ []) in
       record { best = start; list = held; count = 0; peak = length held }
 
   -- L of a state
   abbrev pub lowest : State → ℕ
-  lowest s = lowerBound bound (cost s.best) s.list
+  lowest s = lower_bound bound (cost s.best) s.list
 
   -- (c) "Take out the first box with the smallest bound. Cut its longest side": its halves are as boxes/specs/Split.antt says.
   -- "Cost the left child's low vector, then the right child's; either becomes best only if cheaper. From the remaining list, then
   -- left, then right, keep in order the boxes with bounds below the new C." The count is the one after "count one split".
   unfoldable pub split : ℕ → State → State
   split t s =
-      let k = firstSmallest bound s.list in
-      let left = left_half (boxAt s.list k) in
-      let right = right_half (boxAt s.list k) in
+      let k = first_smallest bound s.list in
+      let left = left_half (box_at s.list k) in
+      let right = right_half (box_at s.list k) in
       let best = better cost t (better cost t s.best left.low) right.low in
-      let kept = keepIf (keeps bound t (cost best) best) (without s.list k ++ (left ∷ right ∷ [])) in
+      let kept = keep_if (keeps bound t (cost best) best) (without s.list k ++ (left ∷ right ∷ [])) in
       record { best = best; list = kept; count = suc s.count; peak = max s.peak (length kept) }
 
   -- (a) "C − L ≤ t". 02: for t = 0 "solved means that no box is open"
-  unfoldable pub isSolved : ℕ → State → Bool
-  isSolved t s = cond (eqb t 0) (eqb (length s.list) 0) (leb (cost s.best - lowest s) t)
+  unfoldable pub is_solved : ℕ → State → Bool
+  is_solved t s = cond (eqb t 0) (eqb (length s.list) 0) (leb (cost s.best - lowest s) t)
 
   -- an answer with a state
   unfoldable pub answer : Kind → State → Answer
@@ -112,15 +112,15 @@ module _ (cost : List ℤ → ℕ) (bound : Box → ℕ) where
 
   module _ (budget rows t : ℕ) where
     -- "If more than r remain, answer full with the state before this step; else count one split."
-    unfoldable pub ifRoom : State → Next
-    ifRoom after = cond (ltb rows (length after.list)) (stop full) (go after)
+    unfoldable pub if_room : State → Next
+    if_room after = cond (ltb rows (length after.list)) (stop full) (go after)
 
     -- "Step: (a) if C − L ≤ t, answer solved. (b) If the count equals the budget, answer spent. (c) .."
     unfoldable pub step : State → Next
     step s =
-        cond (isSolved t s) (stop solved)
+        cond (is_solved t s) (stop solved)
         (cond (eqb s.count budget) (stop spent)
-        (ifRoom (split t s)))
+        (if_room (split t s)))
 
     -- what follows a step at s, where `on` goes on from the state after a split
     unfoldable pub follow : (State → Answer) → State → Next → Answer

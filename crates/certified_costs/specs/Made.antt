@@ -7,7 +7,7 @@ use Rattle.jobs.specs.declared.Model.{Model}
 use Rattle.points.specs.declared.Point.{Point}
 use Rattle.ranks.specs.Laws.{Rises}
 use Rattle.residuals.specs.Cost.{cost, bound}
-use Rattle.residuals.specs.Laws.{costBy, boundBy}
+use Rattle.residuals.specs.Laws.{cost_by, bound_by}
 use Rattle.certificate.specs.Search.{search}
 use Rattle.certificate.specs.Certificate.{Certificate}
 
@@ -16,8 +16,8 @@ abbrev pub MadeCertified : Type 0
 MadeCertified =
     (make : List ℕ → ℕ) → Rises make →
     (m : Model) (qs : List Point) (budget rows t : ℕ) (start : List ℤ) (box : Box) → InBox start box →
-    Certificate (costBy make m qs) (boundBy make m qs) budget rows t start box
-    (search (costBy make m qs) (boundBy make m qs) budget rows t start box)
+    Certificate (cost_by make m qs) (bound_by make m qs) budget rows t start box
+    (search (cost_by make m qs) (bound_by make m qs) budget rows t start box)
 
 -- and so a model's own, whichever p it has
 abbrev pub FitCertified : Type 0

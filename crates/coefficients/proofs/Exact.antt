@@ -1,4 +1,4 @@
--- w / 2 ^ S in single precision: rounding is exact at it, its bits are `patternOf S w`, a quotient by 2 ^ S gives it, and a product with
+-- w / 2 ^ S in single precision: rounding is exact at it, its bits are `pattern_of S w`, a quotient by 2 ^ S gives it, and a product with
 -- 2 ^ S takes it back. Assumes nothing.
 use Rattle.std.proofs.Common.{◌≡◌, ℕ, zero, suc, ◌+◌, ◌-◌, ◌*◌, ◌/◌, ◌^◌, ◌<◌, ◌≤◌, Bool, true, false, cond, not, T, eqb, ℤ, pos, negsuc, nat_abs, sym, refl, ap, ◌∙◌, subst, le_trans, le_of_eq, lt_of_lt_of_le, lt_of_le_of_lt, lt_irrefl, mul-le-mul_right, zero-lt-suc, mul_assoc, mul_comm, mul-pos, lt_of_not-le, zero-mul, mul-one, not-le_of_lt, mul-div_cancel, mul_left_comm, arith, lit<, pow_pos, pow_mono, pow-add, shl_lt, w16, SFits}
 use lib.Signed.{non_neg, nat_abs-le}
@@ -10,28 +10,28 @@ use lib.Ieee.Exact.{HasValue, round_exact}
 use lib.Ieee.Scale.{round_same}
 use lib.Ieee.Back.{round_whole}
 use lib.Ieee.Bits.{of_bits-to_bits, cond_no}
-use Rattle.coefficients.specs.Coefficient.{exponentOf, fractionOf, fields_of, patternOf, coefficientOf}
+use Rattle.coefficients.specs.Coefficient.{exponent_of, fraction_of, fields_of, pattern_of, coefficient_of}
 
 abbrev pub negative : ℤ → Bool
 negative w = not (non_neg w)
 
 -- ---- how many digits n * 2 ^ j has
-size-gt : (n j : ℕ) → 2 ^ j ≤ n → j < size n
-size-gt n j h = lt_of_not-le (λ (g : size n ≤ j). not-le_of_lt (lt_of_lt_of_le (size-lt n) (pow_mono g)) h)
+size_gt : (n j : ℕ) → 2 ^ j ≤ n → j < size n
+size_gt n j h = lt_of_not-le (λ (g : size n ≤ j). not-le_of_lt (lt_of_lt_of_le (size-lt n) (pow_mono g)) h)
 
-size-pos : (n : ℕ) → 0 < n → 0 < size n
-size-pos n h = size-gt n 0 h
+size_pos : (n : ℕ) → 0 < n → 0 < size n
+size_pos n h = size_gt n 0 h
 
 -- the leading digit of an n of z digits weighs 2 ^ (z - 1)
 leading : (n : ℕ) → 0 < n → 2 ^ (size n - 1) ≤ n
-leading n h = size_reaches n (size n - 1) (let z : 0 < size n = size-pos n h in omega arith)
+leading n h = size_reaches n (size n - 1) (let z : 0 < size n = size_pos n h in omega arith)
 
-size-shift : (n j : ℕ) → 0 < n → size (n * 2 ^ j) ≡ size n + j
-size-shift n j h =
-    let z : 0 < size n = size-pos n h in
+size_shift : (n j : ℕ) → 0 < n → size (n * 2 ^ j) ≡ size n + j
+size_shift n j h =
+    let z : 0 < size n = size_pos n h in
     let below : size (n * 2 ^ j) ≤ size n + j = size-le (n * 2 ^ j) (size n + j) (shl_lt (size n) j (size-lt n)) in
     let above : size n - 1 + j < size (n * 2 ^ j) =
-    size-gt (n * 2 ^ j) (size n - 1 + j) (le_trans (le_of_eq (pow-add 2 (size n - 1) j)) (mul-le-mul_right (2 ^ j) (leading n h))) in
+    size_gt (n * 2 ^ j) (size n - 1 + j) (le_trans (le_of_eq (pow-add 2 (size n - 1) j)) (mul-le-mul_right (2 ^ j) (leading n h))) in
     omega arith
 
 -- an `i16` has at most 24 digits
@@ -52,8 +52,8 @@ module _ (S : ℕ) (h : S ≤ 15) where
   units : 2 ^ (149 - S) * 2 ^ S ≡ 2 ^ 149
   units = let e : 149 - S + S ≡ 149 = omega arith in sym (pow-add 2 (149 - S) S) ∙ ap (λ (x : ℕ). 2 ^ x) e
 
-  rounded-exact : (s : Bool) (n : ℕ) → n < 2 ^ 24 → HasValue (round binary32 s n (2 ^ S)) s n (2 ^ S)
-  rounded-exact s n small =
+  rounded_exact : (s : Bool) (n : ℕ) → n < 2 ^ 24 → HasValue (round binary32 s n (2 ^ S)) s n (2 ^ S)
+  rounded_exact s n small =
       round_exact binary32 s n (2 ^ S) n (149 - S) (pow_pos S) small
       (lt_of_lt_of_le (shl_lt 24 (149 - S) small) (let e : 24 + (149 - S) ≤ 277 = omega arith in pow_mono e))
       (ap (λ (x : ℕ). n * x) (sym units) ∙ sym (mul_assoc n (2 ^ (149 - S)) (2 ^ S)))
@@ -69,21 +69,21 @@ module _ (S : ℕ) (h : S ≤ 15) where
       ∙ sym (mul_assoc n (2 ^ (149 - S)) (down e)))
       ∙ mul-div_cancel (n * 2 ^ (149 - S)) (down_pos e)
 
-  fields-kept : (sign n : ℕ) → 0 < n → n < 2 ^ 24 → kept (sign * 2 ^ 31) (n * 2 ^ (149 - S)) ≡ fields_of sign S n
-  unfolding fields_of exponentOf fractionOf
-  fields-kept sign n p small =
+  fields_kept : (sign n : ℕ) → 0 < n → n < 2 ^ 24 → kept (sign * 2 ^ 31) (n * 2 ^ (149 - S)) ≡ fields_of sign S n
+  unfolding fields_of exponent_of fraction_of
+  fields_kept sign n p small =
       let z = size n in
-      let Z : 0 < z = size-pos n p in
+      let Z : 0 < z = size_pos n p in
       let L : z ≤ 24 = size-le n 24 small in
       let k = z + (149 - S) - 24 in
       let q = n * 2 ^ (24 - z) in
-      let drop-first : n * 2 ^ (149 - S) ≡ q * 2 ^ k =
+      let drop_first : n * 2 ^ (149 - S) ≡ q * 2 ^ k =
       ap (λ (x : ℕ). n * x) (ap (λ (x : ℕ). 2 ^ x) (shifts z L) ∙ pow-add 2 (24 - z) k) ∙ sym (mul_assoc n (2 ^ (24 - z)) (2 ^ k)) in
-      let rest : n * 2 ^ (149 - S) / 2 ^ k ≡ q = ap (λ (x : ℕ). x / 2 ^ k) drop-first ∙ mul-div_cancel q (pow_pos k) in
+      let rest : n * 2 ^ (149 - S) / 2 ^ k ≡ q = ap (λ (x : ℕ). x / 2 ^ k) drop_first ∙ mul-div_cancel q (pow_pos k) in
       let top : 2 ^ 23 ≤ q =
       le_trans (le_of_eq (ap (λ (x : ℕ). 2 ^ x) (places z Z L) ∙ pow-add 2 (z - 1) (24 - z)))
       (mul-le-mul_right (2 ^ (24 - z)) (leading n p)) in
-      ap (λ (x : ℕ). sign * 2 ^ 31 + (x - 24) * 2 ^ 23 + n * 2 ^ (149 - S) / 2 ^ (x - 24)) (size-shift n (149 - S) p)
+      ap (λ (x : ℕ). sign * 2 ^ 31 + (x - 24) * 2 ^ 23 + n * 2 ^ (149 - S) / 2 ^ (x - 24)) (size_shift n (149 - S) p)
       ∙ ap (λ (x : ℕ). sign * 2 ^ 31 + k * 2 ^ 23 + x) rest
       ∙ total (sign * 2 ^ 31) z q Z top
     where
@@ -96,37 +96,37 @@ module _ (S : ℕ) (h : S ≤ 15) where
       total : (c z q : ℕ) → 0 < z → 8388608 ≤ q → c + (z + (149 - S) - 24) * 8388608 + q ≡ c + (127 + (z - 1) - S) * 8388608 + (q - 8388608)
       total c z q p l = omega arith
 
-  kept-bits : (t : Bool) (m : ℕ) (e : ℤ) (sign n : ℕ) → weight t ≡ sign * 2 ^ 31 → m * up e * 2 ^ S ≡ n * down e
+  kept_bits : (t : Bool) (m : ℕ) (e : ℤ) (sign n : ℕ) → weight t ≡ sign * 2 ^ 31 → m * up e * 2 ^ S ≡ n * down e
       → to_bits binary32 (fin t m e) ≡ kept (sign * 2 ^ 31) (n * 2 ^ (149 - S))
   unfolding to_bits
-  kept-bits t m e sign n s v = ap (kept (weight t)) (units_of m e n v) ∙ ap (λ (x : ℕ). kept x (n * 2 ^ (149 - S))) s
+  kept_bits t m e sign n s v = ap (kept (weight t)) (units_of m e n v) ∙ ap (λ (x : ℕ). kept x (n * 2 ^ (149 - S))) s
 
-  kept-zero : kept 0 (0 * 2 ^ (149 - S)) ≡ 0
+  kept_zero : kept 0 (0 * 2 ^ (149 - S)) ≡ 0
   unfolding size
-  kept-zero = ap (kept 0) (zero-mul (2 ^ (149 - S)))
+  kept_zero = ap (kept 0) (zero-mul (2 ^ (149 - S)))
 
-  bits_of : (x : Float) (w : ℤ) → nat_abs w < 2 ^ 24 → HasValue x (negative w) (nat_abs w) (2 ^ S) → to_bits binary32 x ≡ patternOf S w
-  unfolding patternOf
+  bits_of : (x : Float) (w : ℤ) → nat_abs w < 2 ^ 24 → HasValue x (negative w) (nat_abs w) (2 ^ S) → to_bits binary32 x ≡ pattern_of S w
+  unfolding pattern_of
   bits_of nan w small v = absurd v
   bits_of (inf t) w small v = absurd v
-  bits_of (fin t m e) (pos zero) small v = kept-bits t m e 0 0 (ap weight v.0) v.1 ∙ kept-zero
+  bits_of (fin t m e) (pos zero) small v = kept_bits t m e 0 0 (ap weight v.0) v.1 ∙ kept_zero
   bits_of (fin t m e) (pos (suc n)) small v =
-      kept-bits t m e 0 (suc n) (ap weight v.0) v.1 ∙ fields-kept 0 (suc n) (zero-lt-suc n) small
-  bits_of (fin t m e) (negsuc n) small v = kept-bits t m e 1 (suc n) (ap weight v.0) v.1 ∙ fields-kept 1 (suc n) (zero-lt-suc n) small
+      kept_bits t m e 0 (suc n) (ap weight v.0) v.1 ∙ fields_kept 0 (suc n) (zero-lt-suc n) small
+  bits_of (fin t m e) (negsuc n) small v = kept_bits t m e 1 (suc n) (ap weight v.0) v.1 ∙ fields_kept 1 (suc n) (zero-lt-suc n) small
 
   -- ---- the coefficient
-  coefficient-rounded : (w : ℤ) → SFits w16 w → coefficientOf S w ≡ round binary32 (negative w) (nat_abs w) (2 ^ S)
-  unfolding coefficientOf
-  coefficient-rounded w f =
+  coefficient_rounded : (w : ℤ) → SFits w16 w → coefficient_of S w ≡ round binary32 (negative w) (nat_abs w) (2 ^ S)
+  unfolding coefficient_of
+  coefficient_rounded w f =
       let x = round binary32 (negative w) (nat_abs w) (2 ^ S) in
-      ap (of_bits binary32) (sym (bits_of x w (short w f) (rounded-exact (negative w) (nat_abs w) (short w f))))
+      ap (of_bits binary32) (sym (bits_of x w (short w f) (rounded_exact (negative w) (nat_abs w) (short w f))))
       ∙ of_bits-to_bits binary32 x (round-fits binary32 (negative w) (nat_abs w) (2 ^ S))
 
-  pub coefficient-exact : (w : ℤ) → SFits w16 w → HasValue (coefficientOf S w) (negative w) (nat_abs w) (2 ^ S)
-  coefficient-exact w f = rw (coefficient-rounded w f) (rounded-exact (negative w) (nat_abs w) (short w f))
+  pub coefficient_exact : (w : ℤ) → SFits w16 w → HasValue (coefficient_of S w) (negative w) (nat_abs w) (2 ^ S)
+  coefficient_exact w f = rw (coefficient_rounded w f) (rounded_exact (negative w) (nat_abs w) (short w f))
 
-  pub coefficient-bits : (w : ℤ) → SFits w16 w → to_bits binary32 (coefficientOf S w) ≡ patternOf S w
-  coefficient-bits w f = bits_of (coefficientOf S w) w (short w f) (coefficient-exact w f)
+  pub coefficient_bits : (w : ℤ) → SFits w16 w → to_bits binary32 (coefficient_of S w) ≡ pattern_of S w
+  coefficient_bits w f = bits_of (coefficient_of S w) w (short w f) (coefficient_exact w f)
 
 -- ---- a quotient and a product by p
 same_sign : (t u s : Bool) → t ≡ s → u ≡ false → unlike t u ≡ s
@@ -168,25 +168,25 @@ product f (fin t m e) (fin u n d) s a p v w =
     ∙ ap (λ (x : ℕ). x * down d) v.1 ∙ mul_assoc a (down e) (down d))
 
 -- ---- of the cast w, by the cast 2 ^ S
-int-rounded : (w : ℤ) → of_int binary32 w ≡ round binary32 (negative w) (nat_abs w) 1
+int_rounded : (w : ℤ) → of_int binary32 w ≡ round binary32 (negative w) (nat_abs w) 1
 unfolding of_int
-int-rounded (pos n) = refl
-int-rounded (negsuc n) = refl
+int_rounded (pos n) = refl
+int_rounded (negsuc n) = refl
 
-pub int-exact : (w : ℤ) → nat_abs w < 2 ^ 24 → HasValue (of_int binary32 w) (negative w) (nat_abs w) 1
-int-exact w small = rw (int-rounded w) (round_whole binary32 (negative w) (nat_abs w) (omega arith))
+pub int_exact : (w : ℤ) → nat_abs w < 2 ^ 24 → HasValue (of_int binary32 w) (negative w) (nat_abs w) 1
+int_exact w small = rw (int_rounded w) (round_whole binary32 (negative w) (nat_abs w) (omega arith))
 
 module _ (S : ℕ) (h : S ≤ 15) where
-  power-exact : HasValue (of_int binary32 (pos (2 ^ S))) false (2 ^ S) 1
-  power-exact = int-exact (pos (2 ^ S)) (lt_of_le_of_lt (pow_mono h) (lit< tt))
+  power_exact : HasValue (of_int binary32 (pos (2 ^ S))) false (2 ^ S) 1
+  power_exact = int_exact (pos (2 ^ S)) (lt_of_le_of_lt (pow_mono h) (lit< tt))
 
-  pub divided : (w : ℤ) → SFits w16 w → div binary32 (of_int binary32 w) (of_int binary32 (pos (2 ^ S))) ≡ coefficientOf S w
+  pub divided : (w : ℤ) → SFits w16 w → div binary32 (of_int binary32 w) (of_int binary32 (pos (2 ^ S))) ≡ coefficient_of S w
   divided w f =
       quotient binary32 (of_int binary32 w) (of_int binary32 (pos (2 ^ S))) (negative w) (nat_abs w) (2 ^ S) (pow_pos S)
-      (int-exact w (short w f)) power-exact
-      ∙ sym (coefficient-rounded S h w f)
+      (int_exact w (short w f)) power_exact
+      ∙ sym (coefficient_rounded S h w f)
 
-  pub multiplied : (w : ℤ) → SFits w16 w → mul binary32 (coefficientOf S w) (of_int binary32 (pos (2 ^ S))) ≡ of_int binary32 w
+  pub multiplied : (w : ℤ) → SFits w16 w → mul binary32 (coefficient_of S w) (of_int binary32 (pos (2 ^ S))) ≡ of_int binary32 w
   multiplied w f =
-      product binary32 (coefficientOf S w) (of_int binary32 (pos (2 ^ S))) (negative w) (nat_abs w) (2 ^ S) (coefficient-exact S h w f)
-      power-exact ∙ sym (int-rounded w)
+      product binary32 (coefficient_of S w) (of_int binary32 (pos (2 ^ S))) (negative w) (nat_abs w) (2 ^ S) (coefficient_exact S h w f)
+      power_exact ∙ sym (int_rounded w)

@@ -4,84 +4,84 @@ use Rattle.std.proofs.Common.{◌≡◌, ℕ, zero, suc, ◌≤◌, true, ◌&&�
 use lib.ListN.{length-map}
 use lib.Ieee.{Float, binary32, of_bits, to_bits, fits}
 use lib.Ieee.Bits.{of_bits-to_bits, of_bits-fits}
-use Rattle.integers.specs.Integers.{allZero}
+use Rattle.integers.specs.Integers.{all_zero}
 use Rattle.integers.proofs.Tests.{is_true}
 use Rattle.codes.specs.declared.Check.{Check}
 use Rattle.codes.specs.declared.Check.TheVariants.{Pass, Refuse}
 use Rattle.codes.specs.declared.Refusal.TheVariants.{Start, OffGrid}
-use Rattle.codes.specs.Codes.{passIf}
+use Rattle.codes.specs.Codes.{pass_if}
 use Rattle.codes.proofs.Checks.{passed}
-use Rattle.scale.specs.Scale.{checkScale}
-use Rattle.boxes.specs.Shape.{checkVector}
-use Rattle.coefficients.specs.Coefficient.{patternOf, coefficientOf}
-use Rattle.coefficients.specs.Grid.{coordinateOf, onGrid}
-use Rattle.coefficients.specs.Lines.{checkUsed, writingChecks, line_of, writtenIf, written_of, allOnGrid, allPlusZero, checkGrid}
-use Rattle.coefficients.specs.Lines.{readingChecks, coordinatesIf, coordinatesOf, patternsOf}
+use Rattle.scale.specs.Scale.{check_scale}
+use Rattle.boxes.specs.Shape.{check_vector}
+use Rattle.coefficients.specs.Coefficient.{pattern_of, coefficient_of}
+use Rattle.coefficients.specs.Grid.{coordinate_of, on_grid}
+use Rattle.coefficients.specs.Lines.{check_used, writing_checks, line_of, written_if, written_of, all_on_grid, all_plus_zero, check_grid}
+use Rattle.coefficients.specs.Lines.{reading_checks, coordinates_if, coordinates_of, patterns_of}
 use Rattle.coefficients.specs.Laws.{ExactCoefficient, ExactReading, Four16, FourSingle, RoundTrip}
 use Rattle.coefficients.specs.declared.Line.{Line}
-use Rattle.coefficients.proofs.Exact.{coefficient-exact, coefficient-bits}
-use Rattle.coefficients.proofs.Grid.{found, missed, nan-missed, on-grid, coordinate-fits}
-use Rattle.scale.proofs.Checks.{scale-within}
-use Rattle.coefficients.proofs.Checks.{three-pass, pass-three, unused-check}
-use Rattle.coefficients.proofs.Lines.{both, four-mapped, rest-zero-read}
+use Rattle.coefficients.proofs.Exact.{coefficient_exact, coefficient_bits}
+use Rattle.coefficients.proofs.Grid.{found, missed, nan_missed, on_grid_lem, coordinate_fits}
+use Rattle.scale.proofs.Checks.{scale_within}
+use Rattle.coefficients.proofs.Checks.{three_pass, pass_three, unused_check}
+use Rattle.coefficients.proofs.Lines.{both, four_mapped, rest_zero_read}
 
 -- ---- one number
-pub exact-coefficient : (S : ℕ) (w : ℤ) → ExactCoefficient S w
-exact-coefficient S w = record { value = λ h f. coefficient-exact S h w f; bits = λ h f. coefficient-bits S h w f }
+pub exact_coefficient : (S : ℕ) (w : ℤ) → ExactCoefficient S w
+exact_coefficient S w = record { value = λ h f. coefficient_exact S h w f; bits = λ h f. coefficient_bits S h w f }
 
-pub exact-reading : (S : ℕ) → ExactReading S
-exact-reading S =
+pub exact_reading : (S : ℕ) → ExactReading S
+exact_reading S =
     record {
-      accepted = λ h w f. let r = found S h (patternOf S w) w f refl in (sym r.0, sym r.1);
-      no_other = λ p g. (coordinate-fits S p, on-grid S p g);
-      no_nan = λ h p t. sym (missed S p (nan-missed S h p t)).0;
+      accepted = λ h w f. let r = found S h (pattern_of S w) w f refl in (sym r.0, sym r.1);
+      no_other = λ p g. (coordinate_fits S p, on_grid_lem S p g);
+      no_nan = λ h p t. sym (missed S p (nan_missed S h p t)).0;
     }
 
 -- ---- a list of them
 module _ (S : ℕ) (h : S ≤ 15) where
-  all-accepted : (w : List ℤ) → ((k : ℕ) → SFits w16 (get_or w k (pos 0)))
-      → (allOnGrid S (map (patternOf S) w) ≡ true) × (map (coordinateOf S) (map (patternOf S) w) ≡ w)
-  unfolding allOnGrid
-  all-accepted [] f = (refl, refl)
-  all-accepted (z ∷ w) f =
-      let r = (exact-reading S).accepted h z (f 0) in
-      let q = all-accepted w (λ k. f (suc k)) in
+  all_accepted : (w : List ℤ) → ((k : ℕ) → SFits w16 (get_or w k (pos 0)))
+      → (all_on_grid S (map (pattern_of S) w) ≡ true) × (map (coordinate_of S) (map (pattern_of S) w) ≡ w)
+  unfolding all_on_grid
+  all_accepted [] f = (refl, refl)
+  all_accepted (z ∷ w) f =
+      let r = (exact_reading S).accepted h z (f 0) in
+      let q = all_accepted w (λ k. f (suc k)) in
       (rw (r.0, q.0), λ i. r.1 i ∷ q.1 i)
 
-  all-written : (ps : List ℕ) → allOnGrid S ps ≡ true → map (patternOf S) (map (coordinateOf S) ps) ≡ ps
-  unfolding allOnGrid
-  all-written [] g = refl
-  all-written (p ∷ ps) g =
-      let e = both (onGrid S p) (allOnGrid S ps) g in
-      λ i. on-grid S p e.0 i ∷ all-written ps e.1 i
+  all_written : (ps : List ℕ) → all_on_grid S ps ≡ true → map (pattern_of S) (map (coordinate_of S) ps) ≡ ps
+  unfolding all_on_grid
+  all_written [] g = refl
+  all_written (p ∷ ps) g =
+      let e = both (on_grid S p) (all_on_grid S ps) g in
+      λ i. on_grid_lem S p e.0 i ∷ all_written ps e.1 i
 
-  line-patterns : (w : List ℤ) → Four16 w → patternsOf (line_of S w) ≡ map (patternOf S) w
-  unfolding patternsOf line_of
-  line-patterns w f =
-      let b : (k : ℕ) → to_bits binary32 (coefficientOf S (get_or w k (pos 0))) ≡ patternOf S (get_or w k (pos 0)) =
-      λ k. coefficient-bits S h (get_or w k (pos 0)) (f.fit k) in
-      (λ i. b 0 i ∷ b 1 i ∷ b 2 i ∷ b 3 i ∷ []) ∙ four-mapped (patternOf S) (pos 0) w f.long
+  line_patterns : (w : List ℤ) → Four16 w → patterns_of (line_of S w) ≡ map (pattern_of S) w
+  unfolding patterns_of line_of
+  line_patterns w f =
+      let b : (k : ℕ) → to_bits binary32 (coefficient_of S (get_or w k (pos 0))) ≡ pattern_of S (get_or w k (pos 0)) =
+      λ k. coefficient_bits S h (get_or w k (pos 0)) (f.fit k) in
+      (λ i. b 0 i ∷ b 1 i ∷ b 2 i ∷ b 3 i ∷ []) ∙ four_mapped (pattern_of S) (pos 0) w f.long
 
-coordinates-fit : (S : ℕ) (ps : List ℕ) (k : ℕ) → SFits w16 (get_or (map (coordinateOf S) ps) k (pos 0))
-coordinates-fit S [] k = record { sfits = lit< tt }
-coordinates-fit S (p ∷ ps) zero = coordinate-fits S p
-coordinates-fit S (p ∷ ps) (suc k) = coordinates-fit S ps k
+coordinates_fit : (S : ℕ) (ps : List ℕ) (k : ℕ) → SFits w16 (get_or (map (coordinate_of S) ps) k (pos 0))
+coordinates_fit S [] k = record { sfits = lit< tt }
+coordinates_fit S (p ∷ ps) zero = coordinate_fits S p
+coordinates_fit S (p ∷ ps) (suc k) = coordinates_fit S ps k
 
 -- ---- the answers where every check passes
-written-check : (k : Check) (l : Line) → (writtenIf k l).check ≡ k
-written-check Pass l = refl
-written-check (Refuse r) l = refl
+written_check : (k : Check) (l : Line) → (written_if k l).check ≡ k
+written_check Pass l = refl
+written_check (Refuse r) l = refl
 
-coordinates-check : (k : Check) (w : List ℤ) → (coordinatesIf k w).check ≡ k
-coordinates-check Pass w = refl
-coordinates-check (Refuse r) w = refl
+coordinates_check : (k : Check) (w : List ℤ) → (coordinates_if k w).check ≡ k
+coordinates_check Pass w = refl
+coordinates_check (Refuse r) w = refl
 
 -- a number is known by its bits
 same_number : (x y : Float) → T (fits binary32 x) → T (fits binary32 y) → to_bits binary32 x ≡ to_bits binary32 y → x ≡ y
 same_number x y f g e = sym (of_bits-to_bits binary32 x f) ∙ ap (of_bits binary32) e ∙ of_bits-to_bits binary32 y g
 
-same_line : (l m : Line) → FourSingle l → FourSingle m → patternsOf l ≡ patternsOf m → l ≡ m
-unfolding patternsOf
+same_line : (l m : Line) → FourSingle l → FourSingle m → patterns_of l ≡ patterns_of m → l ≡ m
+unfolding patterns_of
 same_line l m f g e =
     let e1 = same_number l.c1 m.c1 f.c1 g.c1 (ap (λ (ps : List ℕ). get_or ps 0 0) e) in
     let e2 = same_number l.c2 m.c2 f.c2 g.c2 (ap (λ (ps : List ℕ). get_or ps 1 0) e) in
@@ -89,72 +89,72 @@ same_line l m f g e =
     let e4 = same_number l.c4 m.c4 f.c4 g.c4 (ap (λ (ps : List ℕ). get_or ps 3 0) e) in
     λ i. record { c1 = e1 i; c2 = e2 i; c3 = e3 i; c4 = e4 i }
 
-line-single : (S : ℕ) (w : List ℤ) → FourSingle (line_of S w)
-unfolding line_of coefficientOf
-line-single S w =
+line_single : (S : ℕ) (w : List ℤ) → FourSingle (line_of S w)
+unfolding line_of coefficient_of
+line_single S w =
     record { c1 = of_bits-fits binary32 _; c2 = of_bits-fits binary32 _; c3 = of_bits-fits binary32 _; c4 = of_bits-fits binary32 _ }
 
 -- ---- there and back
 module _ (d S : ℕ) where
   written_read : (w : List ℤ) → Four16 w → (written_of d S w).check ≡ Pass
-      → coordinatesOf d S (patternsOf (written_of d S w).line) ≡ record { check = Pass; w = w }
-  unfolding written_of writingChecks coordinatesOf readingChecks checkGrid
+      → coordinates_of d S (patterns_of (written_of d S w).line) ≡ record { check = Pass; w = w }
+  unfolding written_of writing_checks coordinates_of reading_checks check_grid
   written_read w f e =
-      let k : writingChecks d S w ≡ Pass = sym (written-check (writingChecks d S w) (line_of S w)) ∙ e in
-      let p = three-pass (checkUsed d) (checkScale S) (checkVector 1 d w) k in
-      let h = scale-within S p.1 in
-      let a = all-accepted S h w f.fit in
+      let k : writing_checks d S w ≡ Pass = sym (written_check (writing_checks d S w) (line_of S w)) ∙ e in
+      let p = three_pass (check_used d) (check_scale S) (check_vector 1 d w) k in
+      let h = scale_within S p.1 in
+      let a = all_accepted S h w f.fit in
       let z =
-      rest-zero-read S h d (map (patternOf S) w) a.0 ∙ ap (λ (l : List ℤ). allZero (drop d l)) a.1
-      ∙ is_true (allZero (drop d w)) (passed (allZero (drop d w)) Start (sym (unused-check d w) ∙ p.2)) in
-      let g : checkGrid d S (map (patternOf S) w) ≡ Pass = λ i. passIf (a.0 i && z i) OffGrid in
-      let r : readingChecks d S (map (patternOf S) w) ≡ Pass = pass-three p.0 p.1 g in
-      ap (λ (c : Check). coordinatesOf d S (patternsOf (writtenIf c (line_of S w)).line)) k
-      ∙ ap (coordinatesOf d S) (line-patterns S h w f)
-      ∙ (λ i. coordinatesIf (r i) (a.1 i))
+      rest_zero_read S h d (map (pattern_of S) w) a.0 ∙ ap (λ (l : List ℤ). all_zero (drop d l)) a.1
+      ∙ is_true (all_zero (drop d w)) (passed (all_zero (drop d w)) Start (sym (unused_check d w) ∙ p.2)) in
+      let g : check_grid d S (map (pattern_of S) w) ≡ Pass = λ i. pass_if (a.0 i && z i) OffGrid in
+      let r : reading_checks d S (map (pattern_of S) w) ≡ Pass = pass_three p.0 p.1 g in
+      ap (λ (c : Check). coordinates_of d S (patterns_of (written_if c (line_of S w)).line)) k
+      ∙ ap (coordinates_of d S) (line_patterns S h w f)
+      ∙ (λ i. coordinates_if (r i) (a.1 i))
 
   -- the line written of what was read of ps
-  module _ (ps : List ℕ) (long : length ps ≡ 4) (e : (coordinatesOf d S ps).check ≡ Pass) where
-    reading-passes : readingChecks d S ps ≡ Pass
-    unfolding coordinatesOf
-    reading-passes = sym (coordinates-check (readingChecks d S ps) (map (coordinateOf S) ps)) ∙ e
+  module _ (ps : List ℕ) (long : length ps ≡ 4) (e : (coordinates_of d S ps).check ≡ Pass) where
+    reading_passes : reading_checks d S ps ≡ Pass
+    unfolding coordinates_of
+    reading_passes = sym (coordinates_check (reading_checks d S ps) (map (coordinate_of S) ps)) ∙ e
 
-    checks-pass : (checkUsed d ≡ Pass) × (checkScale S ≡ Pass) × (checkGrid d S ps ≡ Pass)
-    unfolding readingChecks
-    checks-pass = three-pass (checkUsed d) (checkScale S) (checkGrid d S ps) reading-passes
+    checks_pass : (check_used d ≡ Pass) × (check_scale S ≡ Pass) × (check_grid d S ps ≡ Pass)
+    unfolding reading_checks
+    checks_pass = three_pass (check_used d) (check_scale S) (check_grid d S ps) reading_passes
 
-    within-15 : S ≤ 15
-    within-15 = scale-within S checks-pass.1
+    within_15 : S ≤ 15
+    within_15 = scale_within S checks_pass.1
 
-    grid-passes : (allOnGrid S ps ≡ true) × (allPlusZero (drop d ps) ≡ true)
-    unfolding checkGrid
-    grid-passes =
-        let test = allOnGrid S ps && allPlusZero (drop d ps) in
-        both (allOnGrid S ps) (allPlusZero (drop d ps)) (is_true test (passed test OffGrid checks-pass.2))
+    grid_passes : (all_on_grid S ps ≡ true) × (all_plus_zero (drop d ps) ≡ true)
+    unfolding check_grid
+    grid_passes =
+        let test = all_on_grid S ps && all_plus_zero (drop d ps) in
+        both (all_on_grid S ps) (all_plus_zero (drop d ps)) (is_true test (passed test OffGrid checks_pass.2))
 
-    back : written_of d S (coordinatesOf d S ps).w ≡ record { check = Pass; line = line_of S (map (coordinateOf S) ps) }
-    unfolding written_of writingChecks coordinatesOf
+    back : written_of d S (coordinates_of d S ps).w ≡ record { check = Pass; line = line_of S (map (coordinate_of S) ps) }
+    unfolding written_of writing_checks coordinates_of
     back =
-        let w = map (coordinateOf S) ps in
-        let z : allZero (drop d w) ≡ true = sym (rest-zero-read S within-15 d ps grid-passes.0) ∙ grid-passes.1 in
-        let k : writingChecks d S w ≡ Pass = pass-three checks-pass.0 checks-pass.1 (unused-check d w ∙ (λ i. passIf (z i) Start)) in
-        ap (λ (c : Check). written_of d S (coordinatesIf c w).w) reading-passes ∙ ap (λ (c : Check). writtenIf c (line_of S w)) k
+        let w = map (coordinate_of S) ps in
+        let z : all_zero (drop d w) ≡ true = sym (rest_zero_read S within_15 d ps grid_passes.0) ∙ grid_passes.1 in
+        let k : writing_checks d S w ≡ Pass = pass_three checks_pass.0 checks_pass.1 (unused_check d w ∙ (λ i. pass_if (z i) Start)) in
+        ap (λ (c : Check). written_of d S (coordinates_if c w).w) reading_passes ∙ ap (λ (c : Check). written_if c (line_of S w)) k
 
-    back-patterns : patternsOf (line_of S (map (coordinateOf S) ps)) ≡ ps
-    back-patterns =
-        line-patterns S within-15 (map (coordinateOf S) ps)
-        (record { long = length-map ps (coordinateOf S) ∙ long; fit = coordinates-fit S ps })
-        ∙ all-written S within-15 ps grid-passes.0
+    back_patterns : patterns_of (line_of S (map (coordinate_of S) ps)) ≡ ps
+    back_patterns =
+        line_patterns S within_15 (map (coordinate_of S) ps)
+        (record { long = length-map ps (coordinate_of S) ∙ long; fit = coordinates_fit S ps })
+        ∙ all_written S within_15 ps grid_passes.0
 
   pub round_trip : RoundTrip d S
-  unfolding patternsOf
+  unfolding patterns_of
   round_trip =
       record {
         written_read = written_read;
-        patterns-written =
-            λ ps long e. (ap (λ a. a.check) (back ps long e), ap (λ a. patternsOf a.line) (back ps long e) ∙ back-patterns ps long e);
-        line-written = λ l f e.
-            back (patternsOf l) refl e
-            ∙ ap (λ (m : Line). writtenIf Pass m)
-            (same_line (line_of S (map (coordinateOf S) (patternsOf l))) l (line-single S _) f (back-patterns (patternsOf l) refl e));
+        patterns_written =
+            λ ps long e. (ap (λ a. a.check) (back ps long e), ap (λ a. patterns_of a.line) (back ps long e) ∙ back_patterns ps long e);
+        line_written = λ l f e.
+            back (patterns_of l) refl e
+            ∙ ap (λ (m : Line). written_if Pass m)
+            (same_line (line_of S (map (coordinate_of S) (patterns_of l))) l (line_single S _) f (back_patterns (patterns_of l) refl e));
       }

@@ -6,7 +6,7 @@ use lib.Ieee.{Float, nan, inf, fin, binary32, up, down, le, lt, of_int, to_signe
 use lib.Ieee.Fits.{down_pos, eq→eqb, and_i}
 use lib.Ieee.Exact.{HasValue}
 use lib.Ieee.Back.{positive_back, negative_back}
-use Rattle.coefficients.proofs.Exact.{short, int-exact}
+use Rattle.coefficients.proofs.Exact.{short, int_exact}
 
 -- the ends, as the logic has the code's literals
 abbrev pub lowest : Float
@@ -27,8 +27,8 @@ at_most a b equal signs e t = go (ltb a b) equal (ltb→lt a b) e t
 less : (a b : ℕ) (equal : Bool) → a < b → T (ltb a b || equal)
 less a b equal h = rw (lt-ltb a b h) tt
 
-less-or-equal : (a b : ℕ) (equal : Bool) → (a ≡ b → T equal) → a ≤ b → T (ltb a b || (equal && true))
-less-or-equal a b equal e h =
+less_or_equal : (a b : ℕ) (equal : Bool) → (a ≡ b → T equal) → a ≤ b → T (ltb a b || (equal && true))
+less_or_equal a b equal e h =
     elim (eq-or-lt_of_le h) [ inl q ↦ rw (le-ltb a b (le_of_eq (sym q))) (and_i equal true (e q) tt) | inr l ↦ less a b (equal && true) l ]
 
 -- ---- what passes both tests
@@ -37,11 +37,11 @@ pub record Cuttable (v : Float) : Type 0 where
   pub to : T (lt v (fin false 1 (pos 63)))
   pub cut : SFits w16 (to_signed 63 v)
 
-cut-le : (a D c : ℕ) → 0 < D → a * 1 ≤ c * D → a / D ≤ c
-cut-le a D c P h = le_of_suc-le-suc ((div-lt_iff_lt-mul P).1 (let e : suc c * D ≡ c * D + D = suc-mul c D in omega arith))
+cut_le : (a D c : ℕ) → 0 < D → a * 1 ≤ c * D → a / D ≤ c
+cut_le a D c P h = le_of_suc-le-suc ((div-lt_iff_lt-mul P).1 (let e : suc c * D ≡ c * D + D = suc-mul c D in omega arith))
 
-negative-mag : (c : ℕ) → c ≤ 32768 → mag (neg_ℤ (pos (min c (2 ^ 63)))) < 32768
-negative-mag c h = go (min c (2 ^ 63)) (omega arith)
+negative_mag : (c : ℕ) → c ≤ 32768 → mag (neg_ℤ (pos (min c (2 ^ 63)))) < 32768
+negative_mag c h = go (min c (2 ^ 63)) (omega arith)
   where
     go : (c : ℕ) → c ≤ 32768 → mag (neg_ℤ (pos c)) < 32768
     go zero h = lit< tt
@@ -60,13 +60,13 @@ ranged (fin true m e) p q =
     record {
       from = less (m * up e * 1) (9223372036854775808 * down e) _ (omega arith);
       to = lt→ltb 0 (m * up e * 1 + 9223372036854775808 * down e) (omega arith);
-      cut = record { sfits = negative-mag (m * up e / down e) (cut-le (m * up e) (down e) 32768 D h) };
+      cut = record { sfits = negative_mag (m * up e / down e) (cut_le (m * up e) (down e) 32768 D h) };
     }
 ranged (fin false m e) p q =
     let D : 0 < down e = down_pos e in
     let h : m * up e * 1 ≤ 32767 * down e =
     at_most (m * up e * 1) (32767 * down e) (eqb (m * up e * 1) (32767 * down e)) _ (eqb→eq (m * up e * 1) (32767 * down e)) q in
-    let c : m * up e / down e ≤ 32767 = cut-le (m * up e) (down e) 32767 D h in
+    let c : m * up e / down e ≤ 32767 = cut_le (m * up e) (down e) 32767 D h in
     record {
       from = less 0 (9223372036854775808 * down e + m * up e * 1) _ (omega arith);
       to = lt→ltb (m * up e * 1) (9223372036854775808 * down e) (omega arith);
@@ -74,37 +74,37 @@ ranged (fin false m e) p q =
     }
 
 -- ---- the cast of an `i16`
-size-le : (a n c D : ℕ) → n ≤ c → a ≡ n * D → a ≤ c * D
-size-le a n c D h q = subst (λ (x : ℕ). x ≤ c * D) (sym q) (mul-le-mul_right D h)
+size_le : (a n c D : ℕ) → n ≤ c → a ≡ n * D → a ≤ c * D
+size_le a n c D h q = subst (λ (x : ℕ). x ≤ c * D) (sym q) (mul-le-mul_right D h)
 
-above-lowest : (x : Float) (s : Bool) (n : ℕ) → n ≤ 32768 → HasValue x s n 1 → T (le lowest x)
+above_lowest : (x : Float) (s : Bool) (n : ℕ) → n ≤ 32768 → HasValue x s n 1 → T (le lowest x)
 unfolding le
-above-lowest nan s n h v = absurd v
-above-lowest (inf t) s n h v = absurd v
-above-lowest (fin true m e) s n h v =
-    less-or-equal (m * up e * 1) (32768 * down e) (eqb (32768 * down e) (m * up e * 1)) (λ q. eq→eqb (sym q))
-    (size-le (m * up e * 1) n 32768 (down e) h v.1)
-above-lowest (fin false m e) s n h v = less 0 (32768 * down e + m * up e * 1) _ (let d : 0 < down e = down_pos e in omega arith)
+above_lowest nan s n h v = absurd v
+above_lowest (inf t) s n h v = absurd v
+above_lowest (fin true m e) s n h v =
+    less_or_equal (m * up e * 1) (32768 * down e) (eqb (32768 * down e) (m * up e * 1)) (λ q. eq→eqb (sym q))
+    (size_le (m * up e * 1) n 32768 (down e) h v.1)
+above_lowest (fin false m e) s n h v = less 0 (32768 * down e + m * up e * 1) _ (let d : 0 < down e = down_pos e in omega arith)
 
-below-highest : (x : Float) (s : Bool) (n : ℕ) → (s ≡ false → n ≤ 32767) → HasValue x s n 1 → T (le x highest)
+below_highest : (x : Float) (s : Bool) (n : ℕ) → (s ≡ false → n ≤ 32767) → HasValue x s n 1 → T (le x highest)
 unfolding le
-below-highest nan s n h v = absurd v
-below-highest (inf t) s n h v = absurd v
-below-highest (fin true m e) s n h v = less 0 (m * up e * 1 + 32767 * down e) _ (let d : 0 < down e = down_pos e in omega arith)
-below-highest (fin false m e) s n h v =
-    less-or-equal (m * up e * 1) (32767 * down e) (eqb (m * up e * 1) (32767 * down e)) (λ q. eq→eqb q)
-    (size-le (m * up e * 1) n 32767 (down e) (h (sym v.0)) v.1)
+below_highest nan s n h v = absurd v
+below_highest (inf t) s n h v = absurd v
+below_highest (fin true m e) s n h v = less 0 (m * up e * 1 + 32767 * down e) _ (let d : 0 < down e = down_pos e in omega arith)
+below_highest (fin false m e) s n h v =
+    less_or_equal (m * up e * 1) (32767 * down e) (eqb (m * up e * 1) (32767 * down e)) (λ q. eq→eqb q)
+    (size_le (m * up e * 1) n 32767 (down e) (h (sym v.0)) v.1)
 
-pub int-low : (w : ℤ) → SFits w16 w → T (le lowest (of_int binary32 w))
-int-low (pos n) f =
-    above-lowest (of_int binary32 (pos n)) false n (let k : n < 32768 = f.sfits in omega arith) (int-exact (pos n) (short (pos n) f))
-int-low (negsuc n) f = above-lowest (of_int binary32 (negsuc n)) true (suc n) f.sfits (int-exact (negsuc n) (short (negsuc n) f))
+pub int_low : (w : ℤ) → SFits w16 w → T (le lowest (of_int binary32 w))
+int_low (pos n) f =
+    above_lowest (of_int binary32 (pos n)) false n (let k : n < 32768 = f.sfits in omega arith) (int_exact (pos n) (short (pos n) f))
+int_low (negsuc n) f = above_lowest (of_int binary32 (negsuc n)) true (suc n) f.sfits (int_exact (negsuc n) (short (negsuc n) f))
 
-pub int-high : (w : ℤ) → SFits w16 w → T (le (of_int binary32 w) highest)
-int-high (pos n) f =
-    below-highest (of_int binary32 (pos n)) false n (λ _. let k : n < 32768 = f.sfits in omega arith) (int-exact (pos n) (short (pos n) f))
-int-high (negsuc n) f =
-    below-highest (of_int binary32 (negsuc n)) true (suc n) (λ q. absurd (true≢false q)) (int-exact (negsuc n) (short (negsuc n) f))
+pub int_high : (w : ℤ) → SFits w16 w → T (le (of_int binary32 w) highest)
+int_high (pos n) f =
+    below_highest (of_int binary32 (pos n)) false n (λ _. let k : n < 32768 = f.sfits in omega arith) (int_exact (pos n) (short (pos n) f))
+int_high (negsuc n) f =
+    below_highest (of_int binary32 (negsuc n)) true (suc n) (λ q. absurd (true≢false q)) (int_exact (negsuc n) (short (negsuc n) f))
 
 pub int_cut : (w : ℤ) → SFits w16 w → to_signed 63 (of_int binary32 w) ≡ w
 unfolding in_float

@@ -6,22 +6,22 @@ use Rattle.std.specs.Float.Ieee.{fits, nan_bits}
 use Rattle.std.specs.Float.Ieee.Exact.{HasValue}
 use Rattle.std.specs.Int.{w16}
 use Rattle.codes.specs.declared.Check.TheVariants.{Pass}
-use Rattle.coefficients.specs.Coefficient.{patternOf, coefficientOf}
-use Rattle.coefficients.specs.Grid.{coordinateOf, onGrid}
-use Rattle.coefficients.specs.Lines.{written_of, coordinatesOf, patternsOf}
+use Rattle.coefficients.specs.Coefficient.{pattern_of, coefficient_of}
+use Rattle.coefficients.specs.Grid.{coordinate_of, on_grid}
+use Rattle.coefficients.specs.Lines.{written_of, coordinates_of, patterns_of}
 use Rattle.coefficients.specs.declared.Line.{Line}
 
 -- "the single-precision number equal to w / 2^S", for S up to 15 and a signed 16-bit w.
 -- `HasValue x s a c`: x is finite, negative where s is true, and a / c in size.
 pub record ExactCoefficient (S : ℕ) (w : ℤ) : Type 0 where
-  pub value : S ≤ 15 → FitsSigned w16 w → HasValue (coefficientOf S w) (not (non_neg w)) (unsigned_abs w) (2 ^ S)
-  pub bits : S ≤ 15 → FitsSigned w16 w → to_bits binary32 (coefficientOf S w) ≡ patternOf S w
+  pub value : S ≤ 15 → FitsSigned w16 w → HasValue (coefficient_of S w) (not (non_neg w)) (unsigned_abs w) (2 ^ S)
+  pub bits : S ≤ 15 → FitsSigned w16 w → to_bits binary32 (coefficient_of S w) ≡ pattern_of S w
 
 -- For S up to 15: a pattern is accepted exactly if it is some signed 16-bit w's, and that w is read.
 pub record ExactReading (S : ℕ) : Type 0 where
-  pub accepted : S ≤ 15 → (w : ℤ) → FitsSigned w16 w → (onGrid S (patternOf S w) ≡ true) × (coordinateOf S (patternOf S w) ≡ w)
-  pub no_other : (p : ℕ) → onGrid S p ≡ true → FitsSigned w16 (coordinateOf S p) × (patternOf S (coordinateOf S p) ≡ p)
-  pub no_nan : S ≤ 15 → (p : ℕ) → T (nan_bits binary32 p) → onGrid S p ≡ false
+  pub accepted : S ≤ 15 → (w : ℤ) → FitsSigned w16 w → (on_grid S (pattern_of S w) ≡ true) × (coordinate_of S (pattern_of S w) ≡ w)
+  pub no_other : (p : ℕ) → on_grid S p ≡ true → FitsSigned w16 (coordinate_of S p) × (pattern_of S (coordinate_of S p) ≡ p)
+  pub no_nan : S ≤ 15 → (p : ℕ) → T (nan_bits binary32 p) → on_grid S p ≡ false
 
 -- Four signed 16-bit numbers; four single-precision numbers.
 pub record Four16 (w : List ℤ) : Type 0 where
@@ -37,8 +37,8 @@ pub record FourSingle (l : Line) : Type 0 where
 -- What is written is read back, and what is read is written back.
 pub record RoundTrip (d S : ℕ) : Type 0 where
   pub written_read : (w : List ℤ) → Four16 w → (written_of d S w).check ≡ Pass
-      → coordinatesOf d S (patternsOf (written_of d S w).line) ≡ record { check = Pass; w = w }
-  pub patterns-written : (ps : List ℕ) → length ps ≡ 4 → (coordinatesOf d S ps).check ≡ Pass
-      → ((written_of d S (coordinatesOf d S ps).w).check ≡ Pass) × (patternsOf (written_of d S (coordinatesOf d S ps).w).line ≡ ps)
-  pub line-written : (l : Line) → FourSingle l → (coordinatesOf d S (patternsOf l)).check ≡ Pass
-      → written_of d S (coordinatesOf d S (patternsOf l)).w ≡ record { check = Pass; line = l }
+      → coordinates_of d S (patterns_of (written_of d S w).line) ≡ record { check = Pass; w = w }
+  pub patterns_written : (ps : List ℕ) → length ps ≡ 4 → (coordinates_of d S ps).check ≡ Pass
+      → ((written_of d S (coordinates_of d S ps).w).check ≡ Pass) × (patterns_of (written_of d S (coordinates_of d S ps).w).line ≡ ps)
+  pub line_written : (l : Line) → FourSingle l → (coordinates_of d S (patterns_of l)).check ≡ Pass
+      → written_of d S (coordinates_of d S (patterns_of l)).w ≡ record { check = Pass; line = l }

@@ -5,80 +5,80 @@ use Rattle.codes.specs.declared.Check.{Check}
 use Rattle.codes.specs.declared.Check.TheVariants.{Pass, Refuse}
 use Rattle.codes.specs.declared.Refusal.{Refusal}
 use Rattle.codes.specs.declared.Refusal.TheVariants.{Shape, OffGrid}
-use Rattle.codes.specs.Codes.{passIf, inOrder, within}
-use Rattle.scale.specs.Scale.{checkScale}
-use Rattle.boxes.specs.Shape.{checkVector}
-use Rattle.coefficients.specs.Coefficient.{coefficientOf}
-use Rattle.coefficients.specs.Grid.{coordinateOf, onGrid}
+use Rattle.codes.specs.Codes.{pass_if, in_order, within}
+use Rattle.scale.specs.Scale.{check_scale}
+use Rattle.boxes.specs.Shape.{check_vector}
+use Rattle.coefficients.specs.Coefficient.{coefficient_of}
+use Rattle.coefficients.specs.Grid.{coordinate_of, on_grid}
 use Rattle.coefficients.specs.declared.Line.{Line}
 use Rattle.coefficients.specs.declared.Written.{Written}
 use Rattle.coefficients.specs.declared.Coordinates.{Coordinates}
 
 -- "Check 2 looks at d alone there": d is 1 to 4.
-unfoldable pub checkUsed : ℕ → Check
-checkUsed d = passIf (within 1 d 4) Shape
+unfoldable pub check_used : ℕ → Check
+check_used d = pass_if (within 1 d 4) Shape
 
 -- "writing a line of coefficients 2, 3 and 6". Check 6 is that of a vector of one line.
-unfoldable pub writingChecks : ℕ → ℕ → List ℤ → Check
-writingChecks d S w = inOrder (checkUsed d ∷ checkScale S ∷ checkVector 1 d w ∷ [])
+unfoldable pub writing_checks : ℕ → ℕ → List ℤ → Check
+writing_checks d S w = in_order (check_used d ∷ check_scale S ∷ check_vector 1 d w ∷ [])
 
 -- A coefficient for each coordinate, "those after d being +0", as their coordinates are 0.
 unfoldable pub line_of : ℕ → List ℤ → Line
 line_of S w =
     record {
-      c1 = coefficientOf S (slice_index_or w 0 (pos 0));
-      c2 = coefficientOf S (slice_index_or w 1 (pos 0));
-      c3 = coefficientOf S (slice_index_or w 2 (pos 0));
-      c4 = coefficientOf S (slice_index_or w 3 (pos 0));
+      c1 = coefficient_of S (slice_index_or w 0 (pos 0));
+      c2 = coefficient_of S (slice_index_or w 1 (pos 0));
+      c3 = coefficient_of S (slice_index_or w 2 (pos 0));
+      c4 = coefficient_of S (slice_index_or w 3 (pos 0));
     }
 
 -- Refused: four +0.
-abbrev pub fourZeros : Line
-fourZeros = record { c1 = from_bits binary32 0; c2 = from_bits binary32 0; c3 = from_bits binary32 0; c4 = from_bits binary32 0 }
+abbrev pub four_zeros : Line
+four_zeros = record { c1 = from_bits binary32 0; c2 = from_bits binary32 0; c3 = from_bits binary32 0; c4 = from_bits binary32 0 }
 
-abbrev pub notWritten : Refusal → Written
-notWritten r = record { check = Refuse r; line = fourZeros }
+abbrev pub not_written : Refusal → Written
+not_written r = record { check = Refuse r; line = four_zeros }
 
 -- The line if the checks pass.
-abbrev pub writtenIf : Check → Line → Written
-writtenIf Pass l = record { check = Pass; line = l }
-writtenIf (Refuse r) l = notWritten r
+abbrev pub written_if : Check → Line → Written
+written_if Pass l = record { check = Pass; line = l }
+written_if (Refuse r) l = not_written r
 
 -- "Writing takes d, S and one line's four coordinates".
 unfoldable pub written_of : ℕ → ℕ → List ℤ → Written
-written_of d S w = writtenIf (writingChecks d S w) (line_of S w)
+written_of d S w = written_if (writing_checks d S w) (line_of S w)
 
 -- Each is some w's.
-unfoldable pub allOnGrid : ℕ → List ℕ → Bool
-allOnGrid S [] = true
-allOnGrid S (p ∷ ps) = onGrid S p && allOnGrid S ps
+unfoldable pub all_on_grid : ℕ → List ℕ → Bool
+all_on_grid S [] = true
+all_on_grid S (p ∷ ps) = on_grid S p && all_on_grid S ps
 
 -- Each is +0.
-unfoldable pub allPlusZero : List ℕ → Bool
-allPlusZero [] = true
-allPlusZero (p ∷ ps) = p == 0 && allPlusZero ps
+unfoldable pub all_plus_zero : List ℕ → Bool
+all_plus_zero [] = true
+all_plus_zero (p ∷ ps) = p == 0 && all_plus_zero ps
 
 -- Check 12: "single-precision pattern that no w has; after the d-th, any but +0".
-unfoldable pub checkGrid : ℕ → ℕ → List ℕ → Check
-checkGrid d S ps = passIf (allOnGrid S ps && allPlusZero (drop d ps)) OffGrid
+unfoldable pub check_grid : ℕ → ℕ → List ℕ → Check
+check_grid d S ps = pass_if (all_on_grid S ps && all_plus_zero (drop d ps)) OffGrid
 
 -- "reading one 2, 3 and 12".
-unfoldable pub readingChecks : ℕ → ℕ → List ℕ → Check
-readingChecks d S ps = inOrder (checkUsed d ∷ checkScale S ∷ checkGrid d S ps ∷ [])
+unfoldable pub reading_checks : ℕ → ℕ → List ℕ → Check
+reading_checks d S ps = in_order (check_used d ∷ check_scale S ∷ check_grid d S ps ∷ [])
 
 -- Refused: zeros.
-abbrev pub notRead : Refusal → Coordinates
-notRead r = record { check = Refuse r; w = replicate 4 (pos 0) }
+abbrev pub not_read : Refusal → Coordinates
+not_read r = record { check = Refuse r; w = replicate 4 (pos 0) }
 
 -- The coordinates if the checks pass.
-abbrev pub coordinatesIf : Check → List ℤ → Coordinates
-coordinatesIf Pass w = record { check = Pass; w = w }
-coordinatesIf (Refuse r) w = notRead r
+abbrev pub coordinates_if : Check → List ℤ → Coordinates
+coordinates_if Pass w = record { check = Pass; w = w }
+coordinates_if (Refuse r) w = not_read r
 
 -- "reading takes d, S and four patterns and gives the coordinates".
-unfoldable pub coordinatesOf : ℕ → ℕ → List ℕ → Coordinates
-coordinatesOf d S ps = coordinatesIf (readingChecks d S ps) (map (coordinateOf S) ps)
+unfoldable pub coordinates_of : ℕ → ℕ → List ℕ → Coordinates
+coordinates_of d S ps = coordinates_if (reading_checks d S ps) (map (coordinate_of S) ps)
 
 -- The four patterns of a line. Among numbers there is one NaN, here with the pattern 0x7FC00000; no w has a NaN's pattern.
-unfoldable pub patternsOf : Line → List ℕ
-patternsOf l = to_bits binary32 l.c1 ∷ to_bits binary32 l.c2 ∷ to_bits binary32 l.c3 ∷ to_bits binary32 l.c4 ∷ []
+unfoldable pub patterns_of : Line → List ℕ
+patterns_of l = to_bits binary32 l.c1 ∷ to_bits binary32 l.c2 ∷ to_bits binary32 l.c3 ∷ to_bits binary32 l.c4 ∷ []

@@ -1,14 +1,14 @@
 // Single-precision lines: the coefficients w / 2^S of a line, written and read back, equal to their definition in every bit.
 ghost use Rattle.std.specs.Prelude.{◌≡◌, ◌≤◌, [], ◌∷◌, map, drop, to_bits};
 ghost use Rattle.std.specs.Float.{binary32};
-ghost use Rattle.integers.specs.Integers.{allZero};
-ghost use Rattle.codes.specs.Codes.{inOrder};
-ghost use Rattle.scale.specs.Scale.{checkScale};
-ghost use Rattle.boxes.specs.Shape.{checkVector};
-ghost use Rattle.coefficients.specs.Coefficient.{coefficientOf, coefficientOrZero};
-ghost use Rattle.coefficients.specs.Grid.{coordinateOf, onGrid};
-ghost use Rattle.coefficients.specs.Lines.{checkUsed, line_of, notWritten, writtenIf, written_of};
-ghost use Rattle.coefficients.specs.Lines.{checkGrid, notRead, coordinatesIf, coordinatesOf, patternsOf};
+ghost use Rattle.integers.specs.Integers.{all_zero};
+ghost use Rattle.codes.specs.Codes.{in_order};
+ghost use Rattle.scale.specs.Scale.{check_scale};
+ghost use Rattle.boxes.specs.Shape.{check_vector};
+ghost use Rattle.coefficients.specs.Coefficient.{coefficient_of, coefficient_or_zero};
+ghost use Rattle.coefficients.specs.Grid.{coordinate_of, on_grid};
+ghost use Rattle.coefficients.specs.Lines.{check_used, line_of, not_written, written_if, written_of};
+ghost use Rattle.coefficients.specs.Lines.{check_grid, not_read, coordinates_if, coordinates_of, patterns_of};
 
 use codes::{Check, Refusal};
 
@@ -45,14 +45,14 @@ struct Reading {
 // w / 2^s. Both casts and the quotient are exact.
 fn coefficient(s: u8, w: i16) -> f32
     requires { s ≤ 15 }
-    ensures { result ≡ coefficientOf s w }
+    ensures { result ≡ coefficient_of s w }
 {
     (w as f32) / (scale::power(s) as f32)
 }
 
 // w / 2^s for s up to 15, the scales that there are; for any other s, +0.
 pub fn coefficient_of(s: u8, w: i16) -> f32
-    ensures { result ≡ coefficientOrZero s w }
+    ensures { result ≡ coefficient_or_zero s w }
 {
     if s <= 15 { coefficient(s, w) } else { 0.0 }
 }
@@ -60,7 +60,7 @@ pub fn coefficient_of(s: u8, w: i16) -> f32
 // The number that has the pattern p. Only p's value times 2^s can be it; whether it is, its own coefficient's bits tell.
 fn coordinate(s: u8, p: u32) -> Reading
     requires { s ≤ 15 }
-    ensures { (result.found ≡ onGrid s p) × (result.w ≡ coordinateOf s p) }
+    ensures { (result.found ≡ on_grid s p) × (result.w ≡ coordinate_of s p) }
 {
     // Past the infinities' patterns come the NaNs'.
     if p % 0x8000_0000 > 0x7f80_0000 {
@@ -80,7 +80,7 @@ fn coordinate(s: u8, p: u32) -> Reading
 
 // Check 2, on d alone, then check 3.
 fn check_line(d: u8, s: u8) -> Check
-    ensures { result ≡ inOrder (checkUsed d ∷ checkScale s ∷ []) }
+    ensures { result ≡ in_order (check_used d ∷ check_scale s ∷ []) }
 {
     if 1 <= d && d <= 4 {
         scale::check_scale(s)
@@ -91,13 +91,13 @@ fn check_line(d: u8, s: u8) -> Check
 
 // Whether all coordinates after the d-th are 0.
 fn rest_zero(d: u8, w: [i16; 4]) -> bool
-    ensures { result ≡ allZero (drop d w) }
+    ensures { result ≡ all_zero (drop d w) }
 {
     boxes::zero_from(&w, d as usize)
 }
 
 fn not_written(r: Refusal) -> Written
-    ensures { result ≡ notWritten r }
+    ensures { result ≡ not_written r }
 {
     Written {
         check: Check::Refuse(r),
@@ -113,7 +113,7 @@ fn not_written(r: Refusal) -> Written
 // Where checks 2 and 3 pass: check 6, then the coefficients.
 fn write_checked(d: u8, s: u8, w: [i16; 4]) -> Written
     requires { s ≤ 15 }
-    ensures { result ≡ writtenIf (checkVector 1 d w) (line_of s w) }
+    ensures { result ≡ written_if (check_vector 1 d w) (line_of s w) }
 {
     if rest_zero(d, w) {
         Written {
@@ -141,7 +141,7 @@ pub fn write_line(d: u8, s: u8, w: [i16; 4]) -> Written
 }
 
 fn not_read(r: Refusal) -> Coordinates
-    ensures { result ≡ notRead r }
+    ensures { result ≡ not_read r }
 {
     Coordinates {
         check: Check::Refuse(r),
@@ -152,7 +152,7 @@ fn not_read(r: Refusal) -> Coordinates
 // Where checks 2 and 3 pass: check 12, then the coordinates. On the grid only +0 is read as 0, so the coordinates tell what is unused.
 fn read_checked(d: u8, s: u8, bits: [u32; 4]) -> Coordinates
     requires { s ≤ 15 }
-    ensures { result ≡ coordinatesIf (checkGrid d s bits) (map (coordinateOf s) bits) }
+    ensures { result ≡ coordinates_if (check_grid d s bits) (map (coordinate_of s) bits) }
 {
     let c1 = coordinate(s, bits[0]);
     let c2 = coordinate(s, bits[1]);
@@ -171,7 +171,7 @@ fn read_checked(d: u8, s: u8, bits: [u32; 4]) -> Coordinates
 
 // Reads a line from its four patterns, by checks 2, 3 and 12.
 pub fn read_patterns(d: u8, s: u8, bits: [u32; 4]) -> Coordinates
-    ensures { result ≡ coordinatesOf d s bits }
+    ensures { result ≡ coordinates_of d s bits }
 {
     if let Check::Refuse(r) = check_line(d, s) {
         return not_read(r);
@@ -188,7 +188,7 @@ pub fn pattern(f: f32) -> u32
 
 // The four patterns of a line.
 pub fn patterns(line: Line) -> [u32; 4]
-    ensures { result ≡ patternsOf line }
+    ensures { result ≡ patterns_of line }
 {
     [
         pattern(line.c1),
@@ -200,7 +200,7 @@ pub fn patterns(line: Line) -> [u32; 4]
 
 // Reads a line from its four numbers.
 pub fn read_line(d: u8, s: u8, line: Line) -> Coordinates
-    ensures { result ≡ coordinatesOf d s (patternsOf line) }
+    ensures { result ≡ coordinates_of d s (patterns_of line) }
 {
     read_patterns(d, s, patterns(line))
 }

@@ -4,8 +4,8 @@ mod sums;
 mod values;
 
 ghost use Rattle.std.specs.Prelude.{◌≡◌, ◌≤◌};
-ghost use Rattle.costs.specs.Answers.{costAnswer, boundAnswer};
-ghost use Rattle.costs.specs.Calls.{costUpTo, boundUpTo, DecodedFor, costIn, boundIn};
+ghost use Rattle.costs.specs.Answers.{cost_answer, bound_answer};
+ghost use Rattle.costs.specs.Calls.{cost_up_to, bound_up_to, DecodedFor, cost_in, bound_in};
 
 use boxes::Box;
 use codes::{Check, Outcome};
@@ -18,7 +18,7 @@ pub const NO_CAP: u64 = 18446744073709551615;
 
 // The cost of a vector.
 pub fn cost(store: &[u8], m: Model, v: [i16; 8]) -> Outcome
-    ensures { result ≡ costAnswer store.now m v }
+    ensures { result ≡ cost_answer store.now m v }
 {
     match check_cost(store, m, v) {
         Check::Pass => Outcome::Value(values::whole(store, m, v, v, false)),
@@ -28,7 +28,7 @@ pub fn cost(store: &[u8], m: Model, v: [i16; 8]) -> Outcome
 
 // The bound of a box.
 pub fn bound(store: &[u8], m: Model, b: Box) -> Outcome
-    ensures { result ≡ boundAnswer store.now m b }
+    ensures { result ≡ bound_answer store.now m b }
 {
     match check_bound(store, m, b) {
         Check::Pass => {
@@ -44,8 +44,8 @@ pub fn bound(store: &[u8], m: Model, b: Box) -> Outcome
 // is less. The first clause says for any lanes what it gives, the second that of the store's own lanes it is the cost, the third that check
 // 9 takes every cost.
 pub fn cost_in(store: &[u8], lanes: &[Chunk], m: Model, v: [i16; 8], cap: u64) -> u64
-    ensures lanes { result ≡ costIn store.now lanes.now m v cap }
-    ensures store { DecodedFor store.now m lanes.now → result ≡ costUpTo store.now m v cap }
+    ensures lanes { result ≡ cost_in store.now lanes.now m v cap }
+    ensures store { DecodedFor store.now m lanes.now → result ≡ cost_up_to store.now m v cap }
     ensures limit { DecodedFor store.now m lanes.now → result ≤ 1152921367167897600 }
 {
     match check_model(store, m) {
@@ -56,8 +56,8 @@ pub fn cost_in(store: &[u8], lanes: &[Chunk], m: Model, v: [i16; 8], cap: u64) -
 
 // The bound of a box, or `cap` if that is less.
 pub fn bound_in(store: &[u8], lanes: &[Chunk], m: Model, b: Box, cap: u64) -> u64
-    ensures lanes { result ≡ boundIn store.now lanes.now m b cap }
-    ensures store { DecodedFor store.now m lanes.now → result ≡ boundUpTo store.now m b cap }
+    ensures lanes { result ≡ bound_in store.now lanes.now m b cap }
+    ensures store { DecodedFor store.now m lanes.now → result ≡ bound_up_to store.now m b cap }
 {
     match check_model(store, m) {
         Check::Pass => {

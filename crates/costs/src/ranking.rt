@@ -3,14 +3,14 @@ ghost use Rattle.std.specs.Prelude.{◌≡◌, false, [], ℕ, ◌-◌, ◌≤�
 ghost use Rattle.std.specs.Float.{binary64};
 ghost use Rattle.std.specs.Float.Ieee.{of_int};
 ghost use Rattle.points.specs.Points.{points_of};
-ghost use Rattle.ranks.specs.Largest.{nthLargest};
+ghost use Rattle.ranks.specs.Largest.{nth_largest};
 ghost use Rattle.residuals.specs.Inside.{Ready};
 ghost use Rattle.eval_lanes.specs.Lanes.{lane};
-ghost use Rattle.eval_columns.specs.Columns.{decodedChunks};
-ghost use Rattle.eval_kernel.specs.Kernel.{noSizes, chunkSize};
-ghost use Rattle.eval_selection.specs.Selection.{exceedingIn, selected};
-ghost use Rattle.costs.specs.Calls.{exceedingBy};
-ghost use Rattle.costs.specs.Inside.{leastSizes, RankIn};
+ghost use Rattle.eval_columns.specs.Columns.{decoded_chunks};
+ghost use Rattle.eval_kernel.specs.Kernel.{no_sizes, chunk_size};
+ghost use Rattle.eval_selection.specs.Selection.{exceeding_in, selected};
+ghost use Rattle.costs.specs.Calls.{exceeding_by};
+ghost use Rattle.costs.specs.Inside.{least_sizes, RankIn};
 
 use crate::NO_CAP;
 use eval_kernel::{Coordinates, NO_SIZE, no_size};
@@ -29,9 +29,9 @@ fn chunk_sizes(
     over: bool,
     fill: bool,
 )
-    requires { fill ≡ false → sizes.old ≡ noSizes }
+    requires { fill ≡ false → sizes.old ≡ no_sizes }
     ensures { (k : ℕ) → k < 80 → lane sizes.new k
-        ≡ chunkSize over s.now from.now to.now m k }
+        ≡ chunk_size over s.now from.now to.now m k }
 {
     if fill {
         *sizes = [no_size(); 80];
@@ -41,7 +41,7 @@ fn chunk_sizes(
 
 // How many of a chunk reach a cap; none is looked at if no size reaches it.
 fn reaching(sizes: &Lanes, cap: u64) -> u64
-    ensures few { result ≤ exceedingIn (of_int binary64 (pos (min cap 4503599627370496 - 1))) sizes.now }
+    ensures few { result ≤ exceeding_in (of_int binary64 (pos (min cap 4503599627370496 - 1))) sizes.now }
     ensures small { result ≤ 80 }
 {
     if NO_SIZE <= cap {
@@ -63,8 +63,8 @@ fn kept_rank(
     cap: u64,
 ) -> u64
     requires { (count ≤ length sizes.old) × (count ≤ length lanes.now) × (count ≤ 54)
-        × (fill ≡ false → (i : ℕ) → i < count → get_or sizes.old i [] ≡ noSizes) }
-    ensures { result ≡ selected (exceedingBy over lanes.now from.now to.now m count) m.eps
+        × (fill ≡ false → (i : ℕ) → i < count → get_or sizes.old i [] ≡ no_sizes) }
+    ensures { result ≡ selected (exceeding_by over lanes.now from.now to.now m count) m.eps
         (min cap 4503599627370496) }
 {
     let mut reached: u64 = 0;
@@ -91,7 +91,7 @@ fn short_rank(
     cap: u64,
 ) -> u64
     requires { (count ≤ 8) × (count ≤ length lanes.now) }
-    ensures { result ≡ selected (exceedingBy over lanes.now from.now to.now m count) m.eps
+    ensures { result ≡ selected (exceeding_by over lanes.now from.now to.now m count) m.eps
         (min cap 4503599627370496) }
 {
     let none: Lanes = [no_size(); 80];
@@ -111,7 +111,7 @@ fn long_rank(
     cap: u64,
 ) -> u64
     requires { (count ≤ 54) × (count ≤ length lanes.now) }
-    ensures { result ≡ selected (exceedingBy over lanes.now from.now to.now m count) m.eps
+    ensures { result ≡ selected (exceeding_by over lanes.now from.now to.now m count) m.eps
         (min cap 4503599627370496) }
 {
     let zeros: Lanes = [0.0; 80];
@@ -151,7 +151,7 @@ fn few_rank(
     over: bool,
     cap: u64,
 ) -> u64
-    requires { Ready (length store.now) m × (decodedChunks store.now lanes.now ≤ 4) }
+    requires { Ready (length store.now) m × (decoded_chunks store.now lanes.now ≤ 4) }
     ensures { RankIn over store.now lanes.now m low high cap result }
 {
     let from = eval_kernel::coordinates(low);
@@ -191,7 +191,7 @@ pub fn lanes_rank(
 // Of the whole store, each chunk decoded into one that is used again.
 pub fn rank(store: &[u8], m: Model, low: [i16; 8], high: [i16; 8], over: bool) -> u64
     requires { Ready (length store.now) m }
-    ensures { result ≡ nthLargest m.eps (leastSizes over m low high (points_of store.now)) }
+    ensures { result ≡ nth_largest m.eps (least_sizes over m low high (points_of store.now)) }
 {
     let power = scale::power(m.scale);
     let from = eval_kernel::coordinates(low);

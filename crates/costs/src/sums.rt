@@ -1,9 +1,9 @@
 // The sum of a store's losses, chunk after chunk.
 ghost use Rattle.std.specs.Prelude.{◌≡◌, length};
 ghost use Rattle.points.specs.Points.{points_of};
-ghost use Rattle.residuals.specs.Cost.{totalLoss};
+ghost use Rattle.residuals.specs.Cost.{total_loss};
 ghost use Rattle.residuals.specs.Inside.{Ready};
-ghost use Rattle.costs.specs.Inside.{sizesBy, SumIn};
+ghost use Rattle.costs.specs.Inside.{sizes_by, SumIn};
 
 use eval_lanes::{Chunk, Lanes};
 use jobs::Model;
@@ -11,7 +11,7 @@ use jobs::Model;
 // Of the whole store, each chunk decoded into one that is used again.
 pub fn sum(store: &[u8], m: Model, low: [i16; 8], high: [i16; 8], over: bool) -> u64
     requires { Ready (length store.now) m }
-    ensures { result ≡ totalLoss m (sizesBy over m low high) (points_of store.now) }
+    ensures { result ≡ total_loss m (sizes_by over m low high) (points_of store.now) }
 {
     let power = scale::power(m.scale);
     let from = eval_kernel::coordinates(low);

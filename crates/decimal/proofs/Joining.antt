@@ -6,43 +6,43 @@ use native.Mathlib.Omega.{arith}
 use lib.IntN.{ℤ, pos}
 use lib.ListN.{length, take, get_or}
 use lib.Seq.{take-suc}
-use Rattle.decimal.specs.Text.{ascii, signed, behindCommas, joined}
+use Rattle.decimal.specs.Text.{ascii, signed, behind_commas, joined}
 
 -- the coordinates behind the first, up to the k-th
 unfoldable pub others : List ℤ → ℕ → List ℕ
 others [] k = []
-others (w ∷ ws) k = behindCommas (take (k - 1) ws)
+others (w ∷ ws) k = behind_commas (take (k - 1) ws)
 
-pub others-none : (v : List ℤ) → others v 1 ≡ []
-unfolding others behindCommas
-others-none [] = refl
-others-none (w ∷ ws) = refl
+pub others_none : (v : List ℤ) → others v 1 ≡ []
+unfolding others behind_commas
+others_none [] = refl
+others_none (w ∷ ws) = refl
 
-commas-more : (ws : List ℤ) (w : ℤ) → behindCommas (ws ++ w ∷ []) ≡ behindCommas ws ++ (ascii "," ++ signed w)
-unfolding behindCommas
-commas-more [] w = append-nil (ascii "," ++ signed w)
-commas-more (u ∷ ws) w =
-    ap (λ l. (ascii "," ++ signed u) ++ l) (commas-more ws w)
-    ∙ sym (append_assoc (ascii "," ++ signed u) (behindCommas ws) (ascii "," ++ signed w))
+commas_more : (ws : List ℤ) (w : ℤ) → behind_commas (ws ++ w ∷ []) ≡ behind_commas ws ++ (ascii "," ++ signed w)
+unfolding behind_commas
+commas_more [] w = append-nil (ascii "," ++ signed w)
+commas_more (u ∷ ws) w =
+    ap (λ l. (ascii "," ++ signed u) ++ l) (commas_more ws w)
+    ∙ sym (append_assoc (ascii "," ++ signed u) (behind_commas ws) (ascii "," ++ signed w))
 
 -- one more
-pub others-more : (v : List ℤ) (k : ℕ) → 1 ≤ k → k < length v → others v (k + 1) ≡ others v k ++ (ascii "," ++ signed (get_or v k (pos 0)))
+pub others_more : (v : List ℤ) (k : ℕ) → 1 ≤ k → k < length v → others v (k + 1) ≡ others v k ++ (ascii "," ++ signed (get_or v k (pos 0)))
 unfolding others
-others-more [] k some inside = absurd (omega arith)
-others-more (w ∷ ws) zero some inside = absurd (omega arith)
-others-more (w ∷ ws) (suc j) some inside =
+others_more [] k some inside = absurd (omega arith)
+others_more (w ∷ ws) zero some inside = absurd (omega arith)
+others_more (w ∷ ws) (suc j) some inside =
     let more : (suc j + 1) - 1 ≡ suc j = omega arith in
     let before : suc j - 1 ≡ j = omega arith in
-    rw (more, before, take-suc ws j (pos 0) (omega arith)) (commas-more (take j ws) (get_or ws j (pos 0)))
+    rw (more, before, take-suc ws j (pos 0) (omega arith)) (commas_more (take j ws) (get_or ws j (pos 0)))
 
-pub joined-none : (v : List ℤ) → joined (take 0 v) ≡ []
+pub joined_none : (v : List ℤ) → joined (take 0 v) ≡ []
 unfolding joined
-joined-none v = refl
+joined_none v = refl
 
-pub joined-others : (v : List ℤ) (k : ℕ) → 1 ≤ k → k ≤ length v → joined (take k v) ≡ signed (get_or v 0 (pos 0)) ++ others v k
+pub joined_others : (v : List ℤ) (k : ℕ) → 1 ≤ k → k ≤ length v → joined (take k v) ≡ signed (get_or v 0 (pos 0)) ++ others v k
 unfolding joined others
-joined-others [] k some few = absurd (omega arith)
-joined-others (w ∷ ws) zero some few = absurd (omega arith)
-joined-others (w ∷ ws) (suc j) some few =
+joined_others [] k some few = absurd (omega arith)
+joined_others (w ∷ ws) zero some few = absurd (omega arith)
+joined_others (w ∷ ws) (suc j) some few =
     let before : suc j - 1 ≡ j = omega arith in
     rw before refl

@@ -15,11 +15,11 @@ use Rattle.decimal.specs.Text.{byte}
 later : (a b : List ℕ) (n k : ℕ) → n ≤ k → drop n a ≡ drop n b → drop k a ≡ drop k b
 later a b n k h e =
     let from : n + (k - n) ≡ k = omega arith in
-    let at-k : (l : List ℕ) → drop (k - n) (drop n l) ≡ drop k l = λ l. drop-drop (k - n) n l ∙ ap (λ (j : ℕ). drop j l) from in
-    sym (at-k a) ∙ ap (drop (k - n)) e ∙ at-k b
+    let at_k : (l : List ℕ) → drop (k - n) (drop n l) ≡ drop k l = λ l. drop-drop (k - n) n l ∙ ap (λ (j : ℕ). drop j l) from in
+    sym (at_k a) ∙ ap (drop (k - n)) e ∙ at_k b
 
-pub put-nothing : (b : List ℕ) (at : ℕ) → Put b at [] at b
-put-nothing b at = record { place = sym (add-zero at); front = sym (append-nil (take at b)); rest = refl; long = refl }
+pub put_nothing : (b : List ℕ) (at : ℕ) → Put b at [] at b
+put_nothing b at = record { place = sym (add-zero at); front = sym (append-nil (take at b)); rest = refl; long = refl }
 
 pub put_one : (l : List ℕ) (at b : ℕ) → at < length l → Put l at (byte b) (at + 1) (set l at b)
 put_one l at b h =
@@ -30,8 +30,8 @@ put_one l at b h =
       long = length-set l at b;
     }
 
-pub put-more : {b m a s t : List ℕ} {at n k : ℕ} → Put b at s n m → Put m n t k a → Put b at (s ++ t) k a
-put-more {b} {m} {a} {s} {t} {at} {n} {k} p q =
+pub put_more : {b m a s t : List ℕ} {at n k : ℕ} → Put b at s n m → Put m n t k a → Put b at (s ++ t) k a
+put_more {b} {m} {a} {s} {t} {at} {n} {k} p q =
     record {
       place = omega (arith, length-append s t, p.place, q.place);
       front = q.front ∙ rw p.front (append_assoc (take at b) s t);
@@ -40,12 +40,12 @@ put-more {b} {m} {a} {s} {t} {at} {n} {k} p q =
     }
 
 -- where there is no room nothing is put, and where there is the text is
-pub not-put : (most : ℕ) (b : List ℕ) (at : ℕ) (t : List ℕ) → length b - at < most → PutIfRoom most b at t at b
-not-put most b at t few = record { put = rw (lt-leb most (length b - at) few) (put-nothing b at) }
+pub not_put : (most : ℕ) (b : List ℕ) (at : ℕ) (t : List ℕ) → length b - at < most → PutIfRoom most b at t at b
+not_put most b at t few = record { put = rw (lt-leb most (length b - at) few) (put_nothing b at) }
 
 module _ {most at n : ℕ} {b t a : List ℕ} where
-  pub is-put : most ≤ length b - at → Put b at t n a → PutIfRoom most b at t n a
-  is-put room p = record { put = rw (le-leb most (length b - at) room) p }
+  pub is_put : most ≤ length b - at → Put b at t n a → PutIfRoom most b at t n a
+  is_put room p = record { put = rw (le-leb most (length b - at) room) p }
 
   pub put_in : PutIfRoom most b at t n a → at + most ≤ length b → Put b at t n a
   put_in p room =
@@ -53,16 +53,16 @@ module _ {most at n : ℕ} {b t a : List ℕ} where
       rw (le-leb most (length b - at) enough) at p.put
 
 -- a text behind one that was put, where the buffer that was lent at first has room for it
-pub put-behind :
+pub put_behind :
     {b m a s t : List ℕ} {most at n k : ℕ} →
     Put b at s n m →
     PutIfRoom most m n t k a →
     n + most ≤ length b →
     Put b at (s ++ t) k a
-put-behind p q room = put-more p (put_in q (omega (arith, p.long)))
+put_behind p q room = put_more p (put_in q (omega (arith, p.long)))
 
 -- the text is at the front of the buffer, and the rest is kept
 pub at_front : {b t a : List ℕ} {n : ℕ} → Put b 0 t n a → (n ≡ length t) × (a ≡ t ++ drop (length t) b)
 at_front {b} {t} {a} {n} p =
-    let n-is : n ≡ length t = omega (arith, p.place) in
-    (n-is, sym (take-append-drop n a) ∙ rw (p.front, p.rest, n-is) refl)
+    let n_is : n ≡ length t = omega (arith, p.place) in
+    (n_is, sym (take-append-drop n a) ∙ rw (p.front, p.rest, n_is) refl)

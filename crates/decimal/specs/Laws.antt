@@ -6,14 +6,14 @@ use Rattle.integers.specs.Lists.{All}
 use Rattle.decimal.specs.Text.{ascii, decimal, signed}
 
 -- the number that digits stand for, behind those of m
-unfoldable pub valueBehind : ℕ → List ℕ → ℕ
-valueBehind m List.[] = m
-valueBehind m (List.◌∷◌ b bs) = valueBehind (10 * m + (b - 48)) bs
+unfoldable pub value_behind : ℕ → List ℕ → ℕ
+value_behind m List.[] = m
+value_behind m (List.◌∷◌ b bs) = value_behind (10 * m + (b - 48)) bs
 
 -- The first four leave one text only for each n; the last shows a sign.
 pub record DecimalLaws : Type 0 where
   -- the digits of n stand for n
-  pub reads : (n : ℕ) → valueBehind 0 (decimal n) ≡ n
+  pub reads : (n : ℕ) → value_behind 0 (decimal n) ≡ n
   -- they are digits
   pub digits : (n : ℕ) → All (λ b. (48 ≤ b) × (b ≤ 57)) (decimal n)
   -- "without leading zeros": the first one is 0 for 0 alone

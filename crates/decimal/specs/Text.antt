@@ -15,15 +15,15 @@ byte b = List.◌∷◌ b List.[]
 
 -- A number of k digits or fewer: below 10 one digit, else the last one behind the digits of n / 10. The digit 0 is byte 48.
 -- What is named by `let` is computed only where it is needed.
-unfoldable pub digitsOf : ℕ → ℕ → List ℕ
-digitsOf zero n = List.[]
-digitsOf (suc k) n =
-    let more = digitsOf k (n / 10) ++ byte (48 + n % 10) in
+unfoldable pub digits_of : ℕ → ℕ → List ℕ
+digits_of zero n = List.[]
+digits_of (suc k) n =
+    let more = digits_of k (n / 10) ++ byte (48 + n % 10) in
     cond (ltb n 10) (byte (48 + n)) more
 
 -- "in decimal without leading zeros"; n has no more than n + 1 digits
 unfoldable pub decimal : ℕ → List ℕ
-decimal n = digitsOf (suc n) n
+decimal n = digits_of (suc n) n
 
 -- "a negative one with - before it"; `negsuc n` is −(n + 1)
 unfoldable pub signed : ℤ → List ℕ
@@ -31,11 +31,11 @@ signed (pos n) = decimal n
 signed (negsuc n) = ascii "-" ++ decimal (suc n)
 
 -- each number behind a comma
-unfoldable pub behindCommas : List ℤ → List ℕ
-behindCommas List.[] = List.[]
-behindCommas (List.◌∷◌ w ws) = (ascii "," ++ signed w) ++ behindCommas ws
+unfoldable pub behind_commas : List ℤ → List ℕ
+behind_commas List.[] = List.[]
+behind_commas (List.◌∷◌ w ws) = (ascii "," ++ signed w) ++ behind_commas ws
 
 -- "joined by commas"
 unfoldable pub joined : List ℤ → List ℕ
 joined List.[] = List.[]
-joined (List.◌∷◌ w ws) = signed w ++ behindCommas ws
+joined (List.◌∷◌ w ws) = signed w ++ behind_commas ws

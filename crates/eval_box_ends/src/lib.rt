@@ -2,9 +2,9 @@
 ghost use Rattle.std.specs.Prelude.{◌≡◌, min};
 ghost use Rattle.std.specs.Float.{binary64};
 ghost use Rattle.std.specs.Float.Ieee.{add, sub, mul};
-ghost use Rattle.eval_whole.specs.Whole.{largerOf, smallerOf};
+ghost use Rattle.eval_whole.specs.Whole.{larger_of, smaller_of};
 ghost use Rattle.eval_lanes.specs.Lanes.{four, taken};
-ghost use Rattle.eval_box_ends.specs.Ends.{leastEnd, oppositeEnd, nearest};
+ghost use Rattle.eval_box_ends.specs.Ends.{least_end, opposite_end, nearest};
 
 use eval_whole::{larger, smaller};
 
@@ -17,8 +17,8 @@ pub struct Ends {
 
 // One coordinate more.
 fn narrowed(e: Ends, low: f64, high: f64, x: f64) -> Ends
-    ensures least { result.least ≡ sub binary64 e.least (largerOf (mul binary64 low x) (mul binary64 high x)) }
-    ensures opposite { result.opposite ≡ add binary64 e.opposite (smallerOf (mul binary64 low x) (mul binary64 high x)) }
+    ensures least { result.least ≡ sub binary64 e.least (larger_of (mul binary64 low x) (mul binary64 high x)) }
+    ensures opposite { result.opposite ≡ add binary64 e.opposite (smaller_of (mul binary64 low x) (mul binary64 high x)) }
 {
     Ends {
         least: e.least - larger(low * x, high * x),
@@ -43,8 +43,8 @@ pub fn few_ends(
     h4: f64,
     x4: f64,
 ) -> Ends
-    ensures least { result.least ≡ leastEnd (four l1 l2 l3 l4) (four h1 h2 h3 h4) (four x1 x2 x3 x4) y (min (taken d) 2) }
-    ensures opposite { result.opposite ≡ oppositeEnd (four l1 l2 l3 l4) (four h1 h2 h3 h4) (four x1 x2 x3 x4) y (min (taken d) 2) }
+    ensures least { result.least ≡ least_end (four l1 l2 l3 l4) (four h1 h2 h3 h4) (four x1 x2 x3 x4) y (min (taken d) 2) }
+    ensures opposite { result.opposite ≡ opposite_end (four l1 l2 l3 l4) (four h1 h2 h3 h4) (four x1 x2 x3 x4) y (min (taken d) 2) }
 {
     let one = narrowed(
         Ends {
@@ -77,8 +77,8 @@ pub fn three_ends(
     h4: f64,
     x4: f64,
 ) -> Ends
-    ensures least { result.least ≡ leastEnd (four l1 l2 l3 l4) (four h1 h2 h3 h4) (four x1 x2 x3 x4) y 3 }
-    ensures opposite { result.opposite ≡ oppositeEnd (four l1 l2 l3 l4) (four h1 h2 h3 h4) (four x1 x2 x3 x4) y 3 }
+    ensures least { result.least ≡ least_end (four l1 l2 l3 l4) (four h1 h2 h3 h4) (four x1 x2 x3 x4) y 3 }
+    ensures opposite { result.opposite ≡ opposite_end (four l1 l2 l3 l4) (four h1 h2 h3 h4) (four x1 x2 x3 x4) y 3 }
 {
     let two = few_ends(2, y, l1, h1, x1, l2, h2, x2, l3, h3, x3, l4, h4, x4);
     narrowed(two, l3, h3, x3)
@@ -100,8 +100,8 @@ pub fn all_ends(
     h4: f64,
     x4: f64,
 ) -> Ends
-    ensures least { result.least ≡ leastEnd (four l1 l2 l3 l4) (four h1 h2 h3 h4) (four x1 x2 x3 x4) y 4 }
-    ensures opposite { result.opposite ≡ oppositeEnd (four l1 l2 l3 l4) (four h1 h2 h3 h4) (four x1 x2 x3 x4) y 4 }
+    ensures least { result.least ≡ least_end (four l1 l2 l3 l4) (four h1 h2 h3 h4) (four x1 x2 x3 x4) y 4 }
+    ensures opposite { result.opposite ≡ opposite_end (four l1 l2 l3 l4) (four h1 h2 h3 h4) (four x1 x2 x3 x4) y 4 }
 {
     let three = three_ends(y, l1, h1, x1, l2, h2, x2, l3, h3, x3, l4, h4, x4);
     narrowed(three, l4, h4, x4)
@@ -109,7 +109,7 @@ pub fn all_ends(
 
 // The smaller of m and the least size.
 pub fn least_of(m: f64, e: Ends) -> f64
-    ensures { result ≡ smallerOf m (nearest e.least e.opposite) }
+    ensures { result ≡ smaller_of m (nearest e.least e.opposite) }
 {
     smaller(m, larger(0.0, larger(e.least, e.opposite)))
 }

@@ -1,7 +1,7 @@
 // Least sizes over a box of the residuals of a chunk's points, for one line.
 ghost use Rattle.std.specs.Prelude.{min};
 ghost use Rattle.eval_lanes.specs.Lanes.{taken, Lessened};
-ghost use Rattle.eval_box_ends.specs.Ends.{overLine};
+ghost use Rattle.eval_box_ends.specs.Ends.{over_line};
 
 use eval_box_ends::{few_ends, least_of};
 use eval_lanes::{Chunk, Lanes, known};
@@ -21,7 +21,7 @@ fn over_few(
     h4: f64,
 )
     ensures { Lessened least.old least.new
-        (overLine s.now l1 h1 l2 h2 l3 h3 l4 h4 (min (taken d) 2)) }
+        (over_line s.now l1 h1 l2 h2 l3 h3 l4 h4 (min (taken d) 2)) }
 {
     known(*least);
     for i in 0..80 {
@@ -46,7 +46,7 @@ pub fn over_line(
     l4: f64,
     h4: f64,
 )
-    ensures { Lessened least.old least.new (overLine s.now l1 h1 l2 h2 l3 h3 l4 h4 (taken d)) }
+    ensures { Lessened least.old least.new (over_line s.now l1 h1 l2 h2 l3 h3 l4 h4 (taken d)) }
 {
     if d < 3 {
         over_few(least, s, d, l1, h1, l2, h2, l3, h3, l4, h4);

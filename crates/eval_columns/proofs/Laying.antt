@@ -25,21 +25,21 @@ module _ (P : ℕ → ℕ → Float → Type 0) (old : List (List Float)) where
     pub done : (c k : ℕ) → c < n → k < 80 → P c k (cell s c k)
     pub rest : (c : ℕ) → n ≤ c → get_or s c [] ≡ get_or old c []
 
-  pub none-laid : length old ≡ 5 → Laid 0 old
-  none-laid h = record { long = h; done = λ c k l. absurd (omega arith); rest = λ c l. refl }
+  pub none_laid : length old ≡ 5 → Laid 0 old
+  none_laid h = record { long = h; done = λ c k l. absurd (omega arith); rest = λ c l. refl }
 
-  pub one-laid : {n : ℕ} {s : List (List Float)} (xs : List Float) → n < 5 → ((k : ℕ) → k < 80 → P n k (lane xs k)) → Laid n s
+  pub one_laid : {n : ℕ} {s : List (List Float)} (xs : List Float) → n < 5 → ((k : ℕ) → k < 80 → P n k (lane xs k)) → Laid n s
       → Laid (n + 1) (set s n xs)
-  one-laid {n} {s} xs h new g =
+  one_laid {n} {s} xs h new g =
       let five = g.long in
       record {
         long = length-set s n xs ∙ five;
-        done = λ c k l i. by-column c (omega arith) k i;
+        done = λ c k l i. by_column c (omega arith) k i;
         rest = λ c l. get_or-set_other s n c xs [] (λ q. omega arith) ∙ g.rest c (omega arith);
       }
     where
-      by-column : (c : ℕ) → c ≤ n → (k : ℕ) → k < 80 → P c k (cell (set s n xs) c k)
-      by-column c l k i =
+      by_column : (c : ℕ) → c ≤ n → (k : ℕ) → k < 80 → P c k (cell (set s n xs) c k)
+      by_column c l k i =
           let five = g.long in
           ⊎_elim
           (λ (q : c ≡ n). rw q (rw (get_or-set_same s n xs [] (omega arith)) (new k i)))
@@ -59,5 +59,5 @@ module _ (P : ℕ → ℕ → Float → Type 0) (old : List (List Float)) where
           target = λ k i. rw (get_or-set_same s 4 ys [] (omega arith)) (new k i);
         }
 
-    pub others-laid : (c : ℕ) → d ≤ c → c < 4 → get_or (set s 4 ys) c [] ≡ get_or old c []
-    others-laid c l i = get_or-set_other s 4 c ys [] (λ p. omega arith) ∙ g.rest c (omega arith)
+    pub others_laid : (c : ℕ) → d ≤ c → c < 4 → get_or (set s 4 ys) c [] ≡ get_or old c []
+    others_laid c l i = get_or-set_other s 4 c ys [] (λ p. omega arith) ∙ g.rest c (omega arith)

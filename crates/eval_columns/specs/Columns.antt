@@ -4,7 +4,7 @@ use Rattle.std.specs.Prelude.{◌&&◌, cond, List, [], ◌∷◌, ◌≡◌, �
 use Rattle.std.specs.Float.{binary64}
 use Rattle.std.specs.Float.Ieee.{mul, of_int}
 use Rattle.points.specs.declared.Point.{Point}
-use Rattle.points.specs.Points.{pointAt, isGap}
+use Rattle.points.specs.Points.{point_at, is_gap}
 use Rattle.eval_lanes.specs.Lanes.{cell}
 
 -- what stands in an empty slot
@@ -16,16 +16,16 @@ abbrev pub number : ℕ → ℕ → ℕ
 number t k = t * 76 + k / 20 * 19 + k % 20
 
 -- the record whose slot it is
-unfoldable pub recordIn : List ℕ → ℕ → ℕ → Point
-recordIn store t k = cond (ltb (k % 20) 19 && ltb (number t k) (length store / 12)) (pointAt store (number t k)) nowhere
+unfoldable pub record_in : List ℕ → ℕ → ℕ → Point
+record_in store t k = cond (ltb (k % 20) 19 && ltb (number t k) (length store / 12)) (point_at store (number t k)) nowhere
 
 -- a gap leaves its slot empty
 unfoldable pub placed : Point → Point
-placed q = cond (isGap q) nowhere q
+placed q = cond (is_gap q) nowhere q
 
 -- the point in slot k of chunk t
 unfoldable pub slot : List ℕ → ℕ → ℕ → Point
-slot store t k = placed (recordIn store t k)
+slot store t k = placed (record_in store t k)
 
 -- how many chunks the records of a store fill, the last one in part
 abbrev pub chunks : List ℕ → ℕ
@@ -52,17 +52,17 @@ pub record ChunkOf (store : List ℕ) (t d power : ℕ) (s : List (List Float)) 
   pub target : (k : ℕ) → k < 80 → Scaled (cell s 4 k) (slot store t k).y power
 
 -- how many of them are decoded: all, where there is room, since check 1 lets no more than 54 through
-abbrev pub decodedChunks : List ℕ → List (List (List Float)) → ℕ
-decodedChunks store lanes = min (min (chunks store) (length lanes)) 54
+abbrev pub decoded_chunks : List ℕ → List (List (List Float)) → ℕ
+decoded_chunks store lanes = min (min (chunks store) (length lanes)) 54
 
 -- what decoding does to lanes: as many chunks as there are, or as have room; the x behind the d-th, and chunks behind those, are as they
 -- were
 pub record DecodedInto (store : List ℕ) (d power : ℕ) (old new : List (List (List Float))) : Type 0 where
-  pub here : (t : ℕ) → t < decodedChunks store old → ChunkOf store t d power (get_or new t [])
+  pub here : (t : ℕ) → t < decoded_chunks store old → ChunkOf store t d power (get_or new t [])
   pub columns : (t c : ℕ) → d ≤ c → c < 4 → get_or (get_or new t []) c [] ≡ get_or (get_or old t []) c []
-  pub rest : (t : ℕ) → decodedChunks store old ≤ t → get_or new t [] ≡ get_or old t []
+  pub rest : (t : ℕ) → decoded_chunks store old ≤ t → get_or new t [] ≡ get_or old t []
 
 -- a decoded store
 pub record Decoded (store : List ℕ) (d power : ℕ) (lanes : List (List (List Float))) : Type 0 where
-  pub all : decodedChunks store lanes ≡ chunks store
+  pub all : decoded_chunks store lanes ≡ chunks store
   pub chunk : (t : ℕ) → t < chunks store → ChunkOf store t d power (get_or lanes t [])

@@ -1,6 +1,6 @@
 // A field of a record, read straight from the store's bytes.
 ghost use Rattle.std.specs.Prelude.{◌≡◌, ◌+◌, ◌/◌, ◌%◌, ◌<◌, length, get_or};
-ghost use Rattle.points.specs.Points.{signedAt};
+ghost use Rattle.points.specs.Points.{signed_at};
 
 fn joined(first: u8, second: u8) -> u16
     ensures first { result % 256 ≡ first }
@@ -21,7 +21,7 @@ fn pair(s: &[u8], o: usize) -> u16
 // The signed 16-bit number at byte o: a pair, turned round by one rotation.
 pub fn field(s: &[u8], o: usize) -> i16
     requires { o + 1 < length s.now }
-    ensures { result ≡ signedAt s.now o }
+    ensures { result ≡ signed_at s.now o }
 {
     let both = pair(s, o);
     fields::signed16((both % 256) as u8, (both / 256) as u8)

@@ -11,28 +11,28 @@ use lib.Dec.{T}
 use lib.Ieee.{Float, lt}
 use Rattle.integers.proofs.Tests.{is_true, and_parts}
 use Rattle.eval_lanes.specs.Lanes.{lane}
-use Rattle.eval_gaps.specs.Gaps.{allAbove}
+use Rattle.eval_gaps.specs.Gaps.{all_above}
 
 module _ (mark : Float) (ys : List Float) where
   -- one number more
-  above_more : (k : ℕ) → allAbove mark ys (k + 1) ≡ lt mark (lane ys k) && allAbove mark ys k
-  unfolding allAbove
-  above_more k = ap (allAbove mark ys) (add-one k)
+  above_more : (k : ℕ) → all_above mark ys (k + 1) ≡ lt mark (lane ys k) && all_above mark ys k
+  unfolding all_above
+  above_more k = ap (all_above mark ys) (add-one k)
 
-  pub one-above : (k : ℕ) → lt mark (lane ys k) ≡ true → allAbove mark ys (k + 1) ≡ allAbove mark ys k
-  one-above k e = above_more k ∙ ap (λ (t : Bool). t && allAbove mark ys k) e
+  pub one_above : (k : ℕ) → lt mark (lane ys k) ≡ true → all_above mark ys (k + 1) ≡ all_above mark ys k
+  one_above k e = above_more k ∙ ap (λ (t : Bool). t && all_above mark ys k) e
 
-  pub one-other : (k : ℕ) → lt mark (lane ys k) ≡ false → allAbove mark ys (k + 1) ≡ false
-  one-other k e = above_more k ∙ ap (λ (t : Bool). t && allAbove mark ys k) e
+  pub one_other : (k : ℕ) → lt mark (lane ys k) ≡ false → all_above mark ys (k + 1) ≡ false
+  one_other k e = above_more k ∙ ap (λ (t : Bool). t && all_above mark ys k) e
 
   -- where all lie above, each does
-  pub each-above : (n : ℕ) → allAbove mark ys n ≡ true → (k : ℕ) → k < n → lt mark (lane ys k) ≡ true
-  unfolding allAbove
-  each-above zero e k h = absurd (omega arith)
-  each-above (suc n) e k h =
-      let both = and_parts (lt mark (lane ys n)) (allAbove mark ys n) (subst T (sym e) tt) in
+  pub each_above : (n : ℕ) → all_above mark ys n ≡ true → (k : ℕ) → k < n → lt mark (lane ys k) ≡ true
+  unfolding all_above
+  each_above zero e k h = absurd (omega arith)
+  each_above (suc n) e k h =
+      let both = and_parts (lt mark (lane ys n)) (all_above mark ys n) (subst T (sym e) tt) in
       let l : k ≤ n = omega arith in
       ⊎_elim
       (λ (q : k ≡ n). subst (λ (i : ℕ). lt mark (lane ys i) ≡ true) (sym q) (is_true _ both.0))
-      (λ (q : k < n). each-above n (is_true _ both.1) k q)
+      (λ (q : k < n). each_above n (is_true _ both.1) k q)
       (eq-or-lt_of_le l)

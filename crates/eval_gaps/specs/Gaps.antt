@@ -4,6 +4,6 @@ use Rattle.std.specs.Float.Ieee.{lt}
 use Rattle.eval_lanes.specs.Lanes.{lane}
 
 -- the first n numbers all lie above a mark
-unfoldable pub allAbove : Float → List Float → ℕ → Bool
-allAbove mark ys zero = true
-allAbove mark ys (suc n) = lt mark (lane ys n) && allAbove mark ys n
+unfoldable pub all_above : Float → List Float → ℕ → Bool
+all_above mark ys zero = true
+all_above mark ys (suc n) = lt mark (lane ys n) && all_above mark ys n

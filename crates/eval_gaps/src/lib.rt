@@ -4,13 +4,13 @@ ghost use Rattle.std.specs.Float.{binary64};
 ghost use Rattle.std.specs.Float.Ieee.{lt, mul};
 ghost use Rattle.eval_whole.specs.Whole.{zeroth};
 ghost use Rattle.eval_lanes.specs.Lanes.{lane};
-ghost use Rattle.eval_gaps.specs.Gaps.{allAbove};
+ghost use Rattle.eval_gaps.specs.Gaps.{all_above};
 
 use eval_lanes::{Lanes, known};
 
 // Each number times a factor, and whether all of them lay above a mark. Those that did not are counted, so that no jump leaves the loop.
 pub fn scale_above(ys: &mut Lanes, mark: f64, by: f64) -> bool
-    ensures above { result ≡ allAbove mark ys.old 80 }
+    ensures above { result ≡ all_above mark ys.old 80 }
     ensures scaled { (k : ℕ) → k < 80 → lane ys.new k ≡ mul binary64 (lane ys.old k) by }
 {
     known(*ys);

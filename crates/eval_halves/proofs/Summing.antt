@@ -10,98 +10,98 @@ use lib.Dec.{eqb}
 use lib.IntN.{ℤ, pos}
 use lib.ListN.{get_or}
 use lib.Ieee.{Float}
-use Rattle.integers.proofs.Tests.{le-or-lt, by_cond}
+use Rattle.integers.proofs.Tests.{le_or_lt, by_cond}
 use Rattle.boxes.specs.declared.Box.{Box}
 use Rattle.jobs.specs.declared.Model.{Model}
-use Rattle.loss.specs.Loss.{lossOf}
-use Rattle.residuals.specs.Cost.{least, leastSize}
+use Rattle.loss.specs.Loss.{loss_of}
+use Rattle.residuals.specs.Cost.{least, least_size}
 use Rattle.integers.specs.Sums.{sum_of}
-use Rattle.residuals.specs.Inside.{Ready, leastFrom}
-use Rattle.residuals.proofs.Least.{from-large}
-use Rattle.residuals.proofs.Sums.{threshold-small}
+use Rattle.residuals.specs.Inside.{Ready, least_from}
+use Rattle.residuals.proofs.Least.{from_large}
+use Rattle.residuals.proofs.Sums.{threshold_small}
 use Rattle.eval_whole.specs.Whole.{Whole, Within}
-use Rattle.eval_whole.proofs.Laws.{cast-whole}
-use Rattle.eval_whole.proofs.Picks.{least-whole}
-use Rattle.eval_columns.specs.Columns.{nowhere, slot, decodedChunks, ChunkOf}
-use Rattle.eval_losses.proofs.Exact.{loss-exact, chunk-exact}
-use Rattle.eval_slots.proofs.Empty.{empty-slot}
-use Rattle.eval_slots.proofs.Summing.{store-summed}
-use Rattle.eval_kernel.specs.Kernel.{doubles, Doubles, noSize}
-use Rattle.eval_kernel.proofs.Exact.{least-in}
-use Rattle.eval_halves.specs.Halves.{leastBut, lossOver, halfLoss, halfSize, HalfSum}
+use Rattle.eval_whole.proofs.Laws.{cast_whole}
+use Rattle.eval_whole.proofs.Picks.{least_whole}
+use Rattle.eval_columns.specs.Columns.{nowhere, slot, decoded_chunks, ChunkOf}
+use Rattle.eval_losses.proofs.Exact.{loss_exact, chunk_exact}
+use Rattle.eval_slots.proofs.Empty.{empty_slot}
+use Rattle.eval_slots.proofs.Summing.{store_summed}
+use Rattle.eval_kernel.specs.Kernel.{doubles, Doubles, no_size}
+use Rattle.eval_kernel.proofs.Exact.{least_in_lem}
+use Rattle.eval_halves.specs.Halves.{least_but, loss_over, half_loss, half_size, HalfSum}
 
 -- ---- the least of all lines but one, and then of that one
 module _ (first c : ℕ) (f : ℕ → ℕ) where
-  unfoldable leastOthers : ℕ → ℕ
-  leastOthers zero = first
-  leastOthers (suc n) = cond (eqb n c) (leastOthers n) (min (leastOthers n) (f n))
+  unfoldable least_others : ℕ → ℕ
+  least_others zero = first
+  least_others (suc n) = cond (eqb n c) (least_others n) (min (least_others n) (f n))
 
   module _ (g : ℕ → ℕ) where
     -- line c by g, the others by f
     abbrev mixed : ℕ → ℕ
     mixed j = cond (eqb j c) (g j) (f j)
 
-    least-before : (n : ℕ) → n ≤ c → leastFrom first mixed n ≡ leastOthers n
-    unfolding leastFrom leastOthers
-    least-before zero h = refl
-    least-before (suc n) h = rw (ne_eqb n c (λ (e : n ≡ c). omega arith), least-before n (omega arith))
+    least_before : (n : ℕ) → n ≤ c → least_from first mixed n ≡ least_others n
+    unfolding least_from least_others
+    least_before zero h = refl
+    least_before (suc n) h = rw (ne_eqb n c (λ (e : n ≡ c). omega arith), least_before n (omega arith))
 
-    least-mixed : (n : ℕ) → c < n → leastFrom first mixed n ≡ min (leastOthers n) (g c)
-    unfolding leastFrom leastOthers
-    least-mixed zero h = absurd (omega arith)
-    least-mixed (suc n) h =
+    least_mixed : (n : ℕ) → c < n → least_from first mixed n ≡ min (least_others n) (g c)
+    unfolding least_from least_others
+    least_mixed zero h = absurd (omega arith)
+    least_mixed (suc n) h =
         ⊎_elim
-        (λ (l : n ≤ c). let e : n ≡ c = omega arith in rw (eq-eqb n c e, least-before n l, e))
-        (λ (l : c < n). rw (ne_eqb n c (λ (e : n ≡ c). omega arith)) (omega (arith, least-mixed n l)))
-        (le-or-lt n c)
+        (λ (l : n ≤ c). let e : n ≡ c = omega arith in rw (eq-eqb n c e, least_before n l, e))
+        (λ (l : c < n). rw (ne_eqb n c (λ (e : n ≡ c). omega arith)) (omega (arith, least_mixed n l)))
+        (le_or_lt n c)
 
 -- ---- in double precision
-cond-whole : {x y : Float} {a b : ℕ} (t : Bool) → Whole x (pos a) → Whole y (pos b) → Whole (cond t x y) (pos (cond t a b))
-cond-whole true u v = u
-cond-whole false u v = v
+cond_whole : {x y : Float} {a b : ℕ} (t : Bool) → Whole x (pos a) → Whole y (pos b) → Whole (cond t x y) (pos (cond t a b))
+cond_whole true u v = u
+cond_whole false u v = v
 
 module _ {bytes : ℕ} {m : Model} (ready : Ready bytes m) {store : List ℕ} {t : ℕ} {s : List (List Float)}
-    (chunk : ChunkOf store t m.d (2 ^ m.scale) s) (b half : Box) (c : ℕ) (inside : c < m.n) (low high own-low own-high : List Float)
-    (lows : Doubles b.low low) (highs : Doubles b.high high) (own-lows : Doubles half.low own-low)
-    (own-highs : Doubles half.high own-high) where
+    (chunk : ChunkOf store t m.d (2 ^ m.scale) s) (b half : Box) (c : ℕ) (inside : c < m.n) (low high own_low own_high : List Float)
+    (lows : Doubles b.low low) (highs : Doubles b.high high) (own-lows : Doubles half.low own_low)
+    (own-highs : Doubles half.high own_high) where
   -- the least size of the point in slot k
-  abbrev boxSize : ℕ → ℕ → ℕ
-  boxSize k = leastSize m b (slot store t k)
+  abbrev box_size : ℕ → ℕ → ℕ
+  box_size k = least_size m b (slot store t k)
 
-  others-whole : (k : ℕ) → k < 80 → (n : ℕ) → n ≤ m.n
-      → Whole (leastBut s low high m.d c noSize n k) (pos (leastOthers 8589934592 c (boxSize k) n))
-  unfolding leastBut leastOthers
-  others-whole k h zero l = cast-whole (pos 8589934592) (omega arith)
-  others-whole k h (suc n) l =
-      let rest = others-whole k h n (omega arith) in
-      cond-whole (eqb n c) rest (least-whole rest (least-in ready chunk low high n k (omega arith) h b.low b.high lows highs).whole)
+  others_whole : (k : ℕ) → k < 80 → (n : ℕ) → n ≤ m.n
+      → Whole (least_but s low high m.d c no_size n k) (pos (least_others 8589934592 c (box_size k) n))
+  unfolding least_but least_others
+  others_whole k h zero l = cast_whole (pos 8589934592) (omega arith)
+  others_whole k h (suc n) l =
+      let rest = others_whole k h n (omega arith) in
+      cond_whole (eqb n c) rest (least_whole rest (least_in_lem ready chunk low high n k (omega arith) h b.low b.high lows highs).whole)
 
   -- and its loss
-  abbrev lossOn : ℕ → ℕ
-  lossOn k = lossOf m.p m.eps (least (halfSize m b half c (slot store t k)) m.n)
+  abbrev loss_on : ℕ → ℕ
+  loss_on k = loss_of m.p m.eps (least (half_size m b half c (slot store t k)) m.n)
 
   -- no size reaches 2^33
-  first_small : (k : ℕ) → k < 80 → halfSize m b half c (slot store t k) 0 ≤ 8589934592
+  first_small : (k : ℕ) → k < 80 → half_size m b half c (slot store t k) 0 ≤ 8589934592
   first_small k h =
       by_cond (λ (n : ℕ). n ≤ 8589934592) (eqb 0 c)
-      (λ t. omega (arith, (least-in ready chunk own-low own-high 0 k ready.lines h half.low half.high own-lows own-highs).small))
-      (λ t. omega (arith, (least-in ready chunk low high 0 k ready.lines h b.low b.high lows highs).small))
+      (λ t. omega (arith, (least_in_lem ready chunk own_low own_high 0 k ready.lines h half.low half.high own-lows own-highs).small))
+      (λ t. omega (arith, (least_in_lem ready chunk low high 0 k ready.lines h b.low b.high lows highs).small))
 
-  losses-within : (k : ℕ) → k < 80 → Within (lossOver s low high own-low own-high m c k) (pos (lossOn k)) 281474943156225
-  losses-within k h =
-      let own = least-in ready chunk own-low own-high c k inside h half.low half.high own-lows own-highs in
-      let size = least-whole (others-whole k h m.n (omega arith)) own.whole in
-      let is = sym (least-mixed 8589934592 c (boxSize k) (leastSize m half (slot store t k)) m.n inside) in
-      let none = from-large 8589934592 (halfSize m b half c (slot store t k)) m.n ready.lines (first_small k h) in
-      loss-exact (subst (Whole _) (ap pos (is ∙ none)) size) ready.cut m.p
+  losses_within : (k : ℕ) → k < 80 → Within (loss_over s low high own_low own_high m c k) (pos (loss_on k)) 281474943156225
+  losses_within k h =
+      let own = least_in_lem ready chunk own_low own_high c k inside h half.low half.high own-lows own-highs in
+      let size = least_whole (others_whole k h m.n (omega arith)) own.whole in
+      let is = sym (least_mixed 8589934592 c (box_size k) (least_size m half (slot store t k)) m.n inside) in
+      let none = from_large 8589934592 (half_size m b half c (slot store t k)) m.n ready.lines (first_small k h) in
+      loss_exact (subst (Whole _) (ap pos (is ∙ none)) size) ready.cut m.p
 
-  half-exact : halfLoss s low high own-low own-high m c ≡ sum_of lossOn 80
-  unfolding halfLoss
-  half-exact = chunk-exact losses-within
+  half_exact : half_loss s low high own_low own_high m c ≡ sum_of loss_on 80
+  unfolding half_loss
+  half_exact = chunk_exact losses_within
 
 -- ---- of a store
-nothing : (m : Model) (b half : Box) (c j : ℕ) → halfSize m b half c nowhere j ≡ 0
-nothing m b half c j = rw ((empty-slot m).over-box half j, (empty-slot m).over-box b j) (same (eqb j c))
+nothing : (m : Model) (b half : Box) (c j : ℕ) → half_size m b half c nowhere j ≡ 0
+nothing m b half c j = rw ((empty_slot m).over_box half j, (empty_slot m).over_box b j) (same (eqb j c))
   where
     same : (t : Bool) → ◌≡◌ {A = ℕ} (cond t 0 0) 0
     same true = refl
@@ -111,25 +111,25 @@ nothing m b half c j = rw ((empty-slot m).over-box half j, (empty-slot m).over-b
 abbrev Given : List ℤ → List Float → Type 0
 Given v u = (u ≡ doubles v) × Doubles v u
 
-module _ (store : List ℕ) (lanes : List (List (List Float))) (m : Model) (b half : Box) (c : ℕ) (low high own-low own-high : List Float)
-    (low-is : Given b.low low) (high_is : Given b.high high) (own-low-is : Given half.low own-low)
-    (own-high-is : Given half.high own-high) where
+module _ (store : List ℕ) (lanes : List (List (List Float))) (m : Model) (b half : Box) (c : ℕ) (low high own_low own_high : List Float)
+    (low_is : Given b.low low) (high_is : Given b.high high) (own-low-is : Given half.low own_low)
+    (own-high-is : Given half.high own_high) where
   -- the loss of chunk t, as the loop finds it
-  abbrev chunkLossAt : ℕ → ℕ
-  chunkLossAt t = halfLoss (get_or lanes t []) low high own-low own-high m c
+  abbrev chunk_loss_at : ℕ → ℕ
+  chunk_loss_at t = half_loss (get_or lanes t []) low high own_low own_high m c
 
-  pub half-sum : (cap r : ℕ) → r ≡ min (sum_of chunkLossAt (decodedChunks store lanes)) cap → HalfSum store lanes m b half c cap r
-  half-sum cap r e =
-      let n = decodedChunks store lanes in
+  pub half_sum : (cap r : ℕ) → r ≡ min (sum_of chunk_loss_at (decoded_chunks store lanes)) cap → HalfSum store lanes m b half c cap r
+  half_sum cap r e =
+      let n = decoded_chunks store lanes in
       let sum : List Float → List Float → List Float → List Float → ℕ =
-      λ l h u v. min (sum_of (λ t. halfLoss (get_or lanes t []) l h u v m c) n) cap in
+      λ l h u v. min (sum_of (λ t. half_loss (get_or lanes t []) l h u v m c) n) cap in
       record {
-        by-lanes =
-            e ∙ ap₂ (λ l h. sum l h own-low own-high) low-is.0 high_is.0
+        by_lanes =
+            e ∙ ap₂ (λ l h. sum l h own_low own_high) low_is.0 high_is.0
             ∙ ap₂ (sum (doubles b.low) (doubles b.high)) own-low-is.0 own-high-is.0;
-        by-points = λ ready inside decoded.
-            store-summed m (halfSize m b half c) store (threshold-small m.p m.eps ready.cut) (nothing m b half c)
-            chunkLossAt (λ t h.
-            half-exact ready (decoded.chunk t h) b half c inside low high own-low own-high low-is.1 high_is.1 own-low-is.1
+        by_points = λ ready inside decoded.
+            store_summed m (half_size m b half c) store (threshold_small m.p m.eps ready.cut) (nothing m b half c)
+            chunk_loss_at (λ t h.
+            half_exact ready (decoded.chunk t h) b half c inside low high own_low own_high low_is.1 high_is.1 own-low-is.1
             own-high-is.1) n cap r decoded.all e;
       }

@@ -7,43 +7,43 @@ use Rattle.boxes.specs.declared.Box.{Box}
 use Rattle.jobs.specs.declared.Model.{Model}
 use Rattle.points.specs.declared.Point.{Point}
 use Rattle.points.specs.Points.{points_of}
-use Rattle.residuals.specs.Cost.{leastSize, totalLoss}
+use Rattle.residuals.specs.Cost.{least_size, total_loss}
 use Rattle.integers.specs.Sums.{sum_of}
 use Rattle.residuals.specs.Inside.{Ready}
-use Rattle.eval_whole.specs.Whole.{smallerOf}
-use Rattle.eval_columns.specs.Columns.{decodedChunks, Decoded}
-use Rattle.eval_losses.specs.Losses.{lossIn, chunkSum}
-use Rattle.eval_kernel.specs.Kernel.{doubles, sizeBy, noSize}
+use Rattle.eval_whole.specs.Whole.{smaller_of}
+use Rattle.eval_columns.specs.Columns.{decoded_chunks, Decoded}
+use Rattle.eval_losses.specs.Losses.{loss_in, chunk_sum}
+use Rattle.eval_kernel.specs.Kernel.{doubles, size_by, no_size}
 
 -- the least of `most` and the least sizes of point k over a box, of the first n lines but line c
-unfoldable pub leastBut : List (List Float) → List Float → List Float → ℕ → ℕ → Float → ℕ → ℕ → Float
-leastBut s low high d c most zero k = most
-leastBut s low high d c most (suc n) k =
-    cond (eqb n c) (leastBut s low high d c most n k)
-    (smallerOf (leastBut s low high d c most n k) (sizeBy true s low high d (min (n * d) 8) k))
+unfoldable pub least_but : List (List Float) → List Float → List Float → ℕ → ℕ → Float → ℕ → ℕ → Float
+least_but s low high d c most zero k = most
+least_but s low high d c most (suc n) k =
+    cond (eqb n c) (least_but s low high d c most n k)
+    (smaller_of (least_but s low high d c most n k) (size_by true s low high d (min (n * d) 8) k))
 
 -- the loss of point k over a half: line c is the half's own, the others are those of the box from low to high
-abbrev pub lossOver : List (List Float) → List Float → List Float → List Float → List Float → Model → ℕ → ℕ → Float
-lossOver s low high own-low own-high m c k =
-    lossIn m.p (of_int binary64 (pos m.eps))
-    (smallerOf (leastBut s low high m.d c noSize m.n k)
-    (sizeBy true s own-low own-high m.d (min (c * m.d) 8) k))
+abbrev pub loss_over : List (List Float) → List Float → List Float → List Float → List Float → Model → ℕ → ℕ → Float
+loss_over s low high own_low own_high m c k =
+    loss_in m.p (of_int binary64 (pos m.eps))
+    (smaller_of (least_but s low high m.d c no_size m.n k)
+    (size_by true s own_low own_high m.d (min (c * m.d) 8) k))
 
 -- the losses of a chunk over a half, added up
-unfoldable pub halfLoss : List (List Float) → List Float → List Float → List Float → List Float → Model → ℕ → ℕ
-halfLoss s low high own-low own-high m c = chunkSum (lossOver s low high own-low own-high m c)
+unfoldable pub half_loss : List (List Float) → List Float → List Float → List Float → List Float → Model → ℕ → ℕ
+half_loss s low high own_low own_high m c = chunk_sum (loss_over s low high own_low own_high m c)
 
 -- of chunk t of lanes
-abbrev pub halfLossIn : List (List (List Float)) → Model → Box → Box → ℕ → ℕ → ℕ
-halfLossIn lanes m b half c t =
-    halfLoss (get_or lanes t []) (doubles b.low) (doubles b.high) (doubles half.low) (doubles half.high) m c
+abbrev pub half_loss_in : List (List (List Float)) → Model → Box → Box → ℕ → ℕ → ℕ
+half_loss_in lanes m b half c t =
+    half_loss (get_or lanes t []) (doubles b.low) (doubles b.high) (doubles half.low) (doubles half.high) m c
 
 -- the least size of point q and line j: line c is the half's own, the others are those of the box
-abbrev pub halfSize : Model → Box → Box → ℕ → Point → ℕ → ℕ
-halfSize m b half c q j = cond (eqb j c) (leastSize m half q j) (leastSize m b q j)
+abbrev pub half_size : Model → Box → Box → ℕ → Point → ℕ → ℕ
+half_size m b half c q j = cond (eqb j c) (least_size m half q j) (least_size m b q j)
 
 -- what a sum over a half is: by the lanes, and of the store's own by its points
 pub record HalfSum (store : List ℕ) (lanes : List (List (List Float))) (m : Model) (b half : Box) (c cap r : ℕ) : Type 0 where
-  pub by-lanes : r ≡ min (sum_of (halfLossIn lanes m b half c) (decodedChunks store lanes)) cap
-  pub by-points : Ready (length store) m → c < m.n → Decoded store m.d (2 ^ m.scale) lanes →
-      r ≡ min (totalLoss m (halfSize m b half c) (points_of store)) cap
+  pub by_lanes : r ≡ min (sum_of (half_loss_in lanes m b half c) (decoded_chunks store lanes)) cap
+  pub by_points : Ready (length store) m → c < m.n → Decoded store m.d (2 ^ m.scale) lanes →
+      r ≡ min (total_loss m (half_size m b half c) (points_of store)) cap

@@ -1,9 +1,9 @@
 // The sums of losses over both halves of a box, which have every line in common but the one that is cut: the sizes of the others are found
 // once.
 ghost use Rattle.std.specs.Prelude.{◌≡◌, ℕ, ◌<◌};
-ghost use Rattle.residuals.specs.Inside.{boxOf};
+ghost use Rattle.residuals.specs.Inside.{box_of};
 ghost use Rattle.eval_lanes.specs.Lanes.{lane};
-ghost use Rattle.eval_halves.specs.Halves.{leastBut, halfLoss, HalfSum};
+ghost use Rattle.eval_halves.specs.Halves.{least_but, half_loss, HalfSum};
 
 use boxes::Box;
 use eval_kernel::{Coordinates, lessen_line};
@@ -29,7 +29,7 @@ fn lessen_others(
     c: u8,
 )
     ensures { (k : ℕ) → k < 80 → lane sizes.new k
-        ≡ leastBut s.now low.now high.now d c (lane sizes.old k) n k }
+        ≡ least_but s.now low.now high.now d c (lane sizes.old k) n k }
 {
     for j in 0..n {
         if j != c {
@@ -50,9 +50,9 @@ fn chunk_losses(
     c: u8,
 ) -> Sums
     ensures left { result.left
-        ≡ halfLoss s.now low.now high.now low.now middle.now m c }
+        ≡ half_loss s.now low.now high.now low.now middle.now m c }
     ensures right { result.right
-        ≡ halfLoss s.now low.now high.now next.now high.now m c }
+        ≡ half_loss s.now low.now high.now next.now high.now m c }
     ensures small { (result.left < 36028797018963968) × (result.right < 36028797018963968) }
 {
     let mut left: Lanes = [eval_kernel::no_size(); 80];
@@ -77,8 +77,8 @@ pub fn sums_up_to(
     c: u8,
     cap: u64,
 ) -> Sums
-    ensures left { HalfSum store.now lanes.now m (boxOf left.low right.high) left c cap result.left }
-    ensures right { HalfSum store.now lanes.now m (boxOf left.low right.high) right c cap result.right }
+    ensures left { HalfSum store.now lanes.now m (box_of left.low right.high) left c cap result.left }
+    ensures right { HalfSum store.now lanes.now m (box_of left.low right.high) right c cap result.right }
 {
     let left_low = left.low;
     let left_high = left.high;

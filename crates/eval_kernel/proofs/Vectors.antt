@@ -8,7 +8,7 @@ use lib.IntN.{ℤ, pos}
 use lib.ListN.{length, get_or, replicate, length-map, length-append, get_or-replicate}
 use lib.Seq.{ext_get_or, get_or-append-add}
 use lib.Ieee.{Float, nan, binary64, of_int}
-use Rattle.integers.proofs.Tests.{le-or-lt}
+use Rattle.integers.proofs.Tests.{le_or_lt}
 use Rattle.eval_whole.specs.Whole.{Within, zeroth}
 use Rattle.eval_lanes.specs.Lanes.{lane}
 use Rattle.eval_lanes.specs.Inside.{Filled}
@@ -29,9 +29,9 @@ behind xs k l h =
     ap (lane (xs ++ replicate 4 zeroth)) e ∙ get_or-append-add xs (replicate 4 zeroth) (k - length xs) nan
     ∙ get_or-replicate 4 (k - length xs) zeroth nan (omega arith)
 
-pub all-doubles : (v : List ℤ) (u : List Float) → length v ≡ 8 → Filled 0 (Double v) (replicate 12 zeroth) 8 u → u ≡ doubles v
+pub all_doubles : (v : List ℤ) (u : List Float) → length v ≡ 8 → Filled 0 (Double v) (replicate 12 zeroth) 8 u → u ≡ doubles v
 unfolding doubles
-all-doubles v u eight g =
+all_doubles v u eight g =
     let long : length u ≡ 12 = g.long in
     let n = length-map v (of_int binary64) in
     ext_get_or nan u (map (of_int binary64) v ++ replicate 4 zeroth)
@@ -40,4 +40,4 @@ all-doubles v u eight g =
     (λ (l : 8 ≤ k). g.rest k l ∙ get_or-replicate 12 k zeroth nan (omega arith)
     ∙ sym (behind (map (of_int binary64) v) k (omega arith) (omega arith)))
     (λ (l : k < 8). (g.done k (omega arith) l).0 ∙ sym (first (of_int binary64) v (replicate 4 zeroth) k (omega arith)))
-    (le-or-lt 8 k))
+    (le_or_lt 8 k))

@@ -4,11 +4,11 @@ use Rattle.std.specs.Prelude.{Bool, cond, List, ◌++◌, map, ◌≡◌, ℕ, z
 use Rattle.std.specs.Float.{binary64}
 use Rattle.std.specs.Float.Ieee.{of_int}
 use Rattle.jobs.specs.declared.Model.{Model}
-use Rattle.eval_whole.specs.Whole.{Within, smallerOf, zeroth}
+use Rattle.eval_whole.specs.Whole.{Within, smaller_of, zeroth}
 use Rattle.eval_lanes.specs.Lanes.{lane, four, taken}
-use Rattle.eval_sizes.specs.Sizes.{sizeIn}
-use Rattle.eval_box_ends.specs.Ends.{leastIn}
-use Rattle.eval_losses.specs.Losses.{lossIn, groupSums, chunkSum}
+use Rattle.eval_sizes.specs.Sizes.{size_in}
+use Rattle.eval_box_ends.specs.Ends.{least_in}
+use Rattle.eval_losses.specs.Losses.{loss_in, group_sums, chunk_sum}
 
 -- the coordinates of a vector as doubles, and four zeros behind them
 unfoldable pub doubles : List ℤ → List Float
@@ -23,37 +23,37 @@ abbrev pub line : List Float → ℕ → ℕ → Float
 line u b = four (lane u b) (lane u (b + 1)) (lane u (b + 2)) (lane u (b + 3))
 
 -- of point k and the line whose coordinates begin at place b: over the box from low to high the least size, else |e| under low
-abbrev pub sizeBy : Bool → List (List Float) → List Float → List Float → ℕ → ℕ → ℕ → Float
-sizeBy over s low high d b k =
-    cond over (leastIn s (line low b) (line high b) (taken d) k) (sizeIn s (line low b) (taken d) k)
+abbrev pub size_by : Bool → List (List Float) → List Float → List Float → ℕ → ℕ → ℕ → Float
+size_by over s low high d b k =
+    cond over (least_in s (line low b) (line high b) (taken d) k) (size_in s (line low b) (taken d) k)
 
 -- the least of `most` and the sizes of n lines
-unfoldable pub leastBy : Bool → List (List Float) → List Float → List Float → ℕ → Float → ℕ → ℕ → Float
-leastBy over s low high d most zero k = most
-leastBy over s low high d most (suc n) k = smallerOf (leastBy over s low high d most n k) (sizeBy over s low high d (min (n * d) 8) k)
+unfoldable pub least_by : Bool → List (List Float) → List Float → List Float → ℕ → Float → ℕ → ℕ → Float
+least_by over s low high d most zero k = most
+least_by over s low high d most (suc n) k = smaller_of (least_by over s low high d most n k) (size_by over s low high d (min (n * d) 8) k)
 
 -- eighty numbers became the least of themselves and the sizes of n lines
 abbrev pub LeastOf : Bool → List (List Float) → List Float → List Float → ℕ → ℕ → List Float → List Float → Type 0
-LeastOf over s low high d n old new = (k : ℕ) → k < 80 → lane new k ≡ leastBy over s low high d (lane old k) n k
+LeastOf over s low high d n old new = (k : ℕ) → k < 80 → lane new k ≡ least_by over s low high d (lane old k) n k
 
 -- 2^33, which no size reaches, and eighty of it
-abbrev pub noSize : Float
-noSize = of_int binary64 (pos 8589934592)
+abbrev pub no_size : Float
+no_size = of_int binary64 (pos 8589934592)
 
-abbrev pub noSizes : List Float
-noSizes = replicate 80 noSize
+abbrev pub no_sizes : List Float
+no_sizes = replicate 80 no_size
 
 -- the least size of point k
-unfoldable pub chunkSize : Bool → List (List Float) → List Float → List Float → Model → ℕ → Float
-chunkSize over s low high m k = leastBy over s low high m.d noSize m.n k
+unfoldable pub chunk_size : Bool → List (List Float) → List Float → List Float → Model → ℕ → Float
+chunk_size over s low high m k = least_by over s low high m.d no_size m.n k
 
 -- its loss
-abbrev pub lossBy : Bool → List (List Float) → List Float → List Float → Model → ℕ → Float
-lossBy over s low high m k = lossIn m.p (of_int binary64 (pos m.eps)) (chunkSize over s low high m k)
+abbrev pub loss_by : Bool → List (List Float) → List Float → List Float → Model → ℕ → Float
+loss_by over s low high m k = loss_in m.p (of_int binary64 (pos m.eps)) (chunk_size over s low high m k)
 
 -- the sums of the losses by groups, and of all
-unfoldable pub groupLosses : Bool → List (List Float) → List Float → List Float → Model → List ℕ
-groupLosses over s low high m = groupSums (lossBy over s low high m)
+unfoldable pub group_losses : Bool → List (List Float) → List Float → List Float → Model → List ℕ
+group_losses over s low high m = group_sums (loss_by over s low high m)
 
-unfoldable pub chunkLoss : Bool → List (List Float) → List Float → List Float → Model → ℕ
-chunkLoss over s low high m = chunkSum (lossBy over s low high m)
+unfoldable pub chunk_loss : Bool → List (List Float) → List Float → List Float → Model → ℕ
+chunk_loss over s low high m = chunk_sum (loss_by over s low high m)

@@ -4,7 +4,7 @@ ghost use Rattle.std.specs.Float.{binary64};
 ghost use Rattle.std.specs.Float.Ieee.{of_int};
 ghost use Rattle.eval_whole.specs.Whole.{Within};
 ghost use Rattle.eval_lanes.specs.Lanes.{Lessened};
-ghost use Rattle.eval_kernel.specs.Kernel.{doubles, Doubles, sizeBy, LeastOf, noSize, groupLosses, chunkLoss};
+ghost use Rattle.eval_kernel.specs.Kernel.{doubles, Doubles, size_by, LeastOf, no_size, group_losses, chunk_loss};
 
 use eval_lanes::{Chunk, Lanes};
 use jobs::Model;
@@ -51,7 +51,7 @@ fn lessen(
 )
     requires { b < 9 }
     ensures { Lessened least.old least.new
-        (sizeBy over s.now low.now high.now d b) }
+        (size_by over s.now low.now high.now d b) }
 {
     if over {
         eval_box_sizes::over_line(
@@ -83,7 +83,7 @@ pub fn lessen_line(
     over: bool,
 )
     ensures { Lessened least.old least.new
-        (sizeBy over s.now low.now high.now d (min (j * d) 8)) }
+        (size_by over s.now low.now high.now d (min (j * d) 8)) }
 {
     lessen(least, s, low, high, d as usize, place(j, d), over);
 }
@@ -111,7 +111,7 @@ pub const NO_SIZE: u64 = 8589934592;
 // What a least size starts from. It is the same for every ε: the compiler lays lanes that are filled with a constant at a multiple of 16
 // bytes, so that no packed access to them lies across two pages.
 pub fn no_size() -> f64
-    ensures { result ≡ noSize }
+    ensures { result ≡ no_size }
 {
     NO_SIZE as f64
 }
@@ -124,7 +124,7 @@ pub fn group_losses(
     m: Model,
     over: bool,
 ) -> [u64; 4]
-    ensures { result ≡ groupLosses over s.now low.now high.now m }
+    ensures { result ≡ group_losses over s.now low.now high.now m }
 {
     let mut sizes: Lanes = [no_size(); 80];
     lessen_all(&mut sizes, s, low, high, m.n, m.d, over);
@@ -134,7 +134,7 @@ pub fn group_losses(
 
 // All of them added up, without the four sums in between.
 pub fn chunk_loss(s: &Chunk, low: &Coordinates, high: &Coordinates, m: Model, over: bool) -> u64
-    ensures value { result ≡ chunkLoss over s.now low.now high.now m }
+    ensures value { result ≡ chunk_loss over s.now low.now high.now m }
     ensures small { result < 36028797018963968 }
 {
     let mut least: Lanes = [no_size(); 80];

@@ -2,7 +2,7 @@
 // the compiler leaves a test in one that is so long.
 ghost use Rattle.std.specs.Prelude.{max};
 ghost use Rattle.eval_lanes.specs.Lanes.{taken, Lessened};
-ghost use Rattle.eval_box_ends.specs.Ends.{overLine};
+ghost use Rattle.eval_box_ends.specs.Ends.{over_line};
 
 use eval_box_ends::{all_ends, least_of, three_ends};
 use eval_lanes::{Chunk, Lanes, known};
@@ -20,7 +20,7 @@ fn over_three(
     l4: f64,
     h4: f64,
 )
-    ensures { Lessened least.old least.new (overLine s.now l1 h1 l2 h2 l3 h3 l4 h4 3) }
+    ensures { Lessened least.old least.new (over_line s.now l1 h1 l2 h2 l3 h3 l4 h4 3) }
 {
     known(*least);
     for i in 0..80 {
@@ -44,7 +44,7 @@ fn over_all(
     l4: f64,
     h4: f64,
 )
-    ensures { Lessened least.old least.new (overLine s.now l1 h1 l2 h2 l3 h3 l4 h4 4) }
+    ensures { Lessened least.old least.new (over_line s.now l1 h1 l2 h2 l3 h3 l4 h4 4) }
 {
     known(*least);
     for i in 0..80 {
@@ -71,7 +71,7 @@ pub fn over_long(
     h4: f64,
 )
     ensures { Lessened least.old least.new
-        (overLine s.now l1 h1 l2 h2 l3 h3 l4 h4 (max (taken d) 3)) }
+        (over_line s.now l1 h1 l2 h2 l3 h3 l4 h4 (max (taken d) 3)) }
 {
     if d <= 3 {
         over_three(least, s, l1, h1, l2, h2, l3, h3, l4, h4);

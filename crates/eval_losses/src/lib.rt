@@ -2,9 +2,9 @@
 ghost use Rattle.std.specs.Prelude.{cond, ◌≡◌, ℕ, ◌≤◌, ◌<◌, pos};
 ghost use Rattle.std.specs.Float.{binary64};
 ghost use Rattle.std.specs.Float.Ieee.{mul, lt, of_int};
-ghost use Rattle.eval_whole.specs.Whole.{smallerOf, zeroth, oneth};
+ghost use Rattle.eval_whole.specs.Whole.{smaller_of, zeroth, oneth};
 ghost use Rattle.eval_lanes.specs.Lanes.{lane};
-ghost use Rattle.eval_losses.specs.Losses.{lossIn, groupSum, groupSums, chunkSum};
+ghost use Rattle.eval_losses.specs.Losses.{loss_in, group_sum, group_sums, chunk_sum};
 
 use eval_lanes::{Lanes, known};
 use eval_whole::{count, smaller};
@@ -17,14 +17,14 @@ fn over(eps: f64, size: f64) -> f64
 
 // The smaller first, then its square: e² itself may not be exact.
 fn cut_square(eps: f64, size: f64) -> f64
-    ensures { result ≡ mul binary64 (smallerOf eps size) (smallerOf eps size) }
+    ensures { result ≡ mul binary64 (smaller_of eps size) (smaller_of eps size) }
 {
     let cut = smaller(eps, size);
     cut * cut
 }
 
 fn loss(p: u8, eps: f64, size: f64) -> f64
-    ensures { result ≡ lossIn p eps size }
+    ensures { result ≡ loss_in p eps size }
 {
     match p {
         0 => over(eps, size),
@@ -37,7 +37,7 @@ fn loss(p: u8, eps: f64, size: f64) -> f64
 
 // Each size becomes its loss. p is the same in every turn, so the compiler makes a loop for each p.
 pub fn lose(sizes: &mut Lanes, p: u8, eps: u32)
-    ensures { (k : ℕ) → k < 80 → lane sizes.new k ≡ lossIn p (of_int binary64 (pos eps)) (lane sizes.old k) }
+    ensures { (k : ℕ) → k < 80 → lane sizes.new k ≡ loss_in p (of_int binary64 (pos eps)) (lane sizes.old k) }
 {
     known(*sizes);
     let cut = eps as f64;
@@ -49,7 +49,7 @@ pub fn lose(sizes: &mut Lanes, p: u8, eps: u32)
 // The sum of the group of twenty from place o on: two sums side by side, which the compiler keeps in one register.
 fn group_sum(losses: &Lanes, o: usize) -> u64
     requires { o ≤ 60 }
-    ensures { result ≡ groupSum (lane losses.now) o }
+    ensures { result ≡ group_sum (lane losses.now) o }
 {
     let mut even = 0.0;
     let mut odd = 0.0;
@@ -64,7 +64,7 @@ fn group_sum(losses: &Lanes, o: usize) -> u64
 
 // The sums of the four groups.
 pub fn group_sums(losses: &Lanes) -> [u64; 4]
-    ensures { result ≡ groupSums (lane losses.now) }
+    ensures { result ≡ group_sums (lane losses.now) }
 {
     [
         group_sum(losses, 0),
@@ -77,8 +77,8 @@ pub fn group_sums(losses: &Lanes) -> [u64; 4]
 // The sum of a chunk's losses, by groups and then of the groups; each size becomes its loss.
 pub fn total(sizes: &mut Lanes, p: u8, eps: u32) -> u64
     ensures lanes { (k : ℕ) → k < 80 →
-        lane sizes.new k ≡ lossIn p (of_int binary64 (pos eps)) (lane sizes.old k) }
-    ensures value { result ≡ chunkSum (λ k. lossIn p (of_int binary64 (pos eps)) (lane sizes.old k)) }
+        lane sizes.new k ≡ loss_in p (of_int binary64 (pos eps)) (lane sizes.old k) }
+    ensures value { result ≡ chunk_sum (λ k. loss_in p (of_int binary64 (pos eps)) (lane sizes.old k)) }
     ensures small { result < 36028797018963968 }
 {
     lose(sizes, p, eps);

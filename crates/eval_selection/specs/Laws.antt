@@ -1,6 +1,6 @@
 -- What is shown of a selection. The proof stands in proofs/Exact.antt.
 use Rattle.std.specs.Prelude.{List, ◌≡◌, ℕ, ◌<◌, min}
-use Rattle.ranks.specs.Largest.{nthLargest}
+use Rattle.ranks.specs.Largest.{nth_largest}
 use Rattle.ranks.specs.Laws.{exceeding}
 use Rattle.eval_selection.specs.Selection.{selected}
 
@@ -9,5 +9,5 @@ use Rattle.eval_selection.specs.Selection.{selected}
 abbrev pub SelectsLargest : Type 0
 SelectsLargest =
     (over : ℕ → ℕ) (q cap : ℕ) (sizes : List ℕ) →
-    ((a : ℕ) → a < 4503599627370496 → over a ≡ exceeding a sizes) → nthLargest q sizes < 4503599627370496 →
-    selected over q (min cap 4503599627370496) ≡ min (nthLargest q sizes) cap
+    ((a : ℕ) → a < 4503599627370496 → over a ≡ exceeding a sizes) → nth_largest q sizes < 4503599627370496 →
+    selected over q (min cap 4503599627370496) ≡ min (nth_largest q sizes) cap

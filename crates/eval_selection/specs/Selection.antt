@@ -6,18 +6,18 @@ use Rattle.integers.specs.Sums.{sum_of}
 use Rattle.eval_lanes.specs.Lanes.{lane}
 
 -- how many of eighty numbers exceed a
-unfoldable pub exceedingIn : Float → List Float → ℕ
-exceedingIn a xs = sum_of (λ k. cond (lt a (lane xs k)) 1 0) 80
+unfoldable pub exceeding_in : Float → List Float → ℕ
+exceeding_in a xs = sum_of (λ k. cond (lt a (lane xs k)) 1 0) 80
 
 -- how many of all chunks exceed a whole number
-unfoldable pub exceedingAll : ℕ → List (List Float) → ℕ
-exceedingAll a sizes = sum_of (λ t. exceedingIn (of_int binary64 (pos a)) (get_or sizes t [])) (length sizes)
+unfoldable pub exceeding_all : ℕ → List (List Float) → ℕ
+exceeding_all a sizes = sum_of (λ t. exceeding_in (of_int binary64 (pos a)) (get_or sizes t [])) (length sizes)
 
 -- the first of a, …, a + n that at most q exceed, or a + n if there is none, where `over b` stands for how many exceed b
-unfoldable pub firstFew : (ℕ → ℕ) → ℕ → ℕ → ℕ → ℕ
-firstFew over q a zero = a
-firstFew over q a (suc n) = cond (leb (over a) q) a (firstFew over q (suc a) n)
+unfoldable pub first_few : (ℕ → ℕ) → ℕ → ℕ → ℕ → ℕ
+first_few over q a zero = a
+first_few over q a (suc n) = cond (leb (over a) q) a (first_few over q (suc a) n)
 
 -- the least whole number that at most q exceed, or `cap` if that is less
 unfoldable pub selected : (ℕ → ℕ) → ℕ → ℕ → ℕ
-selected over q cap = firstFew over q 0 cap
+selected over q cap = first_few over q 0 cap

@@ -1,6 +1,6 @@
 // By bisection: what a few chunks need.
 ghost use Rattle.std.specs.Prelude.{◌≡◌, ◌≤◌, ◌<◌, min};
-ghost use Rattle.eval_selection.specs.Selection.{exceedingAll, selected};
+ghost use Rattle.eval_selection.specs.Selection.{exceeding_all, selected};
 
 use crate::{LIMIT, counting};
 use eval_lanes::Lanes;
@@ -17,7 +17,7 @@ pub fn pivot(low: u64, high: u64) -> u64
 
 // The least number that at most q of the sizes exceed, or `cap` if that is less.
 pub fn bisected(sizes: &[Lanes], q: u32, cap: u64) -> u64
-    ensures { result ≡ selected (λ a. exceedingAll a sizes.now) q (min cap 4503599627370496) }
+    ensures { result ≡ selected (λ a. exceeding_all a sizes.now) q (min cap 4503599627370496) }
 {
     let mut low: u64 = 0;
     let mut high = least(cap, LIMIT);

@@ -1,7 +1,7 @@
 // How many of the sizes exceed a number.
 ghost use Rattle.std.specs.Prelude.{cond, ◌≡◌, ◌≤◌, ◌<◌};
 ghost use Rattle.std.specs.Float.Ieee.{lt};
-ghost use Rattle.eval_selection.specs.Selection.{exceedingIn, exceedingAll};
+ghost use Rattle.eval_selection.specs.Selection.{exceeding_in, exceeding_all};
 
 use eval_lanes::{Lanes, known};
 
@@ -15,7 +15,7 @@ fn one(a: f64, x: f64) -> u64
 
 // Of a chunk. No jump leaves the loop, so that the compiler compares them side by side.
 pub fn exceeding_in(sizes: &Lanes, a: f64) -> u64
-    ensures value { result ≡ exceedingIn a sizes.now }
+    ensures value { result ≡ exceeding_in a sizes.now }
     ensures small { result ≤ 80 }
 {
     known(*sizes);
@@ -29,8 +29,8 @@ pub fn exceeding_in(sizes: &Lanes, a: f64) -> u64
 // Of all chunks; the rest is left out once there are more than `most`, which is looked at once a chunk.
 pub fn exceeding(sizes: &[Lanes], a: u64, most: u32) -> u64
     requires { a ≤ 4503599627370496 }
-    ensures upper { result ≤ exceedingAll a sizes.now }
-    ensures lower { result < exceedingAll a sizes.now → most < result }
+    ensures upper { result ≤ exceeding_all a sizes.now }
+    ensures lower { result < exceeding_all a sizes.now → most < result }
 {
     let mark = a as f64;
     let enough = most as u64;

@@ -6,7 +6,7 @@ mod guesses;
 ghost use Rattle.std.specs.Prelude.{◌≡◌, ◌-◌, ◌≤◌, ◌<◌, min, pos};
 ghost use Rattle.std.specs.Float.{binary64};
 ghost use Rattle.std.specs.Float.Ieee.{of_int};
-ghost use Rattle.eval_selection.specs.Selection.{exceedingIn, exceedingAll, selected};
+ghost use Rattle.eval_selection.specs.Selection.{exceeding_in, exceeding_all, selected};
 
 use eval_lanes::Lanes;
 use numbers::least;
@@ -29,7 +29,7 @@ fn within(x: u64, low: u64, high: u64) -> u64
 
 // By cuts that are guessed: the counts alone decide.
 fn guessed(sizes: &[Lanes], q: u32, cap: u64, reached: u64) -> u64
-    ensures { result ≡ selected (λ a. exceedingAll a sizes.now) q (min cap 4503599627370496) }
+    ensures { result ≡ selected (λ a. exceeding_all a sizes.now) q (min cap 4503599627370496) }
 {
     let mut low: u64 = 0;
     let mut high = least(cap, LIMIT);
@@ -51,7 +51,7 @@ fn guessed(sizes: &[Lanes], q: u32, cap: u64, reached: u64) -> u64
 // The least number that at most q of the sizes exceed, or `cap` if that is less. How many reach the cap tells where to cut first, and
 // decides nothing: the result is the same whatever is said.
 pub fn nth_largest(sizes: &[Lanes], q: u32, cap: u64, reached: u64) -> u64
-    ensures { result ≡ selected (λ a. exceedingAll a sizes.now) q (min cap 4503599627370496) }
+    ensures { result ≡ selected (λ a. exceeding_all a sizes.now) q (min cap 4503599627370496) }
 {
     if sizes.len() < FEW && LIMIT <= cap {
         return bisection::bisected(sizes, q, cap);
@@ -69,7 +69,7 @@ fn under(cap: u64) -> u64
 
 // How many of a chunk reach a cap. Where more than q do, `nth_largest` gives the cap, whatever the chunks behind hold.
 pub fn reaching(sizes: &Lanes, cap: u64) -> u64
-    ensures value { result ≡ exceedingIn (of_int binary64 (pos (min cap 4503599627370496 - 1))) sizes.now }
+    ensures value { result ≡ exceeding_in (of_int binary64 (pos (min cap 4503599627370496 - 1))) sizes.now }
     ensures small { result ≤ 80 }
 {
     counting::exceeding_in(sizes, under(cap) as f64)

@@ -1,8 +1,8 @@
 // Sizes of the residuals of a chunk's points, for one line.
 ghost use Rattle.std.specs.Prelude.{◌≡◌};
-ghost use Rattle.eval_whole.specs.Whole.{smallerOf, sized};
+ghost use Rattle.eval_whole.specs.Whole.{smaller_of, sized};
 ghost use Rattle.eval_lanes.specs.Lanes.{four, taken, Lessened};
-ghost use Rattle.eval_sizes.specs.Sizes.{lineResidual, sizeIn};
+ghost use Rattle.eval_sizes.specs.Sizes.{line_residual, size_in};
 
 use eval_lanes::{Chunk, Lanes, known};
 use eval_whole::{larger, smaller};
@@ -20,7 +20,7 @@ fn residual(
     w4: f64,
     x4: f64,
 ) -> f64
-    ensures { result ≡ lineResidual (four w1 w2 w3 w4) (four x1 x2 x3 x4) y (taken d) }
+    ensures { result ≡ line_residual (four w1 w2 w3 w4) (four x1 x2 x3 x4) y (taken d) }
 {
     let one = y - w1 * x1;
     if d < 2 {
@@ -39,7 +39,7 @@ fn residual(
 
 // The smaller of m and |e|.
 fn least_of(m: f64, e: f64) -> f64
-    ensures { result ≡ smallerOf m (sized e) }
+    ensures { result ≡ smaller_of m (sized e) }
 {
     smaller(m, larger(e, -e))
 }
@@ -47,7 +47,7 @@ fn least_of(m: f64, e: f64) -> f64
 // Each lane becomes the smaller of itself and |e| of its point, for a line of d coordinates. d is the same in every turn, so the
 // compiler makes a loop for each d, in packed instructions, with e in a register.
 pub fn at_line(least: &mut Lanes, s: &Chunk, d: usize, w1: f64, w2: f64, w3: f64, w4: f64)
-    ensures { Lessened least.old least.new (sizeIn s.now (four w1 w2 w3 w4) (taken d)) }
+    ensures { Lessened least.old least.new (size_in s.now (four w1 w2 w3 w4) (taken d)) }
 {
     known(*least);
     for i in 0..80 {

@@ -8,7 +8,7 @@ use native.Mathlib.Omega.{arith}
 use lib.ListN.{length, get_or, set, length-set}
 use lib.Seq.{get_or-set_same, get_or-set_other}
 use lib.Ieee.{Float}
-use Rattle.integers.proofs.Tests.{le-or-lt}
+use Rattle.integers.proofs.Tests.{le_or_lt}
 use Rattle.eval_columns.specs.Columns.{ChunkOf}
 
 same_or_not : (a b : ℕ) → (a ≡ b) ⊎ (a ≡ b → ⊥)
@@ -16,7 +16,7 @@ same_or_not a b =
     ⊎_elim
     (λ (h : a ≤ b). ⊎_elim (λ (e : a ≡ b). inl e) (λ (l : a < b). inr (λ e. omega arith)) (eq-or-lt_of_le h))
     (λ (l : b < a). inr (λ e. omega arith))
-    (le-or-lt a b)
+    (le_or_lt a b)
 
 module _ (store : List ℕ) (d power : ℕ) (old : List (List (List Float))) where
   -- the first n chunks are decoded, and the rest is as it was
@@ -26,27 +26,27 @@ module _ (store : List ℕ) (d power : ℕ) (old : List (List (List Float))) whe
     pub columns : (t c : ℕ) → d ≤ c → c < 4 → get_or (get_or lanes t []) c [] ≡ get_or (get_or old t []) c []
     pub rest : (t : ℕ) → n ≤ t → get_or lanes t [] ≡ get_or old t []
 
-  pub none-through : Through 0 old
-  none-through = record { long = refl; here = λ t l. absurd (omega arith); columns = λ t c l h. refl; rest = λ t l. refl }
+  pub none_through : Through 0 old
+  none_through = record { long = refl; here = λ t l. absurd (omega arith); columns = λ t c l h. refl; rest = λ t l. refl }
 
-  pub one-through : {n : ℕ} {lanes : List (List (List Float))} (s : List (List Float)) → n < length old → ChunkOf store n d power s
+  pub one_through : {n : ℕ} {lanes : List (List (List Float))} (s : List (List Float)) → n < length old → ChunkOf store n d power s
       → ((c : ℕ) → d ≤ c → c < 4 → get_or s c [] ≡ get_or (get_or lanes n []) c []) → Through n lanes → Through (n + 1) (set lanes n s)
-  one-through {n} {lanes} s h new same g =
+  one_through {n} {lanes} s h new same g =
       record {
         long = length-set lanes n s ∙ g.long;
         here =
-            λ t l. by-chunk (λ (k : ℕ) (u : List (List Float)). k ≤ n → ChunkOf store k d power u) t (λ i. new)
+            λ t l. by_chunk (λ (k : ℕ) (u : List (List Float)). k ≤ n → ChunkOf store k d power u) t (λ i. new)
             (λ q i. g.here t (omega arith)) (omega arith);
         columns = λ t c l i.
-            by-chunk (λ (k : ℕ) (u : List (List Float)). get_or u c [] ≡ get_or (get_or old k []) c []) t (same c l i ∙ g.columns n c l i)
+            by_chunk (λ (k : ℕ) (u : List (List Float)). get_or u c [] ≡ get_or (get_or old k []) c []) t (same c l i ∙ g.columns n c l i)
             (λ q. g.columns t c l i);
         rest = λ t l. get_or-set_other lanes n t s [] (λ q. omega arith) ∙ g.rest t (omega arith);
       }
     where
       -- what holds of the new chunk at its place, and of the others elsewhere
-      by-chunk : (P : ℕ → List (List Float) → Type 0) (t : ℕ) → P n s → ((t ≡ n → ⊥) → P t (get_or lanes t []))
+      by_chunk : (P : ℕ → List (List Float) → Type 0) (t : ℕ) → P n s → ((t ≡ n → ⊥) → P t (get_or lanes t []))
           → P t (get_or (set lanes n s) t [])
-      by-chunk P t here other =
+      by_chunk P t here other =
           let long = g.long in
           ⊎_elim
           (λ (q : t ≡ n). subst (λ (k : ℕ). P k (get_or (set lanes n s) k [])) (sym q)

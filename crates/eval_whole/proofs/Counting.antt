@@ -13,11 +13,11 @@ use lib.Ieee.{Float, nan, inf, fin, binary64, low, up, down, size, add, lt, of_b
 use lib.Ieee.Digits.{size-lt, size-le}
 use lib.Ieee.Fits.{down_pos}
 use lib.Ieee.Exact.{HasValue}
-use Rattle.integers.specs.Integers.{maxZ}
-use Rattle.integers.proofs.Tests.{by_cond, is_true, le-or-lt}
-use Rattle.eval_whole.specs.Whole.{signed, Whole, largerOf, half, counted}
-use Rattle.eval_whole.proofs.Laws.{add-whole, half-whole}
-use Rattle.eval_whole.proofs.Picks.{max-whole}
+use Rattle.integers.specs.Integers.{max_z}
+use Rattle.integers.proofs.Tests.{by_cond, is_true, le_or_lt}
+use Rattle.eval_whole.specs.Whole.{signed, Whole, larger_of, half, counted}
+use Rattle.eval_whole.proofs.Laws.{add_whole, half_whole}
+use Rattle.eval_whole.proofs.Picks.{max_whole}
 
 -- how many digits n × 2^l has, for an n of p + 1 digits
 digits : (n l p : ℕ) → 2 ^ p ≤ n → n < 2 ^ suc p → size (n * 2 ^ l) ≡ suc p + l
@@ -30,7 +30,7 @@ digits n l p low high =
     let below = size-lt (n * 2 ^ l) in
     let above : 2 ^ p * 2 ^ l ≤ n * 2 ^ l = mul-le-mul_right (2 ^ l) low in
     absurd (omega (arith, pow_mono few, pow-add 2 p l)))
-    (le-or-lt (suc p + l) (size (n * 2 ^ l)))
+    (le_or_lt (suc p + l) (size (n * 2 ^ l)))
 
 -- the bits of a magnitude n in units of 2^-l, for an n of p + 1 digits, where b is the weight of the exponent's field
 fields : (n l p b m c : ℕ) → 0 < c → 2 ^ p ≤ n → n < 2 ^ suc p → m ≡ n * c
@@ -58,29 +58,29 @@ positive {x} {n} h w = go w.sign w.size w.value w.is
     go true zero v e = absurd (let z : 0 ≡ n = ap nat_abs e in omega arith)
     go true (suc k) v e = absurd (subst T (sym (ap non_neg e)) tt)
 
-pub count-whole : {x : Float} {n : ℕ} → Whole x (pos n) → n < 4503599627370496 → counted x ≡ n
-unfolding counted maxZ
-count-whole {x} {n} w h =
-    let y = add-whole w half-whole (omega arith) in
-    let z : Whole (largerOf half (add binary64 x half)) (pos (n + 4503599627370496)) = subst (Whole _) larger-is (max-whole half-whole y) in
+pub count_whole : {x : Float} {n : ℕ} → Whole x (pos n) → n < 4503599627370496 → counted x ≡ n
+unfolding counted max_z
+count_whole {x} {n} w h =
+    let y = add_whole w half_whole (omega arith) in
+    let z : Whole (larger_of half (add binary64 x half)) (pos (n + 4503599627370496)) = subst (Whole _) larger_is (max_whole half_whole y) in
     omega (
       arith,
-      bits_of (largerOf half (add binary64 x half)) (n + 4503599627370496) (positive (omega arith) z) (omega arith)
+      bits_of (larger_of half (add binary64 x half)) (n + 4503599627370496) (positive (omega arith) z) (omega arith)
           (omega arith),
     )
   where
-    larger-is : maxZ (pos 4503599627370496) (pos (n + 4503599627370496)) ≡ pos (n + 4503599627370496)
-    larger-is =
+    larger_is : max_z (pos 4503599627370496) (pos (n + 4503599627370496)) ≡ pos (n + 4503599627370496)
+    larger_is =
         ap (λ (t : Bool). cond t (pos (n + 4503599627370496)) (pos 4503599627370496))
         (is_true (leb 4503599627370496 (n + 4503599627370496)) (le→leb 4503599627370496 (n + 4503599627370496) (omega arith)))
 
 -- what a conversion to bits asks
-pub larger-number : (y : Float) → T (not (is_nan (largerOf half y)))
+pub larger_number : (y : Float) → T (not (is_nan (larger_of half y)))
 unfolding lt is_nan of_bits
-larger-number nan = tt
-larger-number (inf false) = tt
-larger-number (inf true) = tt
-larger-number (fin s m e) = by_cond (λ (x : Float). T (not (is_nan x))) (lt half (fin s m e)) (λ t. tt) (λ t. tt)
+larger_number nan = tt
+larger_number (inf false) = tt
+larger_number (inf true) = tt
+larger_number (fin s m e) = by_cond (λ (x : Float). T (not (is_nan x))) (lt half (fin s m e)) (λ t. tt) (λ t. tt)
 
 pub count_small : (x : Float) → counted x < 4503599627370496
 unfolding counted

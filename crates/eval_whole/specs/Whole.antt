@@ -22,15 +22,15 @@ pub record Within (x : Float) (z : ℤ) (B : ℕ) : Type 0 where
   pub small : nat_abs z ≤ B
 
 -- the larger and the smaller of two, as a test of the machine picks them, also of what is no number
-abbrev pub largerOf : Float → Float → Float
-largerOf a b = cond (lt a b) b a
+abbrev pub larger_of : Float → Float → Float
+larger_of a b = cond (lt a b) b a
 
-abbrev pub smallerOf : Float → Float → Float
-smallerOf a b = cond (lt b a) b a
+abbrev pub smaller_of : Float → Float → Float
+smaller_of a b = cond (lt b a) b a
 
 -- |x|
 abbrev pub sized : Float → Float
-sized x = largerOf x (neg x)
+sized x = larger_of x (neg x)
 
 -- 0, 1 and 2^52, by their bits
 abbrev pub zeroth : Float
@@ -44,4 +44,4 @@ half = of_bits binary64 0x4330_0000_0000_0000
 
 -- A number from 0 to 2^52 − 1 as an integer: the lowest 52 bits of x + 2^52 are its digits. What is no number counts as 0.
 unfoldable pub counted : Float → ℕ
-counted x = to_bits binary64 (largerOf half (add binary64 x half)) % 4503599627370496
+counted x = to_bits binary64 (larger_of half (add binary64 x half)) % 4503599627370496

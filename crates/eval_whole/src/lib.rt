@@ -1,16 +1,16 @@
 // Whole numbers in double precision: the larger and the smaller of two, and one as an integer.
 ghost use Rattle.std.specs.Prelude.{◌≡◌};
-ghost use Rattle.eval_whole.specs.Whole.{largerOf, smallerOf, counted};
+ghost use Rattle.eval_whole.specs.Whole.{larger_of, smaller_of, counted};
 
 // A test and a choice, which the compiler turns into one instruction.
 pub fn larger(a: f64, b: f64) -> f64
-    ensures { result ≡ largerOf a b }
+    ensures { result ≡ larger_of a b }
 {
     if a < b { b } else { a }
 }
 
 pub fn smaller(a: f64, b: f64) -> f64
-    ensures { result ≡ smallerOf a b }
+    ensures { result ≡ smaller_of a b }
 {
     if b < a { b } else { a }
 }

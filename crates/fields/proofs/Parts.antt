@@ -20,25 +20,25 @@ set_before p q j b h = rw (take-suc p j 0 h, append_snoc) (set_at (take j p) (ge
 
 -- what a test of the place says
 module _ (bytes : List ℕ) (o k : ℕ) {out : Bool} (tested : out ≡ ltb (length bytes) (o + k)) where
-  pub not-inside : out ≡ true → inside bytes o k ≡ false
-  not-inside e = lt-leb (o + k) (length bytes) (ltb-true (length bytes) (o + k) (sym tested ∙ e))
+  pub not_inside : out ≡ true → inside bytes o k ≡ false
+  not_inside e = lt-leb (o + k) (length bytes) (ltb-true (length bytes) (o + k) (sym tested ∙ e))
 
-  pub lies-inside : out ≡ false → o + k ≤ length bytes
-  lies-inside e = ltb-false (length bytes) (o + k) (sym tested ∙ e)
+  pub lies_inside : out ≡ false → o + k ≤ length bytes
+  lies_inside e = ltb-false (length bytes) (o + k) (sym tested ∙ e)
 
 -- a part of k elements; and as it is lent, from a to its end
-pub part-size : (t : List ℕ) (a k : ℕ) → a + k ≤ length t → length (take k (drop a t)) ≡ k
-part-size t a k h = length-take-le k (drop a t) (omega (arith, length-drop a t))
+pub part_size : (t : List ℕ) (a k : ℕ) → a + k ≤ length t → length (take k (drop a t)) ≡ k
+part_size t a k h = length-take-le k (drop a t) (omega (arith, length-drop a t))
 
-pub lent-size : (t : List ℕ) (a k : ℕ) → a + k ≤ length t → length (take ((a + k) - a) (drop a t)) ≡ k
-lent-size t a k h =
+pub lent_size : (t : List ℕ) (a k : ℕ) → a + k ≤ length t → length (take ((a + k) - a) (drop a t)) ≡ k
+lent_size t a k h =
     let e : (a + k) - a ≡ k = omega arith in
-    rw e (part-size t a k h)
+    rw e (part_size t a k h)
 
 -- the next element, copied from another list
-pub element-more : (d s : List ℤ) (k : ℕ) (z : ℤ) → k < length d → k < length s
+pub element_more : (d s : List ℤ) (k : ℕ) (z : ℤ) → k < length d → k < length s
     → set (take k s ++ drop k d) k (get_or s k z) ≡ take (suc k) s ++ drop (suc k) d
-element-more d s k z hd hs = simp zero-add at (paste-suc {A = ℤ} d 0 s k z (rw zero-add hd) hs)
+element_more d s k z hd hs = simp zero-add at (paste-suc {A = ℤ} d 0 s k z (rw zero-add hd) hs)
 
 -- the k elements behind the first n
 pub part_at : (p q t : List ℕ) (n k : ℕ) → length p ≡ n → length q ≡ k → take k (drop n ((p ++ q) ++ t)) ≡ q
@@ -73,6 +73,6 @@ four (a ∷ b ∷ []) h = absurd (omega arith)
 four (a ∷ b ∷ c ∷ []) h = absurd (omega arith)
 four (a ∷ b ∷ c ∷ d ∷ l) h = refl
 
-pub four-at : (l : List ℕ) (o : ℕ) → o + 4 ≤ length l
+pub four_at : (l : List ℕ) (o : ℕ) → o + 4 ≤ length l
     → get_or l (o + 0) 0 ∷ get_or l (o + 1) 0 ∷ get_or l (o + 2) 0 ∷ get_or l (o + 3) 0 ∷ [] ≡ take 4 (drop o l)
-four-at l o h = simp get_or-drop at (four (drop o l) (omega (arith, length-drop o l)))
+four_at l o h = simp get_or-drop at (four (drop o l) (omega (arith, length-drop o l)))

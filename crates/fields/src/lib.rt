@@ -2,7 +2,7 @@
 ghost use Rattle.std.specs.Prelude.{[], ◌∷◌, ◌≡◌, ◌+◌, ◌^◌, ◌<◌, ltb, length};
 ghost use Rattle.std.specs.Int.{w16};
 ghost use Rattle.std.proofs.Common.{of_z, to_z};
-ghost use Rattle.fields.specs.Fields.{bigEndian, fromBigEndian, number_in, vectorBytes, vectorIn, withField};
+ghost use Rattle.fields.specs.Fields.{big_endian, from_big_endian, number_in, vector_bytes, vector_in, with_field};
 
 fn wide16(b: u8) -> u16
     ensures { result ≡ b }
@@ -12,14 +12,14 @@ fn wide16(b: u8) -> u16
 
 // The unsigned 16-bit number of two bytes, the higher first.
 pub fn unsigned16(high: u8, low: u8) -> u16
-    ensures { result ≡ fromBigEndian (high ∷ low ∷ []) }
+    ensures { result ≡ from_big_endian (high ∷ low ∷ []) }
 {
     wide16(high) * 256 + wide16(low)
 }
 
 // The signed 16-bit number of two bytes, the higher first.
 pub fn signed16(high: u8, low: u8) -> i16
-    ensures { result ≡ to_z w16 (fromBigEndian (high ∷ low ∷ [])) }
+    ensures { result ≡ to_z w16 (from_big_endian (high ∷ low ∷ [])) }
 {
     let bits = unsigned16(high, low);
     if bits < 32768 {
@@ -74,7 +74,7 @@ pub fn get_number32(bytes: &[u8], at: usize) -> u32
 
 // The vector of the sixteen bytes from `at` on, two bytes a coordinate.
 pub fn get_vector(bytes: &[u8], at: usize) -> [i16; 8]
-    ensures { result ≡ vectorIn bytes.now at }
+    ensures { result ≡ vector_in bytes.now at }
 {
     let mut v = [0i16; 8];
     if outside(bytes.len(), at, 16) {
@@ -92,7 +92,7 @@ pub fn get_vector(bytes: &[u8], at: usize) -> [i16; 8]
 
 // The low bytes of x fill the part, the highest first.
 fn fill_number(part: &mut [u8], x: u64)
-    ensures { part.new ≡ bigEndian (length part.old) x }
+    ensures { part.new ≡ big_endian (length part.old) x }
 {
     let mut rest = x;
     let mut i = part.len();
@@ -105,7 +105,7 @@ fn fill_number(part: &mut [u8], x: u64)
 
 // The low k bytes of x from `at` on; before and behind them nothing changes.
 pub fn put_number(bytes: &mut [u8], at: usize, k: usize, x: u64)
-    ensures { bytes.new ≡ withField (bigEndian k x) at bytes.old }
+    ensures { bytes.new ≡ with_field (big_endian k x) at bytes.old }
 {
     if outside(bytes.len(), at, k) {
         return;
@@ -126,7 +126,7 @@ fn bits16(w: i16) -> u64
 
 // The vector in the sixteen bytes from `at` on, two bytes a coordinate.
 pub fn put_vector(bytes: &mut [u8], at: usize, v: [i16; 8])
-    ensures { bytes.new ≡ withField (vectorBytes v) at bytes.old }
+    ensures { bytes.new ≡ with_field (vector_bytes v) at bytes.old }
 {
     if outside(bytes.len(), at, 16) {
         return;

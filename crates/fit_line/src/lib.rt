@@ -1,15 +1,15 @@
 // All of the program fit on slices: the line of a job record and a store.
 ghost use Rattle.std.specs.Prelude.{◌≡◌, true, ◌≤◌, min, length, take};
 ghost use Rattle.integers.specs.Lists.{over};
-ghost use Rattle.fit_line.specs.Inside.{Searched, numbersLent};
-ghost use Rattle.fit_line.specs.Report.{FitTable, FitBounds, FitCertified, TableLent, BoundsLent, enough, fitLine, reportLine};
+ghost use Rattle.fit_line.specs.Inside.{Searched, numbers_lent};
+ghost use Rattle.fit_line.specs.Report.{FitTable, FitBounds, FitCertified, TableLent, BoundsLent, enough, fit_line, report_line};
 
 use jobs::Job;
 use search::Answer;
 
 // How many numbers of the table a search in r rows is lent: none if r is over 2,048, so that check 8 refuses it, as it does for 0 rows.
 fn numbers_lent(rows: u32) -> usize
-    ensures { result ≡ numbersLent rows }
+    ensures { result ≡ numbers_lent rows }
 {
     if rows <= 2048 {
         16 * (rows as usize)
@@ -37,8 +37,8 @@ fn store_start(bytes: usize) -> usize
 // The line, where there are 2,048 rows and entries, and every line fits.
 fn write_line(input: &[u8], table: &mut [i16], bounds: &mut [u64], out: &mut [u8]) -> usize
     requires { (32768 ≤ length table.old) × (2048 ≤ length bounds.old) × (200 ≤ length out.old) }
-    ensures length { result ≡ length (fitLine input.now) }
-    ensures line { out.new ≡ over (fitLine input.now) out.old }
+    ensures length { result ≡ length (fit_line input.now) }
+    ensures line { out.new ≡ over (fit_line input.now) out.old }
     ensures table { FitTable input.now table.old table.new }
     ensures bounds { FitBounds input.now bounds.old bounds.new }
     ensures certificate { FitCertified input.now (take result out.new) }
@@ -55,9 +55,9 @@ fn write_line(input: &[u8], table: &mut [i16], bounds: &mut [u64], out: &mut [u8
 // fewer than 2,048 bounds, or a buffer that some line does not fit into, it does nothing and answers 0.
 pub fn report(input: &[u8], table: &mut [i16], bounds: &mut [u64], out: &mut [u8]) -> usize
     ensures length { result
-        ≡ length (reportLine input.now table.old bounds.old out.old) }
+        ≡ length (report_line input.now table.old bounds.old out.old) }
     ensures line { out.new
-        ≡ over (reportLine input.now table.old bounds.old out.old) out.old }
+        ≡ over (report_line input.now table.old bounds.old out.old) out.old }
     ensures table { TableLent input.now table.old bounds.old out.old table.new }
     ensures bounds { BoundsLent input.now table.old bounds.old out.old bounds.new }
     ensures certificate { enough table.old bounds.old out.old ≡ true →

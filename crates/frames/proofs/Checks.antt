@@ -13,29 +13,29 @@ use Rattle.codes.specs.declared.Check.TheVariants.{Pass, Refuse}
 use Rattle.codes.specs.declared.Outcome.TheVariants.{Value, Refused}
 use Rattle.codes.specs.declared.Refusal.{Refusal}
 use Rattle.codes.specs.declared.Refusal.TheVariants.{Length, Order}
-use Rattle.codes.specs.Codes.{inOrder, unlessRefused, within}
-use Rattle.codes.proofs.Checks.{passed, first-passed, others-passed}
-use Rattle.codes.proofs.Laws.{in-order-one, in-order-group, after-refusal}
-use Rattle.points.specs.Points.{checkStore}
-use Rattle.frames.specs.Frames.{recordsOf, framesOf, rising, union, merged}
-use Rattle.frames.specs.Frames.{checkEither, checkOrder, checkClash, checkUnion, checkBoth, unionAnswer}
-use Rattle.frames.proofs.Union.{merged-length}
+use Rattle.codes.specs.Codes.{in_order, unless_refused, within}
+use Rattle.codes.proofs.Checks.{passed, first_passed, others_passed}
+use Rattle.codes.proofs.Laws.{in_order_one, in_order_group, after_refusal}
+use Rattle.points.specs.Points.{check_store}
+use Rattle.frames.specs.Frames.{records_of, frames_of, rising, union, merged}
+use Rattle.frames.specs.Frames.{check_either, check_order, check_clash, check_union, check_both, union_answer}
+use Rattle.frames.proofs.Union.{merged_length}
 
 -- what the outcome of a call tells of its checks
-pub told-refused : (c : Check) (n : ℕ) (r : Refusal) → unlessRefused c n ≡ Refused r → c ≡ Refuse r
-told-refused Pass n r e = let z : ◌≡◌ {A = ℕ} 0 1 = cc in absurd (omega arith)
-told-refused (Refuse q) n r e = cc
+pub told_refused : (c : Check) (n : ℕ) (r : Refusal) → unless_refused c n ≡ Refused r → c ≡ Refuse r
+told_refused Pass n r e = let z : ◌≡◌ {A = ℕ} 0 1 = cc in absurd (omega arith)
+told_refused (Refuse q) n r e = cc
 
-pub told-value : (c : Check) (n m : ℕ) → unlessRefused c n ≡ Value m → (c ≡ Pass) × (m ≡ n)
-told-value Pass n m e = (refl, cc)
-told-value (Refuse q) n m e = let z : ◌≡◌ {A = ℕ} 0 1 = cc in absurd (omega arith)
+pub told_value : (c : Check) (n m : ℕ) → unless_refused c n ≡ Value m → (c ≡ Pass) × (m ≡ n)
+told_value Pass n m e = (refl, cc)
+told_value (Refuse q) n m e = let z : ◌≡◌ {A = ℕ} 0 1 = cc in absurd (omega arith)
 
 -- an empty store and one that check 1 accepts have whole records
-pub either-whole : (bytes : ℕ) → checkEither bytes ≡ Pass → bytes % 12 ≡ 0
-unfolding checkEither checkStore
-either-whole bytes e = by (eqb bytes 0) refl e
+pub either_whole : (bytes : ℕ) → check_either bytes ≡ Pass → bytes % 12 ≡ 0
+unfolding check_either check_store
+either_whole bytes e = by (eqb bytes 0) refl e
   where
-    by : (t : Bool) → eqb bytes 0 ≡ t → cond t Pass (checkStore bytes) ≡ Pass → bytes % 12 ≡ 0
+    by : (t : Bool) → eqb bytes 0 ≡ t → cond t Pass (check_store bytes) ≡ Pass → bytes % 12 ≡ 0
     by true k h = rw (eqb-true bytes 0 k)
     by false k h =
         let a = within 1 bytes 49152 in
@@ -45,61 +45,61 @@ either-whole bytes e = by (eqb bytes 0) refl e
 module _ (first second : List ℕ) where
   -- check 1 of each
   abbrev pub lengths : Check
-  lengths = inOrder (checkEither (length first) ∷ checkEither (length second) ∷ [])
+  lengths = in_order (check_either (length first) ∷ check_either (length second) ∷ [])
 
-  pub lengths-refused : (r : Refusal) → lengths ≡ Refuse r → unionAnswer first second ≡ Refused r
-  unfolding unionAnswer checkBoth
-  lengths-refused r e = rw (after-refusal (checkEither (length first) ∷ checkEither (length second) ∷ []) _ r e)
+  pub lengths_refused : (r : Refusal) → lengths ≡ Refuse r → union_answer first second ≡ Refused r
+  unfolding union_answer check_both
+  lengths_refused r e = rw (after_refusal (check_either (length first) ∷ check_either (length second) ∷ []) _ r e)
 
   module _ (good : lengths ≡ Pass) where
     pub whole : (length first % 12 ≡ 0) × (length second % 12 ≡ 0)
-    whole = (either-whole _ (first-passed _ _ good), either-whole _ (first-passed _ _ (others-passed _ _ good)))
+    whole = (either_whole _ (first_passed _ _ good), either_whole _ (first_passed _ _ (others_passed _ _ good)))
 
     -- the checks behind the lengths decide
-    behind-lengths : checkBoth first second ≡ inOrder (checkOrder first second ∷ checkClash first second ∷ checkUnion first second ∷ [])
-    unfolding checkBoth inOrder
-    behind-lengths =
+    behind_lengths : check_both first second ≡ in_order (check_order first second ∷ check_clash first second ∷ check_union first second ∷ [])
+    unfolding check_both in_order
+    behind_lengths =
         sym
-        (in-order-group (checkEither (length first) ∷ checkEither (length second) ∷ [])
-        (checkOrder first second ∷ checkClash first second ∷ checkUnion first second ∷ []))
+        (in_order_group (check_either (length first) ∷ check_either (length second) ∷ [])
+        (check_order first second ∷ check_clash first second ∷ check_union first second ∷ []))
         ∙ rw good refl
 
-    pub first-falls : rising (framesOf first) ≡ false → unionAnswer first second ≡ Refused Order
-    unfolding unionAnswer checkOrder inOrder
-    first-falls e = rw (behind-lengths, e)
+    pub first_falls : rising (frames_of first) ≡ false → union_answer first second ≡ Refused Order
+    unfolding union_answer check_order in_order
+    first_falls e = rw (behind_lengths, e)
 
-    pub second-falls : rising (framesOf first) ≡ true → rising (framesOf second) ≡ false → unionAnswer first second ≡ Refused Order
-    unfolding unionAnswer checkOrder inOrder
-    second-falls e k = rw (behind-lengths, e, k)
+    pub second_falls : rising (frames_of first) ≡ true → rising (frames_of second) ≡ false → union_answer first second ≡ Refused Order
+    unfolding union_answer check_order in_order
+    second_falls e k = rw (behind_lengths, e, k)
 
     -- where the frames of both rise, what the count says and its size decide
-    module _ (one : rising (framesOf first) ≡ true) (two : rising (framesOf second) ≡ true) where
-      behind-order : checkBoth first second ≡ inOrder (checkClash first second ∷ checkUnion first second ∷ [])
-      unfolding checkOrder inOrder
-      behind-order = rw (behind-lengths, one, two)
+    module _ (one : rising (frames_of first) ≡ true) (two : rising (frames_of second) ≡ true) where
+      behind_order : check_both first second ≡ in_order (check_clash first second ∷ check_union first second ∷ [])
+      unfolding check_order in_order
+      behind_order = rw (behind_lengths, one, two)
 
-      pub clash-refused :
-          (r : Refusal) → unlessRefused (checkClash first second) (length (merged first second)) ≡ Refused r →
-          unionAnswer first second ≡ Refused r
-      unfolding unionAnswer inOrder
-      clash-refused r e = let k : checkClash first second ≡ Refuse r = told-refused _ _ _ e in rw (behind-order, k)
+      pub clash_refused :
+          (r : Refusal) → unless_refused (check_clash first second) (length (merged first second)) ≡ Refused r →
+          union_answer first second ≡ Refused r
+      unfolding union_answer in_order
+      clash_refused r e = let k : check_clash first second ≡ Refuse r = told_refused _ _ _ e in rw (behind_order, k)
 
-      module _ (bytes : ℕ) (counted : unlessRefused (checkClash first second) (length (merged first second)) ≡ Value bytes) where
-        its-length : bytes ≡ length (merged first second)
-        its-length = (told-value (checkClash first second) _ bytes counted).1
+      module _ (bytes : ℕ) (counted : unless_refused (check_clash first second) (length (merged first second)) ≡ Value bytes) where
+        its_length : bytes ≡ length (merged first second)
+        its_length = (told_value (check_clash first second) _ bytes counted).1
 
-        behind-clash : checkBoth first second ≡ checkUnion first second
-        unfolding inOrder
-        behind-clash = rw (behind-order, (told-value (checkClash first second) _ bytes counted).0) (in-order-one (checkUnion first second))
+        behind_clash : check_both first second ≡ check_union first second
+        unfolding in_order
+        behind_clash = rw (behind_order, (told_value (check_clash first second) _ bytes counted).0) (in_order_one (check_union first second))
 
-        pub union-over : 49152 < bytes → unionAnswer first second ≡ Refused Length
-        unfolding unionAnswer checkUnion
-        union-over h =
-            let many : 4096 < length (union (recordsOf first) (recordsOf second)) = omega (arith, its-length, merged-length first second) in
-            rw (behind-clash, lt-leb _ _ many)
+        pub union_over : 49152 < bytes → union_answer first second ≡ Refused Length
+        unfolding union_answer check_union
+        union_over h =
+            let many : 4096 < length (union (records_of first) (records_of second)) = omega (arith, its_length, merged_length first second) in
+            rw (behind_clash, lt-leb _ _ many)
 
-        pub union-counted : bytes ≤ 49152 → unionAnswer first second ≡ Value bytes
-        unfolding unionAnswer checkUnion
-        union-counted h =
-            let few : length (union (recordsOf first) (recordsOf second)) ≤ 4096 = omega (arith, its-length, merged-length first second) in
-            rw (behind-clash, le-leb _ _ few, its-length)
+        pub union_counted : bytes ≤ 49152 → union_answer first second ≡ Value bytes
+        unfolding union_answer check_union
+        union_counted h =
+            let few : length (union (records_of first) (records_of second)) ≤ 4096 = omega (arith, its_length, merged_length first second) in
+            rw (behind_clash, le-leb _ _ few, its_length)

@@ -7,41 +7,41 @@ use Prim.Native.Nat.{ℕ}
 use native.Mathlib.Omega.{arith}
 use lib.Dec.{eqb}
 use Rattle.integers.specs.Lists.{none, also}
-use Rattle.frames.specs.Frames.{frame_of, same, clash, clashesWith, clashes}
+use Rattle.frames.specs.Frames.{frame_of, same, clash, clashes_with, clashes}
 use Rattle.frames.proofs.Rising.{Above, both_true}
 
-pub same-equal : (r s : List ℕ) → same r s ≡ true → r ≡ s
+pub same_equal : (r s : List ℕ) → same r s ≡ true → r ≡ s
 unfolding same
-same-equal [] [] e = refl
-same-equal [] (b ∷ s) e = let z : ◌≡◌ {A = ℕ} 0 1 = cc in absurd (omega arith)
-same-equal (a ∷ r) [] e = let z : ◌≡◌ {A = ℕ} 0 1 = cc in absurd (omega arith)
-same-equal (a ∷ r) (b ∷ s) e =
+same_equal [] [] e = refl
+same_equal [] (b ∷ s) e = let z : ◌≡◌ {A = ℕ} 0 1 = cc in absurd (omega arith)
+same_equal (a ∷ r) [] e = let z : ◌≡◌ {A = ℕ} 0 1 = cc in absurd (omega arith)
+same_equal (a ∷ r) (b ∷ s) e =
     let p = both_true (eqb a b) (same r s) e in
-    rw (eqb-true a b p.0, same-equal r s p.1)
+    rw (eqb-true a b p.0, same_equal r s p.1)
 
-pub equal-same : (r : List ℕ) → same r r ≡ true
+pub equal_same : (r : List ℕ) → same r r ≡ true
 unfolding same
-equal-same [] = refl
-equal-same (a ∷ r) = rw (eq-eqb a a refl, equal-same r)
+equal_same [] = refl
+equal_same (a ∷ r) = rw (eq-eqb a a refl, equal_same r)
 
 -- a record does not clash with those of higher frames, nor those with it
-pub none_above : (r : List ℕ) {ss : List (List ℕ)} → Above (frame_of r) ss → clashesWith r ss ≡ false
-unfolding clashesWith clash
+pub none_above : (r : List ℕ) {ss : List (List ℕ)} → Above (frame_of r) ss → clashes_with r ss ≡ false
+unfolding clashes_with clash
 none_above r none = refl
 none_above r (also {x} h hs) =
     let n : frame_of r ≡ frame_of x → ⊥ = λ e. omega arith in
     rw (ne_eqb _ _ n, none_above r hs)
 
 pub none_below : (s : List ℕ) (ss : List (List ℕ)) {rs : List (List ℕ)} → Above (frame_of s) rs → clashes rs (s ∷ ss) ≡ clashes rs ss
-unfolding clashes clashesWith clash
+unfolding clashes clashes_with clash
 none_below s ss none = refl
 none_below s ss (also {x} h hs) =
     let n : frame_of x ≡ frame_of s → ⊥ = λ e. omega arith in
     rw (ne_eqb _ _ n, none_below s ss hs)
 
-pub clash-found : (r s : List ℕ) (rs ss : List (List ℕ)) → frame_of r ≡ frame_of s → (r ≡ s → ⊥) → clashes (r ∷ rs) (s ∷ ss) ≡ true
-unfolding clashes clashesWith clash
-clash-found r s rs ss h n = rw (eq-eqb _ _ h, differ (same r s) (λ e. n (same-equal r s e)))
+pub clash_found : (r s : List ℕ) (rs ss : List (List ℕ)) → frame_of r ≡ frame_of s → (r ≡ s → ⊥) → clashes (r ∷ rs) (s ∷ ss) ≡ true
+unfolding clashes clashes_with clash
+clash_found r s rs ss h n = rw (eq-eqb _ _ h, differ (same r s) (λ e. n (same_equal r s e)))
   where
     differ : (t : Bool) → (t ≡ true → ⊥) → t ≡ false
     differ true f = absurd (f refl)
@@ -49,8 +49,8 @@ clash-found r s rs ss h n = rw (eq-eqb _ _ h, differ (same r s) (λ e. n (same-e
 
 -- nor do equal records clash, where both lists rise
 twice : (r : List ℕ) (rs ss : List (List ℕ)) → Above (frame_of r) rs → Above (frame_of r) ss → clashes (r ∷ rs) (r ∷ ss) ≡ clashes rs ss
-unfolding clashes clashesWith clash
-twice r rs ss a b = rw (eq-eqb (frame_of r) (frame_of r) refl, equal-same r, none_above r b) (none_below r ss a)
+unfolding clashes clashes_with clash
+twice r rs ss a b = rw (eq-eqb (frame_of r) (frame_of r) refl, equal_same r, none_above r b) (none_below r ss a)
 
 pub common :
     {r s : List ℕ} {rs ss : List (List ℕ)} → r ≡ s → Above (frame_of r) rs → Above (frame_of s) ss →

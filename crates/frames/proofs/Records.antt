@@ -7,68 +7,68 @@ use native.Mathlib.Omega.{arith}
 use lib.ListN.{length, take, drop, length-append, length-drop}
 use lib.Seq.{length-take-le, take_at, drop_at, drop-drop, take-take}
 use Rattle.integers.specs.Lists.{All, none, also}
-use Rattle.points.specs.Points.{unsignedAt, signedAt, recordAt}
+use Rattle.points.specs.Points.{unsigned_at, signed_at, record_at}
 use Rattle.frames.specs.Walk.{from}
-use Rattle.frames.specs.Frames.{firstRecords, recordsOf}
+use Rattle.frames.specs.Frames.{first_records, records_of}
 
 -- a record has 12 bytes
 abbrev pub Long : List ℕ → Type 0
 Long r = length r ≡ 12
 
-first-long : (n : ℕ) (s : List ℕ) → n * 12 ≤ length s → All Long (firstRecords n s)
-unfolding firstRecords
-first-long zero s h = none
-first-long (suc n) s h =
+first_long : (n : ℕ) (s : List ℕ) → n * 12 ≤ length s → All Long (first_records n s)
+unfolding first_records
+first_long zero s h = none
+first_long (suc n) s h =
     let k : n * 12 ≤ length (drop 12 s) = omega (arith, length-drop 12 s) in
-    also (length-take-le 12 s (omega arith)) (first-long n (drop 12 s) k)
+    also (length-take-le 12 s (omega arith)) (first_long n (drop 12 s) k)
 
-pub records-long : (s : List ℕ) → All Long (recordsOf s)
-unfolding recordsOf
-records-long s = first-long (length s / 12) s (omega arith)
+pub records_long : (s : List ℕ) → All Long (records_of s)
+unfolding records_of
+records_long s = first_long (length s / 12) s (omega arith)
 
 -- the first record from byte i on, and those behind it
-pub records-next : (s : List ℕ) (i : ℕ) → i + 12 ≤ length s → from s i ≡ take 12 (drop i s) ∷ from s (i + 12)
-unfolding recordsOf firstRecords
-records-next s i h =
+pub records_next : (s : List ℕ) (i : ℕ) → i + 12 ≤ length s → from s i ≡ take 12 (drop i s) ∷ from s (i + 12)
+unfolding records_of first_records
+records_next s i h =
     let n : length (drop i s) / 12 ≡ suc (length (drop (i + 12) s) / 12) = omega (arith, length-drop i s, length-drop (i + 12) s) in
-    rw (n, firstRecords, drop-drop)
+    rw (n, first_records, drop-drop)
 
-pub records-end : (s : List ℕ) (i : ℕ) → length s < i + 12 → from s i ≡ []
-unfolding recordsOf firstRecords
-records-end s i h = let n : length (drop i s) / 12 ≡ 0 = omega (arith, length-drop i s) in rw n
+pub records_end : (s : List ℕ) (i : ℕ) → length s < i + 12 → from s i ≡ []
+unfolding records_of first_records
+records_end s i h = let n : length (drop i s) / 12 ≡ 0 = omega (arith, length-drop i s) in rw n
 
 -- as many bytes as 12 for each record
-pub flatten-length : {rs : List (List ℕ)} → All Long rs → length (flatten rs) ≡ length rs * 12
+pub flatten_length : {rs : List (List ℕ)} → All Long rs → length (flatten rs) ≡ length rs * 12
 unfolding flatten
-flatten-length none = refl
-flatten-length (also {x} {xs} h hs) = omega (arith, length-append x (flatten xs), flatten-length hs)
+flatten_length none = refl
+flatten_length (also {x} {xs} h hs) = omega (arith, length-append x (flatten xs), flatten_length hs)
 
 -- a store put together of records has these records
-flattened : {rs : List (List ℕ)} → All Long rs → firstRecords (length rs) (flatten rs) ≡ rs
-unfolding flatten firstRecords
+flattened : {rs : List (List ℕ)} → All Long rs → first_records (length rs) (flatten rs) ≡ rs
+unfolding flatten first_records
 flattened none = refl
 flattened (also {x} {xs} h hs) = rw (take_at x (flatten xs) 12 h, drop_at x (flatten xs) 12 h, flattened hs)
 
-pub records-flatten : {rs : List (List ℕ)} → All Long rs → recordsOf (flatten rs) ≡ rs
-unfolding recordsOf
-records-flatten {rs} h =
-    let n : length (flatten rs) / 12 ≡ length rs = omega (arith, flatten-length h) in
-    ap (λ (n : ℕ). firstRecords n (flatten rs)) n ∙ flattened h
+pub records_flatten : {rs : List (List ℕ)} → All Long rs → records_of (flatten rs) ≡ rs
+unfolding records_of
+records_flatten {rs} h =
+    let n : length (flatten rs) / 12 ≡ length rs = omega (arith, flatten_length h) in
+    ap (λ (n : ℕ). first_records n (flatten rs)) n ∙ flattened h
 
 -- a field of a record, in the store that holds it
-part-within : (m k n : ℕ) (l : List ℕ) → k + m ≤ n → take m (drop k (take n l)) ≡ take m (drop k l)
-part-within m zero n l h = take-take m n l (omega arith)
-part-within m (suc k) zero l h = absurd (omega arith)
-part-within m (suc k) (suc n) [] h = refl
-part-within m (suc k) (suc n) (a ∷ l) h = part-within m k n l (omega arith)
+part_within : (m k n : ℕ) (l : List ℕ) → k + m ≤ n → take m (drop k (take n l)) ≡ take m (drop k l)
+part_within m zero n l h = take-take m n l (omega arith)
+part_within m (suc k) zero l h = absurd (omega arith)
+part_within m (suc k) (suc n) [] h = refl
+part_within m (suc k) (suc n) (a ∷ l) h = part_within m k n l (omega arith)
 
-pub record-field : (s : List ℕ) (o k : ℕ) → k + 2 ≤ 12 → unsignedAt (take 12 (drop o s)) k ≡ unsignedAt s (o + k)
-unfolding unsignedAt
-record-field s o k h = rw (part-within 2 k 12 (drop o s) h, drop-drop k o s)
+pub record_field : (s : List ℕ) (o k : ℕ) → k + 2 ≤ 12 → unsigned_at (take 12 (drop o s)) k ≡ unsigned_at s (o + k)
+unfolding unsigned_at
+record_field s o k h = rw (part_within 2 k 12 (drop o s) h, drop-drop k o s)
 
 -- the point of a record, in the store that holds it
-pub record-point : (s : List ℕ) (o : ℕ) → recordAt (take 12 (drop o s)) 0 ≡ recordAt s o
-unfolding signedAt
-record-point s o =
-    let f : (k : ℕ) → k + 2 ≤ 12 → unsignedAt (take 12 (drop o s)) k ≡ unsignedAt s (o + k) = record-field s o in
+pub record_point : (s : List ℕ) (o : ℕ) → record_at (take 12 (drop o s)) 0 ≡ record_at s o
+unfolding signed_at
+record_point s o =
+    let f : (k : ℕ) → k + 2 ≤ 12 → unsigned_at (take 12 (drop o s)) k ≡ unsigned_at s (o + k) = record_field s o in
     rw (f 0 (omega arith), f 2 (omega arith), f 4 (omega arith), f 6 (omega arith), f 8 (omega arith), f 10 (omega arith), add-zero)

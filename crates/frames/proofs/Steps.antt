@@ -9,10 +9,10 @@ use Prim.Native.Nat.{ℕ, ◌+◌, ◌<◌}
 use native.Mathlib.Omega.{arith}
 use lib.Dec.{leb}
 use lib.ListN.{length}
-use Rattle.integers.proofs.Tests.{by_cond, is_true, is_false, le-or-lt}
+use Rattle.integers.proofs.Tests.{by_cond, is_true, is_false, le_or_lt}
 use Rattle.frames.specs.Walk.{stride}
-use Rattle.frames.specs.Frames.{frame_of, clashes, clashesWith, union}
-use Rattle.frames.proofs.Clashes.{none_above, none_below, common, clash-found}
+use Rattle.frames.specs.Frames.{frame_of, clashes, clashes_with, union}
+use Rattle.frames.proofs.Clashes.{none_above, none_below, common, clash_found}
 use Rattle.frames.proofs.Rising.{above_lower, Rises, nothing, lowest}
 use Rattle.integers.specs.Lists.{also}
 
@@ -34,15 +34,15 @@ after (r ∷ rs) (s ∷ ss) = cond (leb (frame_of r) (frame_of s)) rs (r ∷ rs)
 
 -- by the order of two numbers
 by_order : {A : Type 0} (m n : ℕ) → (m < n → A) → (m ≡ n → A) → (n < m → A) → A
-by_order m n less equal more = ⊎_elim (λ h. ⊎_elim (λ k. equal (omega arith)) less (le-or-lt n m)) more (le-or-lt m n)
+by_order m n less equal more = ⊎_elim (λ h. ⊎_elim (λ k. equal (omega arith)) less (le_or_lt n m)) more (le_or_lt m n)
 
-pub union-next : (rs ss : List (List ℕ)) → 0 < length rs + length ss → union rs ss ≡ next rs ss ∷ union (after rs ss) (after ss rs)
+pub union_next : (rs ss : List (List ℕ)) → 0 < length rs + length ss → union rs ss ≡ next rs ss ∷ union (after rs ss) (after ss rs)
 unfolding union next after
-union-next [] [] h = absurd (omega arith)
-union-next [] (s ∷ ss) h = refl
-union-next (r ∷ []) [] h = refl
-union-next (r ∷ q ∷ rs) [] h = refl
-union-next (r ∷ rs) (s ∷ ss) h =
+union_next [] [] h = absurd (omega arith)
+union_next [] (s ∷ ss) h = refl
+union_next (r ∷ []) [] h = refl
+union_next (r ∷ q ∷ rs) [] h = refl
+union_next (r ∷ rs) (s ∷ ss) h =
     let f = frame_of r in
     let g = frame_of s in
     by_order f g (λ l. rw (lt-ltb f g l, le-leb f g (omega arith), lt-leb g f l))
@@ -86,45 +86,45 @@ goes r rs (s ∷ ss) e =
     by_cond (λ us. us ≡ rs) t (λ h. refl) (λ h. absurd (omega (arith, rw (is_false t h) at e)))
 
 -- the record is taken from the first list, or from the second
-pub next-first : (rs ss : List (List ℕ)) → stride rs ss ≡ 12 → next rs ss ≡ first rs
+pub next_first : (rs ss : List (List ℕ)) → stride rs ss ≡ 12 → next rs ss ≡ first rs
 unfolding next stride
-next-first [] ss e = absurd (omega arith)
-next-first (r ∷ rs) [] e = refl
-next-first (r ∷ rs) (s ∷ ss) e =
-    ⊎_elim (λ h. rw (le-leb (frame_of r) (frame_of s) h)) (λ l. absurd (omega (arith, later r s rs ss l))) (le-or-lt (frame_of r) (frame_of s))
+next_first [] ss e = absurd (omega arith)
+next_first (r ∷ rs) [] e = refl
+next_first (r ∷ rs) (s ∷ ss) e =
+    ⊎_elim (λ h. rw (le-leb (frame_of r) (frame_of s) h)) (λ l. absurd (omega (arith, later r s rs ss l))) (le_or_lt (frame_of r) (frame_of s))
 
-pub next-second :
+pub next_second :
     (rs ss : List (List ℕ)) → 0 < length rs + length ss → (stride rs ss ≡ 12 → ⊥) →
     (next rs ss ≡ first ss) × (stride ss rs ≡ 12)
 unfolding next stride
-next-second [] [] h n = absurd (omega arith)
-next-second [] (s ∷ ss) h n = (refl, refl)
-next-second (r ∷ rs) [] h n = absurd (n refl)
-next-second (r ∷ rs) (s ∷ ss) h n =
+next_second [] [] h n = absurd (omega arith)
+next_second [] (s ∷ ss) h n = (refl, refl)
+next_second (r ∷ rs) [] h n = absurd (n refl)
+next_second (r ∷ rs) (s ∷ ss) h n =
     by_order (frame_of r) (frame_of s) (λ l. absurd (n (earlier r s rs ss l))) (λ e. absurd (n (equal r s rs ss e)))
     (λ l. (rw (lt-leb (frame_of r) (frame_of s) l), earlier s r ss rs l))
 
 -- both lists go on only by records of one frame
-pub both-strides : (rs ss : List (List ℕ)) → 0 < length rs + length ss → stride rs ss ≡ stride ss rs → stride rs ss ≡ 12
-both-strides rs ss h e = ⊎_elim (λ z. let k = next-second rs ss h (λ t. omega arith) in omega (arith, k.1)) (λ t. t) (strides rs ss)
+pub both_strides : (rs ss : List (List ℕ)) → 0 < length rs + length ss → stride rs ss ≡ stride ss rs → stride rs ss ≡ 12
+both_strides rs ss h e = ⊎_elim (λ z. let k = next_second rs ss h (λ t. omega arith) in omega (arith, k.1)) (λ t. t) (strides rs ss)
 
 -- and clash where these differ
-pub clash-next : (rs ss : List (List ℕ)) → stride rs ss ≡ 12 → stride ss rs ≡ 12 → (first rs ≡ first ss → ⊥) → clashes rs ss ≡ true
+pub clash_next : (rs ss : List (List ℕ)) → stride rs ss ≡ 12 → stride ss rs ≡ 12 → (first rs ≡ first ss → ⊥) → clashes rs ss ≡ true
 unfolding stride
-clash-next [] ss e k n = absurd (omega arith)
-clash-next (r ∷ rs) [] e k n = absurd (omega arith)
-clash-next (r ∷ rs) (s ∷ ss) e k n =
-    by_order (frame_of r) (frame_of s) (λ l. absurd (omega (arith, later s r ss rs l))) (λ h. clash-found r s rs ss h n)
+clash_next [] ss e k n = absurd (omega arith)
+clash_next (r ∷ rs) [] e k n = absurd (omega arith)
+clash_next (r ∷ rs) (s ∷ ss) e k n =
+    by_order (frame_of r) (frame_of s) (λ l. absurd (omega (arith, later s r ss rs l))) (λ h. clash_found r s rs ss h n)
     (λ l. absurd (omega (arith, later r s rs ss l)))
 
 -- else the clashes are those that are left
-pub clashes-after :
+pub clashes_after :
     {rs ss : List (List ℕ)} → Rises rs → Rises ss → (stride rs ss ≡ stride ss rs → first rs ≡ first ss) →
     clashes rs ss ≡ clashes (after rs ss) (after ss rs)
-unfolding after clashes clashesWith
-clashes-after nothing q c = refl
-clashes-after (lowest a p) nothing c = refl
-clashes-after (lowest {r} {rs} a p) (lowest {r = s} {rs = ss} b q) c =
+unfolding after clashes clashes_with
+clashes_after nothing q c = refl
+clashes_after (lowest a p) nothing c = refl
+clashes_after (lowest {r} {rs} a p) (lowest {r = s} {rs = ss} b q) c =
     let f = frame_of r in
     let g = frame_of s in
     by_order f g
@@ -134,8 +134,8 @@ clashes-after (lowest {r} {rs} a p) (lowest {r = s} {rs = ss} b q) c =
     rw (le-leb f g (omega arith), le-leb g f (omega arith)) (common k a b))
     (λ l. rw (lt-leb f g l, le-leb g f (omega arith)) (none_below s ss (also l (above_lower l a))))
 
-pub rises-after : {rs : List (List ℕ)} (ss : List (List ℕ)) → Rises rs → Rises (after rs ss)
+pub rises_after : {rs : List (List ℕ)} (ss : List (List ℕ)) → Rises rs → Rises (after rs ss)
 unfolding after
-rises-after ss nothing = nothing
-rises-after [] (lowest a p) = p
-rises-after (s ∷ ss) (lowest {r} a p) = by_cond Rises (leb (frame_of r) (frame_of s)) (λ t. p) (λ t. lowest a p)
+rises_after ss nothing = nothing
+rises_after [] (lowest a p) = p
+rises_after (s ∷ ss) (lowest {r} a p) = by_cond Rises (leb (frame_of r) (frame_of s)) (λ t. p) (λ t. lowest a p)

@@ -1,7 +1,7 @@
 // The walk through two stores whose frame numbers rise, to count.
 ghost use Rattle.std.specs.Prelude.{◌≡◌, length};
-ghost use Rattle.codes.specs.Codes.{unlessRefused};
-ghost use Rattle.frames.specs.Frames.{merged, checkClash};
+ghost use Rattle.codes.specs.Codes.{unless_refused};
+ghost use Rattle.frames.specs.Frames.{merged, check_clash};
 ghost use Rattle.frames.specs.Inside.{Sound};
 
 use crate::stride;
@@ -11,7 +11,7 @@ use codes::{Outcome, Refusal};
 pub fn count(first: &[u8], second: &[u8]) -> Outcome
     requires { Sound first.now × Sound second.now }
     ensures { result
-        ≡ unlessRefused (checkClash first.now second.now)
+        ≡ unless_refused (check_clash first.now second.now)
         (length (merged first.now second.now)) }
 {
     let both = first.len() + second.len();

@@ -3,14 +3,14 @@ mod count;
 mod order;
 
 ghost use Rattle.std.specs.Prelude.{◌≡◌};
-ghost use Rattle.frames.specs.Frames.{checkEither, unionAnswer};
+ghost use Rattle.frames.specs.Frames.{check_either, union_answer};
 ghost use Rattle.frames.specs.Walk.{from, stride};
 
 use codes::{Check, Outcome, Refusal};
 
 // Check 1 of one of two stores, by its length in bytes: it may be empty.
 fn check_either(len: usize) -> Check
-    ensures { result ≡ checkEither len }
+    ensures { result ≡ check_either len }
 {
     if len == 0 {
         return Check::Pass;
@@ -20,7 +20,7 @@ fn check_either(len: usize) -> Check
 
 // Checks 1, 15 and 16 of two stores, and again 1 of their union: its length in bytes.
 pub fn check_both(first: &[u8], second: &[u8]) -> Outcome
-    ensures { result ≡ unionAnswer first.now second.now }
+    ensures { result ≡ union_answer first.now second.now }
 {
     if let Check::Refuse(r) = codes::in_order(
         check_either(first.len()),

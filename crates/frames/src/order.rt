@@ -1,6 +1,6 @@
 // The frame numbers of a store: they are to rise strictly.
 ghost use Rattle.std.specs.Prelude.{◌≡◌, ◌+◌, ◌%◌, ◌≤◌, length, take, drop};
-ghost use Rattle.frames.specs.Frames.{frame_of, framesOf, rising};
+ghost use Rattle.frames.specs.Frames.{frame_of, frames_of, rising};
 
 // The frame number of the record at byte i.
 pub fn frame(store: &[u8], i: usize) -> u16
@@ -13,7 +13,7 @@ pub fn frame(store: &[u8], i: usize) -> u16
 // Whether each record's frame number is below the next one's.
 pub fn rising(store: &[u8]) -> bool
     requires { length store.now % 12 ≡ 0 }
-    ensures { result ≡ rising (framesOf store.now) }
+    ensures { result ≡ rising (frames_of store.now) }
 {
     let mut i = 0;
     while i + 12 < store.len() {

@@ -11,16 +11,16 @@ abbrev pub ahead_of : Mark → ℕ → List ℤ → Bool
 ahead_of mark a v = ahead mark.t mark.cost mark.best a v
 
 -- a box beside a number x for its bound, and whether that is kept
-abbrev pub childOf : Box → ℕ → Mark → Child
-childOf b x mark = record { half = b; bound = x; kept = ahead_of mark x b.low }
+abbrev pub child_of : Box → ℕ → Mark → Child
+child_of b x mark = record { half = b; bound = x; kept = ahead_of mark x b.low }
 
 -- "C − L ≤ t"; 02: for t = 0 "solved means that no box is open"
-abbrev pub solvedBy : ℕ → ℕ → ℕ → Bool
-solvedBy t gap number = cond (eqb t 0) (eqb number 0) (leb gap t)
+abbrev pub solved_by : ℕ → ℕ → ℕ → Bool
+solved_by t gap number = cond (eqb t 0) (eqb number 0) (leb gap t)
 
 -- whether a box is kept
-abbrev pub keptBy : (Box → ℕ) → Mark → Box → Bool
-keptBy bound mark b = ahead_of mark (bound b) b.low
+abbrev pub kept_by : (Box → ℕ) → Mark → Box → Bool
+kept_by bound mark b = ahead_of mark (bound b) b.low
 
 -- child is the box b with the outcome of its test, and with its bound if it is kept
 pub record Tested (bound : Box → ℕ) (keep : Box → Bool) (b : Box) (child : Child) : Type 0 where

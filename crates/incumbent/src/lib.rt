@@ -1,6 +1,6 @@
 // The best vector so far: the one test by which a vector becomes best and a box is kept, and the one by which a search is solved.
 ghost use Rattle.std.specs.Prelude.{◌≡◌};
-ghost use Rattle.incumbent.specs.Incumbent.{ahead_of, childOf, solvedBy};
+ghost use Rattle.incumbent.specs.Incumbent.{ahead_of, child_of, solved_by};
 
 use boxes::Box;
 
@@ -40,7 +40,7 @@ pub fn ahead(mark: Mark, number: u64, v: [i16; 8]) -> bool
 
 // A box with what was found of its bound, and whether it is kept.
 pub fn child_of(half: Box, bound: u64, mark: Mark) -> Child
-    ensures { result ≡ childOf half bound mark }
+    ensures { result ≡ child_of half bound mark }
 {
     let low = half.low;
     Child {
@@ -52,7 +52,7 @@ pub fn child_of(half: Box, bound: u64, mark: Mark) -> Child
 
 // Whether a search is solved: where C − L is at most t, and for t = 0 where no box is open. No other code decides it.
 pub fn is_solved(t: u64, gap: u64, open: usize) -> bool
-    ensures { result ≡ solvedBy t gap «open» }
+    ensures { result ≡ solved_by t gap «open» }
 {
     if t == 0 { open == 0 } else { gap <= t }
 }

@@ -3,7 +3,7 @@
 use Rattle.std.specs.Prelude.{◌≡◌, List, ℕ, ◌+◌, ◌≤◌, ℤ}
 use Rattle.jobs.specs.declared.Job.{Job}
 use Rattle.search.specs.declared.Kind.TheVariants.{Solved}
-use Rattle.search.specs.Search.{searchAnswer}
+use Rattle.search.specs.Search.{search_answer}
 use Rattle.influence.specs.OneRecord.{DifferInOne, SameSettings, cap, CostsNear}
 
 -- Document 02, request 12: "for p of 0, 1 and 2 and two stores that differ in one record only, both solved with the same settings and box,
@@ -15,10 +15,10 @@ OneRecord =
     DifferInOne store store' →
     SameSettings job job' →
     job.model.p ≤ 2 →
-    (searchAnswer store job table bounds).kind ≡ Solved →
-    (searchAnswer store' job' table' bounds').kind ≡ Solved →
+    (search_answer store job table bounds).kind ≡ Solved →
+    (search_answer store' job' table' bounds').kind ≡ Solved →
     CostsNear (cap job.model.p job.model.eps) job job'
-    (searchAnswer store job table bounds) (searchAnswer store' job' table' bounds')
+    (search_answer store job table bounds) (search_answer store' job' table' bounds')
 
 -- There are two such stores and jobs where the one cost is the other plus its tolerance, which is not 0, plus the cap: for this p and ε
 -- neither can be left out or made smaller.
@@ -33,10 +33,10 @@ pub record CapReached (p ε : ℕ) : Type 0 where
   pub same : SameSettings job job'
   pub picks : job.model.p ≡ p
   pub threshold : job.model.eps ≡ ε
-  pub solved : (searchAnswer store job table bounds).kind ≡ Solved
-  pub solved' : (searchAnswer store' job' table bounds).kind ≡ Solved
+  pub solved : (search_answer store job table bounds).kind ≡ Solved
+  pub solved' : (search_answer store' job' table bounds).kind ≡ Solved
   pub tolerant : 1 ≤ job'.t
-  pub reached : (searchAnswer store' job' table bounds).cost ≡ (searchAnswer store job table bounds).cost + job'.t + cap p ε
+  pub reached : (search_answer store' job' table bounds).cost ≡ (search_answer store job table bounds).cost + job'.t + cap p ε
 
 -- so it is for each p: with ε = 0 for p = 0, and with ε = 3 for p of 1 and 2
 pub record AllReached : Type 0 where

@@ -11,51 +11,51 @@ use mir.Val.{SFits}
 use mir.ValLaws.{to_z-Fits}
 use Rattle.integers.specs.Lists.{All, none, also}
 use Rattle.integers.proofs.Tests.{and_parts, and_both}
-use Rattle.fields.specs.Fields.{IsVector, fromBigEndian, vectorOf, vectorAt, number_at}
+use Rattle.fields.specs.Fields.{IsVector, from_big_endian, vector_of, vector_at, number_at}
 use Rattle.fields.proofs.BigEndian.{below}
-use Rattle.fields.proofs.Parts.{part-size, bytes_drop, bytes_take}
-use Rattle.fields.proofs.Vectors.{vector-eight}
+use Rattle.fields.proofs.Parts.{part_size, bytes_drop, bytes_take}
+use Rattle.fields.proofs.Vectors.{vector_eight}
 use Rattle.job_records.specs.Jobs.{job_of}
 use Rattle.job_records.specs.Laws.{IsJob}
 
-are-bytes : (l : List ℕ) → ((i : ℕ) → get_or l i 0 < 256) → T (are_bytes l)
-are-bytes [] small = tt
-are-bytes (b ∷ l) small = and_both (ltb b 256) (are_bytes l) (lt→ltb b 256 (small 0)) (are-bytes l (λ i. small (suc i)))
+are_bytes : (l : List ℕ) → ((i : ℕ) → get_or l i 0 < 256) → T (are_bytes l)
+are_bytes [] small = tt
+are_bytes (b ∷ l) small = and_both (ltb b 256) (are_bytes l) (lt→ltb b 256 (small 0)) (are_bytes l (λ i. small (suc i)))
 
-all-signed : (bs : List ℕ) → T (are_bytes bs) → All (λ w. SFits w16 w) (vectorOf bs)
-unfolding vectorOf
-all-signed [] ok = none
-all-signed (b ∷ []) ok = none
-all-signed (high ∷ low ∷ bs) ok =
+all_signed : (bs : List ℕ) → T (are_bytes bs) → All (λ w. SFits w16 w) (vector_of bs)
+unfolding vector_of
+all_signed [] ok = none
+all_signed (b ∷ []) ok = none
+all_signed (high ∷ low ∷ bs) ok =
     let p = and_parts (ltb high 256) (are_bytes (low ∷ bs)) ok in
     let q = and_parts (ltb low 256) (are_bytes bs) p.1 in
     also
-    (to_z-Fits w16 (fromBigEndian (high ∷ low ∷ []))
+    (to_z-Fits w16 (from_big_endian (high ∷ low ∷ []))
     (record { fits = below (high ∷ low ∷ []) (and_both (ltb high 256) (are_bytes (low ∷ [])) p.0 (and_both (ltb low 256) (are_bytes []) q.0 tt)) }))
-    (all-signed bs q.1)
+    (all_signed bs q.1)
 
 module _ (bytes : List ℕ) (ok : T (are_bytes bytes)) where
   number_small : (o k : ℕ) → o + k ≤ length bytes → number_at bytes o k < 256 ^ k
   number_small o k inside =
-      subst (λ (n : ℕ). number_at bytes o k < 256 ^ n) (part-size bytes o k inside)
+      subst (λ (n : ℕ). number_at bytes o k < 256 ^ n) (part_size bytes o k inside)
       (below (take k (drop o bytes)) (bytes_take k (drop o bytes) (bytes_drop o bytes ok)))
 
-  vector-is : (o : ℕ) → o + 16 ≤ length bytes → IsVector (vectorAt bytes o)
-  vector-is o inside = record {
-    eight = vector-eight bytes o inside;
-    signed = all-signed (take 16 (drop o bytes)) (bytes_take 16 (drop o bytes) (bytes_drop o bytes ok));
+  vector_is : (o : ℕ) → o + 16 ≤ length bytes → IsVector (vector_at bytes o)
+  vector_is o inside = record {
+    eight = vector_eight bytes o inside;
+    signed = all_signed (take 16 (drop o bytes)) (bytes_take 16 (drop o bytes) (bytes_drop o bytes ok));
   }
 
-pub job-fits : (bytes : List ℕ) → ((i : ℕ) → get_or bytes i 0 < 256) → 72 ≤ length bytes → IsJob (job_of bytes)
+pub job_fits : (bytes : List ℕ) → ((i : ℕ) → get_or bytes i 0 < 256) → 72 ≤ length bytes → IsJob (job_of bytes)
 unfolding job_of
-job-fits bytes small whole =
-    let ok = are-bytes bytes small in
+job_fits bytes small whole =
+    let ok = are_bytes bytes small in
     record {
       eps = record { fits = number_small bytes ok 4 4 (omega arith) };
       t = record { fits = number_small bytes ok 8 8 (omega arith) };
       budget = record { fits = number_small bytes ok 16 4 (omega arith) };
       rows = record { fits = number_small bytes ok 20 4 (omega arith) };
-      low = vector-is bytes ok 24 (omega arith);
-      high = vector-is bytes ok 40 (omega arith);
-      start = vector-is bytes ok 56 (omega arith);
+      low = vector_is bytes ok 24 (omega arith);
+      high = vector_is bytes ok 40 (omega arith);
+      start = vector_is bytes ok 56 (omega arith);
     }

@@ -10,13 +10,13 @@ use lib.Pow.{are_bytes}
 use lib.Seq.{take_at, take-add}
 use Rattle.codes.specs.declared.Check.TheVariants.{Pass}
 use Rattle.jobs.specs.declared.Job.{Job}
-use Rattle.fields.specs.Fields.{bigEndian, vectorBytes, vectorOf}
-use Rattle.job_records.specs.Jobs.{jobBytes, job_of, readJob}
+use Rattle.fields.specs.Fields.{big_endian, vector_bytes, vector_of}
+use Rattle.job_records.specs.Jobs.{job_bytes, job_of, read_job}
 use Rattle.job_records.specs.Laws.{IsJob, JobRoundTrip}
 use Rattle.job_records.specs.declared.JobRead.{JobRead}
-use Rattle.fields.proofs.BigEndian.{written-reads-whole}
-use Rattle.fields.proofs.Parts.{part_at, four-at}
-use Rattle.fields.proofs.Vectors.{vector-long, written-reads as vector-reads, number-back, vector-back}
+use Rattle.fields.proofs.BigEndian.{written_reads_whole}
+use Rattle.fields.proofs.Parts.{part_at, four_at}
+use Rattle.fields.proofs.Vectors.{vector_long, written_reads as vector-reads, number_back, vector_back}
 
 -- of three vectors one after the other, each
 module _ (l h s rest : List ℕ) (ll : length l ≡ 16) (lh : length h ≡ 16) (ls : length s ≡ 16) where
@@ -30,45 +30,45 @@ module _ (l h s rest : List ℕ) (ll : length l ≡ 16) (lh : length h ≡ 16) (
   third = part_at (l ++ h) s rest 32 16 (omega (arith, length-append l h)) ls
 
 module _ (job : Job) (ok : IsJob job) (rest : List ℕ) where
-  low-long : length (vectorBytes job.domain.low) ≡ 16
-  low-long = vector-long job.domain.low ok.low.eight
+  low_long : length (vector_bytes job.domain.low) ≡ 16
+  low_long = vector_long job.domain.low ok.low.eight
 
-  high-long : length (vectorBytes job.domain.high) ≡ 16
-  high-long = vector-long job.domain.high ok.high.eight
+  high_long : length (vector_bytes job.domain.high) ≡ 16
+  high_long = vector_long job.domain.high ok.high.eight
 
-  start-long : length (vectorBytes job.start) ≡ 16
-  start-long = vector-long job.start ok.start.eight
+  start_long : length (vector_bytes job.start) ≡ 16
+  start_long = vector_long job.start ok.start.eight
 
-  size : length (jobBytes job) ≡ 72
-  unfolding jobBytes bigEndian
+  size : length (job_bytes job) ≡ 72
+  unfolding job_bytes big_endian
   size =
-      let l = vectorBytes job.domain.low in
-      let h = vectorBytes job.domain.high in
-      let s = vectorBytes job.start in
-      omega (arith, length-append (l ++ h) s, length-append l h, low-long, high-long, start-long)
+      let l = vector_bytes job.domain.low in
+      let h = vector_bytes job.domain.high in
+      let s = vector_bytes job.start in
+      omega (arith, length-append (l ++ h) s, length-append l h, low_long, high_long, start_long)
 
-  reads : job_of (jobBytes job ++ rest) ≡ job
-  unfolding jobBytes job_of bigEndian
+  reads : job_of (job_bytes job ++ rest) ≡ job
+  unfolding job_bytes job_of big_endian
   reads =
-      let l = vectorBytes job.domain.low in
-      let h = vectorBytes job.domain.high in
-      let s = vectorBytes job.start in
+      let l = vector_bytes job.domain.low in
+      let h = vector_bytes job.domain.high in
+      let s = vector_bytes job.start in
       λ i. record {
         model = record {
           n = job.model.n;
           d = job.model.d;
           scale = job.model.scale;
           p = job.model.p;
-          eps = written-reads-whole 4 job.model.eps ok.eps.fits i;
+          eps = written_reads_whole 4 job.model.eps ok.eps.fits i;
         };
-        t = written-reads-whole 8 job.t ok.t.fits i;
-        budget = written-reads-whole 4 job.budget ok.budget.fits i;
-        rows = written-reads-whole 4 job.rows ok.rows.fits i;
+        t = written_reads_whole 8 job.t ok.t.fits i;
+        budget = written_reads_whole 4 job.budget ok.budget.fits i;
+        rows = written_reads_whole 4 job.rows ok.rows.fits i;
         domain = record {
-          low = (ap vectorOf (first l h s rest low-long high-long start-long) ∙ vector-reads ok.low.signed) i;
-          high = (ap vectorOf (second l h s rest low-long high-long start-long) ∙ vector-reads ok.high.signed) i;
+          low = (ap vector_of (first l h s rest low_long high_long start_long) ∙ vector-reads ok.low.signed) i;
+          high = (ap vector_of (second l h s rest low_long high_long start_long) ∙ vector-reads ok.high.signed) i;
         };
-        start = (ap vectorOf (third l h s rest low-long high-long start-long) ∙ vector-reads ok.start.signed) i;
+        start = (ap vector_of (third l h s rest low_long high_long start_long) ∙ vector-reads ok.start.signed) i;
       }
 
 module _ (bytes : List ℕ) (ok : T (are_bytes bytes)) (long : 72 ≤ length bytes) where
@@ -86,30 +86,30 @@ module _ (bytes : List ℕ) (ok : T (are_bytes bytes)) (long : 72 ≤ length byt
         ← take-add 56 16 bytes,
       )
 
-  writes : jobBytes (job_of bytes) ≡ take 72 bytes
-  unfolding jobBytes job_of
+  writes : job_bytes (job_of bytes) ≡ take 72 bytes
+  unfolding job_bytes job_of
   writes =
       (λ i.
-      four-at bytes 0 (omega arith) i
-      ++ number-back bytes ok 4 4 (omega arith) i
-      ++ number-back bytes ok 8 8 (omega arith) i
-      ++ number-back bytes ok 16 4 (omega arith) i
-      ++ number-back bytes ok 20 4 (omega arith) i
-      ++ vector-back bytes ok 24 (omega arith) i
-      ++ vector-back bytes ok 40 (omega arith) i
-      ++ vector-back bytes ok 56 (omega arith) i)
+      four_at bytes 0 (omega arith) i
+      ++ number_back bytes ok 4 4 (omega arith) i
+      ++ number_back bytes ok 8 8 (omega arith) i
+      ++ number_back bytes ok 16 4 (omega arith) i
+      ++ number_back bytes ok 20 4 (omega arith) i
+      ++ vector_back bytes ok 24 (omega arith) i
+      ++ vector_back bytes ok 40 (omega arith) i
+      ++ vector_back bytes ok 56 (omega arith) i)
       ∙ joined
 
 -- where the bytes are enough, the job is read
-accepted : (bytes : List ℕ) → 72 ≤ length bytes → readJob bytes ≡ record { check = Pass; job = job_of bytes }
-unfolding readJob
+accepted : (bytes : List ℕ) → 72 ≤ length bytes → read_job bytes ≡ record { check = Pass; job = job_of bytes }
+unfolding read_job
 accepted bytes h = simp (le-leb 72 (length bytes) h)
 
-pub job-round-trip : JobRoundTrip
-job-round-trip = record {
+pub job_round_trip : JobRoundTrip
+job_round_trip = record {
   size = λ job ok. size job ok [];
-  written-reads = λ job ok rest.
-      accepted (jobBytes job ++ rest) (omega (arith, length-append (jobBytes job) rest, size job ok []))
+  written_reads = λ job ok rest.
+      accepted (job_bytes job ++ rest) (omega (arith, length-append (job_bytes job) rest, size job ok []))
       ∙ (λ i. record { check = Pass; job = reads job ok rest i });
-  read-writes = λ bytes ok h. ap (λ (r : JobRead). jobBytes r.job) (accepted bytes h) ∙ writes bytes ok h;
+  read_writes = λ bytes ok h. ap (λ (r : JobRead). job_bytes r.job) (accepted bytes h) ∙ writes bytes ok h;
 }

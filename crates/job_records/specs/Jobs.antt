@@ -1,23 +1,23 @@
 -- The job record.
 use Rattle.std.specs.Prelude.{List, [], ◌∷◌, ◌++◌, ℕ, leb, pos, length, replicate}
-use Rattle.codes.specs.Codes.{passIf, ifPassed}
+use Rattle.codes.specs.Codes.{pass_if, if_passed}
 use Rattle.codes.specs.declared.Refusal.TheVariants.{Length}
-use Rattle.boxes.specs.Split.{zeroBox}
+use Rattle.boxes.specs.Split.{zero_box}
 use Rattle.jobs.specs.declared.Job.{Job}
-use Rattle.fields.specs.Fields.{bigEndian, vectorBytes, byte_at, number_at, vectorAt}
+use Rattle.fields.specs.Fields.{big_endian, vector_bytes, byte_at, number_at, vector_at}
 use Rattle.job_records.specs.declared.JobRead.{JobRead}
 
 -- "A job record has 72 bytes: n, d, S, p (a byte each), ε (32 bits), t (64), budget (32), rows r (32), low, high, start vector."
-unfoldable pub jobBytes : Job → List ℕ
-jobBytes job =
+unfoldable pub job_bytes : Job → List ℕ
+job_bytes job =
     job.model.n ∷ job.model.d ∷ job.model.scale ∷ job.model.p ∷ []
-    ++ bigEndian 4 job.model.eps
-    ++ bigEndian 8 job.t
-    ++ bigEndian 4 job.budget
-    ++ bigEndian 4 job.rows
-    ++ vectorBytes job.domain.low
-    ++ vectorBytes job.domain.high
-    ++ vectorBytes job.start
+    ++ big_endian 4 job.model.eps
+    ++ big_endian 8 job.t
+    ++ big_endian 4 job.budget
+    ++ big_endian 4 job.rows
+    ++ vector_bytes job.domain.low
+    ++ vector_bytes job.domain.high
+    ++ vector_bytes job.start
 
 -- the job that the first 72 bytes stand for
 unfoldable pub job_of : List ℕ → Job
@@ -32,23 +32,23 @@ job_of bytes = record {
   t = number_at bytes 8 8;
   budget = number_at bytes 16 4;
   rows = number_at bytes 20 4;
-  domain = record { low = vectorAt bytes 24; high = vectorAt bytes 40 };
-  start = vectorAt bytes 56;
+  domain = record { low = vector_at bytes 24; high = vector_at bytes 40 };
+  start = vector_at bytes 56;
 }
 
 -- a refusal has nothing but zeros beside it
-abbrev pub zeroJob : Job
-zeroJob = record {
+abbrev pub zero_job : Job
+zero_job = record {
   model = record { n = 0; d = 0; scale = 0; p = 0; eps = 0 };
   t = 0;
   budget = 0;
   rows = 0;
-  domain = zeroBox;
+  domain = zero_box;
   start = replicate 8 (pos 0);
 }
 
 -- Check 1: "input of fit under 72 bytes".
-unfoldable pub readJob : List ℕ → JobRead
-readJob bytes =
-    let check = passIf (leb 72 (length bytes)) Length in
-    record { check = check; job = ifPassed check (job_of bytes) zeroJob }
+unfoldable pub read_job : List ℕ → JobRead
+read_job bytes =
+    let check = pass_if (leb 72 (length bytes)) Length in
+    record { check = check; job = if_passed check (job_of bytes) zero_job }

@@ -6,7 +6,7 @@ use Rattle.std.proofs.Common.{Fits}
 use Rattle.codes.specs.declared.Check.TheVariants.{Pass}
 use Rattle.fields.specs.Fields.{IsVector}
 use Rattle.jobs.specs.declared.Job.{Job}
-use Rattle.job_records.specs.Jobs.{jobBytes, readJob}
+use Rattle.job_records.specs.Jobs.{job_bytes, read_job}
 
 -- The numbers fit their bytes, as those of every job in the code do.
 pub record IsJob (job : Job) : Type 0 where
@@ -21,8 +21,8 @@ pub record IsJob (job : Job) : Type 0 where
 -- A job goes through its 72 bytes and back unchanged.
 pub record JobRoundTrip : Type 0 where
   -- "A job record has 72 bytes".
-  pub size : (job : Job) → IsJob job → length (jobBytes job) ≡ 72
+  pub size : (job : Job) → IsJob job → length (job_bytes job) ≡ 72
   -- a job that was written reads as itself, whatever follows it
-  pub written-reads : (job : Job) → IsJob job → (rest : List ℕ) → readJob (jobBytes job ++ rest) ≡ record { check = Pass; job = job }
+  pub written_reads : (job : Job) → IsJob job → (rest : List ℕ) → read_job (job_bytes job ++ rest) ≡ record { check = Pass; job = job }
   -- a job that was read writes back to the same 72 bytes
-  pub read-writes : (bytes : List ℕ) → T (are_bytes bytes) → 72 ≤ length bytes → jobBytes (readJob bytes).job ≡ take 72 bytes
+  pub read_writes : (bytes : List ℕ) → T (are_bytes bytes) → 72 ≤ length bytes → job_bytes (read_job bytes).job ≡ take 72 bytes

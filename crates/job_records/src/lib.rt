@@ -2,8 +2,8 @@
 ghost use Rattle.std.specs.Prelude.{◌≡◌, ◌≤◌, length};
 ghost use Rattle.integers.specs.Lists.{over};
 ghost use Rattle.codes.specs.declared.Check.TheVariants.{Refuse};
-ghost use Rattle.fields.specs.Buffers.{checkRoom, written};
-ghost use Rattle.job_records.specs.Jobs.{jobBytes, job_of, readJob, zeroJob};
+ghost use Rattle.fields.specs.Buffers.{check_room, written};
+ghost use Rattle.job_records.specs.Jobs.{job_bytes, job_of, read_job, zero_job};
 
 use boxes::Box;
 use codes::{Check, Refusal};
@@ -44,7 +44,7 @@ fn get_job(bytes: &[u8]) -> Job
 // The fields into the first 72 bytes.
 fn put_job(job: Job, bytes: &mut [u8])
     requires { 72 ≤ length bytes.old }
-    ensures { bytes.new ≡ over (jobBytes job) bytes.old }
+    ensures { bytes.new ≡ over (job_bytes job) bytes.old }
 {
     let model = job.model;
     let domain = job.domain;
@@ -65,7 +65,7 @@ fn put_job(job: Job, bytes: &mut [u8])
 }
 
 fn refused_job(r: Refusal) -> JobRead
-    ensures { result ≡ record { check = Refuse r; job = zeroJob } }
+    ensures { result ≡ record { check = Refuse r; job = zero_job } }
 {
     let zeros = [0i16; 8];
     JobRead {
@@ -92,7 +92,7 @@ fn refused_job(r: Refusal) -> JobRead
 
 // The job of the first 72 bytes; what follows them is no part of it.
 pub fn read_job(bytes: &[u8]) -> JobRead
-    ensures { result ≡ readJob bytes.now }
+    ensures { result ≡ read_job bytes.now }
 {
     if bytes.len() < 72 {
         return refused_job(Refusal::Length);
@@ -105,8 +105,8 @@ pub fn read_job(bytes: &[u8]) -> JobRead
 
 // The job record in the first 72 bytes.
 pub fn write_job(job: Job, out: &mut [u8]) -> Check
-    ensures check { result ≡ checkRoom 72 out.old }
-    ensures bytes { out.new ≡ written result (jobBytes job) out.old }
+    ensures check { result ≡ check_room 72 out.old }
+    ensures bytes { out.new ≡ written result (job_bytes job) out.old }
 {
     if out.len() < 72 {
         return Check::Refuse(Refusal::Short);

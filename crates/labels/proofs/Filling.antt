@@ -8,30 +8,30 @@ use lib.ListN.{length, take, drop, set, length-map, length-set, take-append-drop
 use lib.Seq.{take-suc-set, drop-set-lt, drop-drop}
 use Rattle.integers.specs.Lists.{over}
 use Rattle.points.specs.declared.Point.{Point}
-use Rattle.points.specs.Points.{pointAt, firstPoints, points_of}
-use Rattle.points.proofs.Laws.{points-more, points-length}
+use Rattle.points.specs.Points.{point_at, first_points, points_of}
+use Rattle.points.proofs.Laws.{points_more, points_length}
 
 module _ (f : Point → ℕ) (s : List ℕ) (old : List ℕ) where
   pub record Filled (i : ℕ) (out : List ℕ) : Type 0 where
     pub few : i ≤ length s / 12
     pub long : length out ≡ length old
-    pub front : take i out ≡ map f (firstPoints s i)
+    pub front : take i out ≡ map f (first_points s i)
     pub rest : drop i out ≡ drop i old
 
   pub none_filled : Filled 0 old
-  unfolding firstPoints
+  unfolding first_points
   none_filled = record { few = omega arith; long = refl; front = refl; rest = refl }
 
-  pub one-filled : {i : ℕ} {out : List ℕ} (b : ℕ) → b ≡ f (pointAt s i) → i < length s / 12 → i < length out → Filled i out →
+  pub one_filled : {i : ℕ} {out : List ℕ} (b : ℕ) → b ≡ f (point_at s i) → i < length s / 12 → i < length out → Filled i out →
       Filled (i + 1) (set out i b)
-  one-filled {i} {out} b e h k g =
+  one_filled {i} {out} b e h k g =
       record {
         few = omega arith;
         long = length-set out i b ∙ g.long;
         front =
             rw add-one (take-suc-set out i b k)
             ∙ ap₂ ◌++◌ g.front (ap (λ (x : ℕ). x ∷ []) e)
-            ∙ sym (ap (map f) (points-more s i) ∙ map-append f (firstPoints s i) (pointAt s i ∷ []));
+            ∙ sym (ap (map f) (points_more s i) ∙ map-append f (first_points s i) (point_at s i ∷ []));
         rest =
             rw add-one (drop-set-lt (suc i) out i b (omega arith))
             ∙ ap (λ (n : ℕ). drop n out) (sym (add-one i))
@@ -40,11 +40,11 @@ module _ (f : Point → ℕ) (s : List ℕ) (old : List ℕ) where
             ∙ drop-drop 1 i old;
       }
 
-  pub all-filled : {i : ℕ} {out : List ℕ} → length s / 12 ≤ i → Filled i out → out ≡ over (map f (points_of s)) old
+  pub all_filled : {i : ℕ} {out : List ℕ} → length s / 12 ≤ i → Filled i out → out ≡ over (map f (points_of s)) old
   unfolding points_of over
-  all-filled {i} {out} h g =
-      let first = firstPoints s (length s / 12) in
-      let n : length (map f first) ≡ i = length-map first f ∙ omega (arith, points-length s (length s / 12), g.few) in
+  all_filled {i} {out} h g =
+      let first = first_points s (length s / 12) in
+      let n : length (map f first) ≡ i = length-map first f ∙ omega (arith, points_length s (length s / 12), g.few) in
       let m : i ≡ length s / 12 = omega (arith, g.few) in
       sym (take-append-drop i out)
-      ∙ ap₂ ◌++◌ (g.front ∙ ap (λ (k : ℕ). map f (firstPoints s k)) m) (g.rest ∙ ap (λ (k : ℕ). drop k old) (sym n))
+      ∙ ap₂ ◌++◌ (g.front ∙ ap (λ (k : ℕ). map f (first_points s k)) m) (g.rest ∙ ap (λ (k : ℕ). drop k old) (sym n))

@@ -8,18 +8,18 @@ use lib.ListN.{length}
 use Rattle.codes.specs.declared.Check.TheVariants.{Pass, Refuse}
 use Rattle.codes.specs.declared.Refusal.{Refusal}
 use Rattle.codes.specs.declared.Refusal.TheVariants.{Short}
-use Rattle.codes.specs.Codes.{passIf, inOrder}
-use Rattle.codes.proofs.Laws.{in-order-one}
+use Rattle.codes.specs.Codes.{pass_if, in_order}
+use Rattle.codes.proofs.Laws.{in_order_one}
 use Rattle.jobs.specs.declared.Model.{Model}
 use Rattle.points.specs.Points.{points_of}
-use Rattle.model_checks.specs.Checks.{checkThreshold}
-use Rattle.labels.specs.Labels.{checkLabels}
+use Rattle.model_checks.specs.Checks.{check_threshold}
+use Rattle.labels.specs.Labels.{check_labels}
 
 module _ (store : List ℕ) (m : Model) (v : List ℤ) (out : List ℕ) where
-  pub room-decides : checkThreshold store m v ≡ Pass → checkLabels store m v out ≡ passIf (leb (length (points_of store)) (length out)) Short
-  unfolding checkLabels inOrder
-  room-decides e = rw e (in-order-one (passIf (leb (length (points_of store)) (length out)) Short))
+  pub room_decides : check_threshold store m v ≡ Pass → check_labels store m v out ≡ pass_if (leb (length (points_of store)) (length out)) Short
+  unfolding check_labels in_order
+  room_decides e = rw e (in_order_one (pass_if (leb (length (points_of store)) (length out)) Short))
 
-  pub first-refuses : (r : Refusal) → checkThreshold store m v ≡ Refuse r → checkLabels store m v out ≡ Refuse r
-  unfolding checkLabels inOrder
-  first-refuses r e = rw e refl
+  pub first_refuses : (r : Refusal) → check_threshold store m v ≡ Refuse r → check_labels store m v out ≡ Refuse r
+  unfolding check_labels in_order
+  first_refuses r e = rw e refl

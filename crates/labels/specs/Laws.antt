@@ -2,7 +2,7 @@
 use Rattle.std.specs.Prelude.{true, false, List, ◌≢◌, ◌≡◌, ℕ, suc, ◌≤◌, ◌<◌, ℤ}
 use Rattle.jobs.specs.declared.Model.{Model}
 use Rattle.points.specs.declared.Point.{Point}
-use Rattle.points.specs.Points.{isGap}
+use Rattle.points.specs.Points.{is_gap}
 use Rattle.residuals.specs.Cost.{size_at}
 use Rattle.labels.specs.Labels.{label}
 
@@ -21,10 +21,10 @@ pub record OneFits (m : Model) (v : List ℤ) (q : Point) (line : ℕ) : Type 0 
 
 -- Which label a point has: 6 a gap; of samples 5 where two lines fit, the line where one does, and 0 where none does.
 pub record Labelled (m : Model) (v : List ℤ) (q : Point) : Type 0 where
-  pub gap : isGap q ≡ true → label m v q ≡ 6
-  pub undecided : isGap q ≡ false → (i j : ℕ) → TwoFit m v q i j → label m v q ≡ 5
-  pub named : isGap q ≡ false → (line : ℕ) → OneFits m v q line → label m v q ≡ suc line
-  pub no_line : isGap q ≡ false → ((j : ℕ) → j < m.n → m.eps < size_at m v q j) → label m v q ≡ 0
+  pub gap : is_gap q ≡ true → label m v q ≡ 6
+  pub undecided : is_gap q ≡ false → (i j : ℕ) → TwoFit m v q i j → label m v q ≡ 5
+  pub named : is_gap q ≡ false → (line : ℕ) → OneFits m v q line → label m v q ≡ suc line
+  pub no_line : is_gap q ≡ false → ((j : ℕ) → j < m.n → m.eps < size_at m v q j) → label m v q ≡ 0
 
 -- So it is with every point, under a model of one line at least.
 abbrev pub AllLabelled : Type 0

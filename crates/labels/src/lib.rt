@@ -5,7 +5,7 @@ ghost use Rattle.std.specs.Prelude.{map, ◌≡◌, ◌≤◌, length};
 ghost use Rattle.integers.specs.Lists.{over};
 ghost use Rattle.points.specs.Points.{points_of};
 ghost use Rattle.residuals.specs.Inside.{Ready};
-ghost use Rattle.labels.specs.Labels.{label, labelsAnswer, labelled};
+ghost use Rattle.labels.specs.Labels.{label, labels_answer, labelled};
 
 use codes::{Check, Outcome, Refusal};
 use jobs::Model;
@@ -25,7 +25,7 @@ fn write_labels(store: &[u8], m: Model, v: &[i16; 8], out: &mut [u8])
 
 // One label a point into the front of a lent buffer.
 pub fn labels(store: &[u8], m: Model, v: [i16; 8], out: &mut [u8]) -> Outcome
-    ensures answer { result ≡ labelsAnswer store.now m v out.old }
+    ensures answer { result ≡ labels_answer store.now m v out.old }
     ensures buffer { out.new ≡ labelled store.now m v out.old }
 {
     match model_checks::check_threshold(store, m, v) {

@@ -1,9 +1,9 @@
 // The line nearest to a point, in whole numbers.
 ghost use Rattle.std.specs.Prelude.{cond, ◌≡◌, ◌+◌, ◌*◌, ◌/◌, ◌^◌, ◌≤◌, ◌<◌, leb, pos, nat_abs, ◌-ℤ◌, ◌*ℤ◌, length};
-ghost use Rattle.points.specs.Points.{pointAt, xs};
+ghost use Rattle.points.specs.Points.{point_at, xs};
 ghost use Rattle.residuals.specs.Cost.{at, least};
 ghost use Rattle.residuals.specs.Inside.{Ready, size_of, dot};
-ghost use Rattle.labels.specs.Labels.{firstLeast, fitting, sampleLabel, label};
+ghost use Rattle.labels.specs.Labels.{first_least, fitting, sample_label, label};
 
 use jobs::Model;
 use points::{Point, Record};
@@ -70,7 +70,7 @@ fn counted(size: u64, eps: u64) -> usize
 // The nearest of n lines, the first among equals, and how many of them are within ε.
 fn nearest_line(q: Point, v: &[i16; 8], n: usize, d: usize, power: u16, eps: u64) -> Nearest
     requires { (n * d ≤ 8) × (1 ≤ n) × (d ≤ 4) }
-    ensures line { result.line ≡ firstLeast (λ j. size_of q v.now (j * d) d power) n }
+    ensures line { result.line ≡ first_least (λ j. size_of q v.now (j * d) d power) n }
     ensures size { result.size ≡ least (λ j. size_of q v.now (j * d) d power) n }
     ensures fitting { result.fitting ≡ fitting (λ j. size_of q v.now (j * d) d power) eps n }
 {
@@ -97,7 +97,7 @@ fn nearest_line(q: Point, v: &[i16; 8], n: usize, d: usize, power: u16, eps: u64
 // The label of a sample: 5 where two lines fit.
 fn label_of(q: Point, m: Model, v: &[i16; 8], power: u16) -> u8
     requires { (m.n * m.d ≤ 8) × (1 ≤ m.n) × (m.n ≤ 4) × (m.d ≤ 4) × (power ≡ 2 ^ m.scale) }
-    ensures { result ≡ sampleLabel m v.now q }
+    ensures { result ≡ sample_label m v.now q }
 {
     let near = nearest_line(q, v, m.n as usize, m.d as usize, power, m.eps as u64);
     if 2 <= near.fitting {
@@ -113,7 +113,7 @@ fn label_of(q: Point, m: Model, v: &[i16; 8], power: u16) -> u8
 // The label of record i: 6 of a gap.
 pub fn label_at(store: &[u8], i: usize, m: Model, v: &[i16; 8], power: u16) -> u8
     requires { Ready (length store.now) m × (i < length store.now / 12) × (power ≡ 2 ^ m.scale) }
-    ensures { result ≡ label m v.now (pointAt store.now i) }
+    ensures { result ≡ label m v.now (point_at store.now i) }
 {
     match points::read_point(store, i) {
         Record::Sample(q) => label_of(q, m, v, power),

@@ -15,26 +15,26 @@ pub record Found (d : List ℕ) (n : ℕ) (l₀ p₀ : List ℕ) (j : ℕ) (l p 
   pub few : j ≤ 64
   pub some : (i : ℕ) → i < j → i * width_of n < n
   pub long : length l ≡ 64
-  pub long-places : length p ≡ 64
+  pub long_places : length p ≡ 64
   pub firsts : (i : ℕ) → i < j → InBlock d n i (entry_at p i) (entry_at l i)
   pub rest : drop j l ≡ drop j l₀
-  pub rest-places : drop j p ≡ drop j p₀
+  pub rest_places : drop j p ≡ drop j p₀
 
 pub none_found : (d : List ℕ) (n : ℕ) (l p : List ℕ) → length l ≡ 64 → length p ≡ 64 → Found d n l p 0 l p
-none_found d n l p long long-places =
+none_found d n l p long long_places =
     record {
       few = omega arith;
       some = λ i h. absurd (omega arith);
       long = long;
-      long-places = long-places;
+      long_places = long_places;
       firsts = λ i h. absurd (omega arith);
       rest = refl;
-      rest-places = refl;
+      rest_places = refl;
     }
 
 -- one more is set
-rest-set : (l l₀ : List ℕ) (j x : ℕ) → drop j l ≡ drop j l₀ → drop (j + 1) (set l j x) ≡ drop (j + 1) l₀
-rest-set l l₀ j x rest = drop-set-lt (j + 1) l j x (omega arith) ∙ sym (drop-drop 1 j l) ∙ rw rest (drop-drop 1 j l₀)
+rest_set : (l l₀ : List ℕ) (j x : ℕ) → drop j l ≡ drop j l₀ → drop (j + 1) (set l j x) ≡ drop (j + 1) l₀
+rest_set l l₀ j x rest = drop-set-lt (j + 1) l j x (omega arith) ∙ sym (drop-drop 1 j l) ∙ rw rest (drop-drop 1 j l₀)
 
 module _ {d : List ℕ} {n : ℕ} {l₀ p₀ : List ℕ} {j : ℕ} {l p : List ℕ} (f : Found d n l₀ p₀ j l p) where
   pub one_found :
@@ -44,15 +44,15 @@ module _ {d : List ℕ} {n : ℕ} {l₀ p₀ : List ℕ} {j : ℕ} {l p : List �
         few = omega arith;
         some = below_more (λ (i : ℕ). i * width_of n < n) j f.some some;
         long = length-set l j x ∙ f.long;
-        long-places = length-set p j at ∙ f.long-places;
+        long_places = length-set p j at ∙ f.long_places;
         firsts =
             below_more (λ (i : ℕ). InBlock d n i (entry_at (set p j at) i) (entry_at (set l j x) i)) j
             (λ i h.
             let other : i ≢ j = λ e. absurd (omega arith) in
             rw (get_or-set_other p j i at 0 other, get_or-set_other l j i x 0 other) (f.firsts i h))
-            (rw (get_or-set_same p j at 0 (omega (arith, f.long-places)), get_or-set_same l j x 0 (omega (arith, f.long))) first);
-        rest = rest-set l l₀ j x f.rest;
-        rest-places = rest-set p p₀ j at f.rest-places;
+            (rw (get_or-set_same p j at 0 (omega (arith, f.long_places)), get_or-set_same l j x 0 (omega (arith, f.long))) first);
+        rest = rest_set l l₀ j x f.rest;
+        rest_places = rest_set p p₀ j at f.rest_places;
       }
 
   pub all_found : n ≤ j * width_of n → LeastsFound d n l₀ p₀ j l p
@@ -64,9 +64,9 @@ module _ {d : List ℕ} {n : ℕ} {l₀ p₀ : List ℕ} {j : ℕ} {l p : List �
               all = all;
               some = f.some;
               long = f.long;
-              long-places = f.long-places;
+              long_places = f.long_places;
               firsts = f.firsts;
             };
         rest = f.rest;
-        rest-places = f.rest-places;
+        rest_places = f.rest_places;
       }

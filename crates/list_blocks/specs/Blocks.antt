@@ -14,16 +14,16 @@ abbrev pub width_of : ℕ → ℕ
 width_of n = n / 64 + 16
 
 -- where block j of the first n numbers begins, and the block
-abbrev pub blockStart : ℕ → ℕ → ℕ
-blockStart n j = min (j * width_of n) n
+abbrev pub block_start : ℕ → ℕ → ℕ
+block_start n j = min (j * width_of n) n
 
 abbrev pub block_of : List ℕ → ℕ → ℕ → List ℕ
-block_of d n j = take (blockStart n (suc j) - blockStart n j) (drop (blockStart n j) d)
+block_of d n j = take (block_start n (suc j) - block_start n j) (drop (block_start n j) d)
 
 -- `at` is the place of the first smallest number of block j, and x that number; of an empty block, its beginning and gone
 pub record InBlock (d : List ℕ) (n j at x : ℕ) : Type 0 where
-  pub from : blockStart n j ≤ at
-  pub within : LowestOf (block_of d n j) (length (block_of d n j)) gone (record { at = at - blockStart n j; bound = x })
+  pub from : block_start n j ≤ at
+  pub within : LowestOf (block_of d n j) (length (block_of d n j)) gone (record { at = at - block_start n j; bound = x })
 
 -- the first n numbers are `count` blocks, and l and p hold the first smallest number of each and its place
 pub record Blocked (d : List ℕ) (n count : ℕ) (l p : List ℕ) : Type 0 where
@@ -31,14 +31,14 @@ pub record Blocked (d : List ℕ) (n count : ℕ) (l p : List ℕ) : Type 0 wher
   pub all : n ≤ count * width_of n
   pub some : (j : ℕ) → j < count → j * width_of n < n
   pub long : length l ≡ 64
-  pub long-places : length p ≡ 64
+  pub long_places : length p ≡ 64
   pub firsts : (j : ℕ) → j < count → InBlock d n j (entry_at p j) (entry_at l j)
 
 -- l and p are those, and were l₀ and p₀; behind the blocks they are as they were
 pub record LeastsFound (d : List ℕ) (n : ℕ) (l₀ p₀ : List ℕ) (count : ℕ) (l p : List ℕ) : Type 0 where
   pub blocked : Blocked d n count l p
   pub rest : drop count l ≡ drop count l₀
-  pub rest-places : drop count p ≡ drop count p₀
+  pub rest_places : drop count p ≡ drop count p₀
 
 -- r is the first smallest of the first `count` numbers of l, with the place that p has beside it
 pub record SpotOf (l p : List ℕ) (count : ℕ) (r : Spot) : Type 0 where

@@ -1,7 +1,7 @@
 // The first smallest of many numbers, of which some were taken out, by blocks of which each has its first smallest known: these are read,
 // and where one is taken out the numbers of its block.
 ghost use Rattle.std.specs.Prelude.{◌≡◌, ◌≤◌, ◌<◌, min, length};
-ghost use Rattle.list_blocks.specs.Blocks.{blockStart, InBlock, LeastsFound, SpotOf, TakenAway};
+ghost use Rattle.list_blocks.specs.Blocks.{block_start, InBlock, LeastsFound, SpotOf, TakenAway};
 
 use list_first_smallest::{Lowest, lower_bound};
 use numbers::smaller;
@@ -32,7 +32,7 @@ fn known(leasts: Leasts, places: Places)
 // Where block j of n numbers begins; behind the last, n.
 fn begins(n: usize, j: usize) -> usize
     requires { (j ≤ 64) × (n < 2305843009213693952) }
-    ensures { result ≡ blockStart n j }
+    ensures { result ≡ block_start n j }
 {
     smaller(j * (n / 64 + 16), n)
 }

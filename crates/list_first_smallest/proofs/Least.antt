@@ -11,17 +11,17 @@ module _ (d : List ℕ) where
   least_start =
       record {
         inside = omega arith;
-        none-smaller = λ k h. let e : k ≡ 0 = omega arith in rw e (omega arith);
+        none_smaller = λ k h. let e : k ≡ 0 = omega arith in rw e (omega arith);
         first = λ k h. absurd (omega arith);
       }
 
   module _ (i at : ℕ) (g : FirstLeast d i at) where
-    pub least-new : entry_at d i < entry_at d at → FirstLeast d (i + 1) i
-    least-new less =
-        let before : (k : ℕ) → k < i → entry_at d i < entry_at d k = λ k h. omega (arith, g.none-smaller k h) in
+    pub least_new : entry_at d i < entry_at d at → FirstLeast d (i + 1) i
+    least_new less =
+        let before : (k : ℕ) → k < i → entry_at d i < entry_at d k = λ k h. omega (arith, g.none_smaller k h) in
         record {
           inside = omega arith;
-          none-smaller = below_more (λ (k : ℕ). entry_at d i ≤ entry_at d k) i (λ k h. omega (arith, before k h)) (omega arith);
+          none_smaller = below_more (λ (k : ℕ). entry_at d i ≤ entry_at d k) i (λ k h. omega (arith, before k h)) (omega arith);
           first = before;
         }
 
@@ -30,6 +30,6 @@ module _ (d : List ℕ) where
     least_kept more =
         record {
           inside = omega (arith, g.inside);
-          none-smaller = below_more (λ (k : ℕ). entry_at d at ≤ entry_at d k) i g.none-smaller more;
+          none_smaller = below_more (λ (k : ℕ). entry_at d at ≤ entry_at d k) i g.none_smaller more;
           first = g.first;
         }

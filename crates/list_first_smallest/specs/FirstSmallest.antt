@@ -9,7 +9,7 @@ entry_at d k = get_or d k 0
 -- `at` is the place of the first smallest of the first n entries
 pub record FirstLeast (d : List ℕ) (n at : ℕ) : Type 0 where
   pub inside : at < n
-  pub none-smaller : (k : ℕ) → k < n → entry_at d at ≤ entry_at d k
+  pub none_smaller : (k : ℕ) → k < n → entry_at d at ≤ entry_at d k
   pub first : (k : ℕ) → k < at → entry_at d at < entry_at d k
 
 -- "L is C if the list is empty, else the smallest bound in it", with the place of "the first box with the smallest bound"

@@ -13,29 +13,29 @@ use borrow.Author.Tests.{eq-eqb, ne_eqb, lt-ltb, le-ltb}
 use lib.Dec.{eqb}
 use Rattle.integers.specs.Lists.{All, none, also}
 use Rattle.integers.proofs.Lists.{all_append}
-use Rattle.integers.proofs.Tests.{le-or-lt}
-use Rattle.certificate.specs.Search.{keepIf}
-use Rattle.certificate.proofs.Lists.{append-kept}
-use Rattle.list_open_boxes.specs.OpenBoxes.{othersThan, picked, number}
+use Rattle.integers.proofs.Tests.{le_or_lt}
+use Rattle.certificate.specs.Search.{keep_if}
+use Rattle.certificate.proofs.Lists.{append_kept}
+use Rattle.list_open_boxes.specs.OpenBoxes.{others_than, picked, number}
 
 pub one_at_most : (k : Bool) → cond k 1 0 ≤ 1
 one_at_most true = omega arith
 one_at_most false = omega arith
 
-if-length : {A : Type 0} (k : Bool) (x : A) → length (cond k (x ∷ []) []) ≡ cond k 1 0
-if-length true x = refl
-if-length false x = refl
+if_length : {A : Type 0} (k : Bool) (x : A) → length (cond k (x ∷ []) []) ≡ cond k 1 0
+if_length true x = refl
+if_length false x = refl
 
-pub if-map : {A C : Type 0} (h : A → C) (k : Bool) (x : A) → map h (cond k (x ∷ []) []) ≡ cond k (h x ∷ []) []
-if-map h true x = refl
-if-map h false x = refl
+pub if_map : {A C : Type 0} (h : A → C) (k : Bool) (x : A) → map h (cond k (x ∷ []) []) ≡ cond k (h x ∷ []) []
+if_map h true x = refl
+if_map h false x = refl
 
 -- One more behind a list of which as many are taken as there is room for: it is taken too where there is room left.
 module _ {A : Type 0} (room : ℕ) (xs : List A) (x : A) where
-  pub taken-one : (kept : Bool) →
+  pub taken_one : (kept : Bool) →
       take room (xs ++ cond kept (x ∷ []) []) ≡ take room xs ++ cond (kept && ltb (length (take room xs)) room) (x ∷ []) []
-  taken-one false = rw (append-nil xs, append-nil (take room xs))
-  taken-one true =
+  taken_one false = rw (append-nil xs, append-nil (take room xs))
+  taken_one true =
       let few = length-take room xs in
       ⊎_elim
       (λ (full : room ≤ length xs).
@@ -43,7 +43,7 @@ module _ {A : Type 0} (room : ℕ) (xs : List A) (x : A) where
       (λ (free : length xs < room).
       rw (lt-ltb (length (take room xs)) room (omega arith))
       (take_all room (xs ++ (x ∷ [])) (omega (arith, length-append xs (x ∷ []))) ∙ rw (take_all room xs (omega arith))))
-      (le-or-lt room (length xs))
+      (le_or_lt room (length xs))
 
 pub picked_more : {A : Type 0} (f : ℕ → A) (q : ℕ → Bool) (n : ℕ) → picked f q (n + 1) ≡ picked f q n ++ cond (q n) (f n ∷ []) []
 unfolding picked
@@ -53,25 +53,25 @@ pub number_more : (q : ℕ → Bool) (n : ℕ) → number q (n + 1) ≡ number q
 unfolding number
 number_more q n = rw add-one
 
-pub number-few : (q : ℕ → Bool) (n : ℕ) → number q n ≤ n
+pub number_few : (q : ℕ → Bool) (n : ℕ) → number q n ≤ n
 unfolding number
-number-few q zero = omega arith
-number-few q (suc n) = omega (arith, number-few q n, one_at_most (q n))
+number_few q zero = omega arith
+number_few q (suc n) = omega (arith, number_few q n, one_at_most (q n))
 
-pub picked-length : {A : Type 0} (f : ℕ → A) (q : ℕ → Bool) (n : ℕ) → length (picked f q n) ≡ number q n
+pub picked_length : {A : Type 0} (f : ℕ → A) (q : ℕ → Bool) (n : ℕ) → length (picked f q n) ≡ number q n
 unfolding picked number
-picked-length f q zero = refl
-picked-length f q (suc n) =
-    length-append (picked f q n) (cond (q n) (f n ∷ []) []) ∙ omega (arith, picked-length f q n, if-length (q n) (f n))
+picked_length f q zero = refl
+picked_length f q (suc n) =
+    length-append (picked f q n) (cond (q n) (f n ∷ []) []) ∙ omega (arith, picked_length f q n, if_length (q n) (f n))
 
 -- places by places, through a function
-pub picked-map :
+pub picked_map :
     {A C : Type 0} (h : A → C) (f : ℕ → A) (g : ℕ → C) (q : ℕ → Bool) (n : ℕ) → ((k : ℕ) → k < n → q k ≡ true → g k ≡ h (f k)) →
     picked g q n ≡ map h (picked f q n)
 unfolding picked
-picked-map h f g q zero same = refl
-picked-map h f g q (suc n) same =
-    let rest = picked-map h f g q n (λ k l. same k (omega arith)) in
+picked_map h f g q zero same = refl
+picked_map h f g q (suc n) same =
+    let rest = picked_map h f g q n (λ k l. same k (omega arith)) in
     rw (rest, map-append h (picked f q n) (cond (q n) (f n ∷ []) [])) (ap (λ l. map h (picked f q n) ++ l) (last (q n) refl))
   where
     last : (b : Bool) → q n ≡ b → cond b (g n ∷ []) [] ≡ map h (cond b (f n ∷ []) [])
@@ -79,38 +79,38 @@ picked-map h f g q (suc n) same =
     last false e = refl
 
 -- by two tests that agree
-pub picked-agree : {A : Type 0} (f : ℕ → A) (q r : ℕ → Bool) (n : ℕ) → ((k : ℕ) → k < n → q k ≡ r k) → picked f q n ≡ picked f r n
+pub picked_agree : {A : Type 0} (f : ℕ → A) (q r : ℕ → Bool) (n : ℕ) → ((k : ℕ) → k < n → q k ≡ r k) → picked f q n ≡ picked f r n
 unfolding picked
-picked-agree f q r zero agree = refl
-picked-agree f q r (suc n) agree = rw (picked-agree f q r n (λ k l. agree k (omega arith)), agree n (omega arith))
+picked_agree f q r zero agree = refl
+picked_agree f q r (suc n) agree = rw (picked_agree f q r n (λ k l. agree k (omega arith)), agree n (omega arith))
 
 -- what holds of each place that passes holds of all that is picked
-pub all-picked :
+pub all_picked :
     {A : Type 0} {P : A → Type 0} (f : ℕ → A) (q : ℕ → Bool) (n : ℕ) → ((k : ℕ) → k < n → q k ≡ true → P (f k)) → All P (picked f q n)
 unfolding picked
-all-picked f q zero each = none
-all-picked {P} f q (suc n) each = all_append (all-picked f q n (λ k l. each k (omega arith))) (last (q n) refl)
+all_picked f q zero each = none
+all_picked {P} f q (suc n) each = all_append (all_picked f q n (λ k l. each k (omega arith))) (last (q n) refl)
   where
     last : (b : Bool) → q n ≡ b → All P (cond b (f n ∷ []) [])
     last true e = also (each n (omega arith) e) none
     last false e = none
 
 -- what is picked by a further test is what that test keeps
-pub picked-kept :
+pub picked_kept :
     {A : Type 0} (p : A → Bool) (f : ℕ → A) (q o : ℕ → Bool) (n : ℕ) → ((k : ℕ) → k < n → q k ≡ cond (o k) (p (f k)) false) →
-    picked f q n ≡ keepIf p (picked f o n)
+    picked f q n ≡ keep_if p (picked f o n)
 unfolding picked
-picked-kept p f q o zero decides = refl
-picked-kept p f q o (suc n) decides =
+picked_kept p f q o zero decides = refl
+picked_kept p f q o (suc n) decides =
     rw (
-      picked-kept p f q o n (λ k l. decides k (omega arith)),
+      picked_kept p f q o n (λ k l. decides k (omega arith)),
       decides n (omega arith),
-      append-kept p (picked f o n)
+      append_kept p (picked f o n)
           (cond (o n) (f n ∷ []) []),
     )
-    (ap (λ l. keepIf p (picked f o n) ++ l) (last (o n)))
+    (ap (λ l. keep_if p (picked f o n) ++ l) (last (o n)))
   where
-    last : (b : Bool) → cond (cond b (p (f n)) false) (f n ∷ []) [] ≡ keepIf p (cond b (f n ∷ []) [])
+    last : (b : Bool) → cond (cond b (p (f n)) false) (f n ∷ []) [] ≡ keep_if p (cond b (f n ∷ []) [])
     last true = refl
     last false = refl
 
@@ -133,7 +133,7 @@ parted f q others at (suc n) less passes same =
     record {
       rest = [];
       whole = rw (e, passes);
-      left = rw (picked-agree f others q n before, same n (omega arith), eq-eqb n at e, e);
+      left = rw (picked_agree f others q n before, same n (omega arith), eq-eqb n at e, e);
     })
     (λ (early : at < n).
     let p = parted f q others at n early passes (λ k l. same k (omega arith)) in
@@ -143,7 +143,7 @@ parted f q others at (suc n) less passes same =
       whole = rw p.whole (append_assoc (picked f q at) (f at ∷ p.rest) tail);
       left = rw (p.left, same n (omega arith), ne_eqb n at (λ x. absurd (omega arith))) (append_assoc (picked f q at) p.rest tail);
     })
-    (le-or-lt n at)
+    (le_or_lt n at)
 
 -- where all places pass, all is picked
 pub picked_all : {A : Type 0} (f : ℕ → A) (q : ℕ → Bool) (n : ℕ) → ((k : ℕ) → k < n → q k ≡ true) → picked f q n ≡ picked f (λ k. true) n
@@ -151,29 +151,29 @@ unfolding picked
 picked_all f q zero all = refl
 picked_all f q (suc n) all = rw (picked_all f q n (λ k h. all k (omega arith)), all n (omega arith))
 
-picked-whole : {A : Type 0} (f : ℕ → A) (q : ℕ → Bool) (n : ℕ) → ((k : ℕ) → k < n → q k ≡ true) → length (picked f q n) ≡ n
+picked_whole : {A : Type 0} (f : ℕ → A) (q : ℕ → Bool) (n : ℕ) → ((k : ℕ) → k < n → q k ≡ true) → length (picked f q n) ≡ n
 unfolding picked
-picked-whole f q zero all = refl
-picked-whole f q (suc n) all =
-    rw (all n (omega arith)) (length-append (picked f q n) (f n ∷ []) ∙ omega (arith, picked-whole f q n (λ k h. all k (omega arith))))
+picked_whole f q zero all = refl
+picked_whole f q (suc n) all =
+    rw (all n (omega arith)) (length-append (picked f q n) (f n ∷ []) ∙ omega (arith, picked_whole f q n (λ k h. all k (omega arith))))
 
 -- up to a place that does not pass, all stand where they stood
-pub picked-at :
+pub picked_at :
     {A : Type 0} (f : ℕ → A) (q : ℕ → Bool) (x : A) (k n : ℕ) → k < n → ((j : ℕ) → j ≤ k → q j ≡ true) →
     (k < length (picked f q n)) × (get_or (picked f q n) k x ≡ f k)
 unfolding picked
-picked-at f q x k zero less all = absurd (omega arith)
-picked-at f q x k (suc n) less all =
+picked_at f q x k zero less all = absurd (omega arith)
+picked_at f q x k (suc n) less all =
     ⊎_elim
     (λ (last : n ≤ k).
     let e : k ≡ n = omega arith in
-    let before = picked-whole f q n (λ j h. all j (omega arith)) in
+    let before = picked_whole f q n (λ j h. all j (omega arith)) in
     rw (e, all n last) (omega (arith, length-append (picked f q n) (f n ∷ [])), get_or_at (picked f q n) (f n) [] x n before))
     (λ (early : k < n).
-    let p = picked-at f q x k n early all in
+    let p = picked_at f q x k n early all in
     let rest = cond (q n) (f n ∷ []) [] in
     (omega (arith, p.0, length-append (picked f q n) rest), get_or-append (picked f q n) rest x k p.0 ∙ p.1))
-    (le-or-lt n k)
+    (le_or_lt n k)
 
 -- where two things agree at each place, what is picked of them is the same
 pub picked_same : {A : Type 0} (f g : ℕ → A) (q : ℕ → Bool) (n : ℕ) → ((k : ℕ) → k < n → g k ≡ f k) → picked g q n ≡ picked f q n
@@ -181,27 +181,27 @@ unfolding picked
 picked_same f g q zero same = refl
 picked_same f g q (suc n) same = rw (picked_same f g q n (λ k h. same k (omega arith)), same n (omega arith))
 
-pub other : (at k : ℕ) → (k ≡ at → ⊥) → othersThan at k ≡ true
+pub other : (at k : ℕ) → (k ≡ at → ⊥) → others_than at k ≡ true
 other at k ne = rw (ne_eqb k at ne)
 
 -- all but one place, where what stands behind it has moved by one
-pub picked-moved :
+pub picked_moved :
     {A : Type 0} (f g : ℕ → A) (at m : ℕ) → at ≤ m →
     ((j : ℕ) → j < at → g j ≡ f j) →
     ((j : ℕ) → at ≤ j → j < m → g j ≡ f (j + 1)) →
-    picked f (othersThan at) (suc m) ≡ picked g (λ k. true) m
+    picked f (others_than at) (suc m) ≡ picked g (λ k. true) m
 unfolding picked
-picked-moved f g at zero few before behind = let e : at ≡ 0 = omega arith in rw e
-picked-moved f g at (suc m) few before behind =
+picked_moved f g at zero few before behind = let e : at ≡ 0 = omega arith in rw e
+picked_moved f g at (suc m) few before behind =
     ⊎_elim
     (λ (last : suc m ≤ at).
     let e : suc m ≡ at = omega arith in
     rw (eq-eqb (suc m) at e)
-    (append-nil (picked f (othersThan at) (suc m))
-    ∙ picked_all f (othersThan at) (suc m) (λ k h. other at k (λ same. absurd (omega arith)))
+    (append-nil (picked f (others_than at) (suc m))
+    ∙ picked_all f (others_than at) (suc m) (λ k h. other at k (λ same. absurd (omega arith)))
     ∙ sym (picked_same f g (λ k. true) (suc m) (λ k h. before k (omega arith)))))
     (λ (past : at < suc m).
-    let rest = picked-moved f g at m (omega arith) before (λ j h k. behind j h (omega arith)) in
+    let rest = picked_moved f g at m (omega arith) before (λ j h k. behind j h (omega arith)) in
     let here : g m ≡ f (suc m) = rw add-one at (behind m (omega arith) (omega arith)) in
     rw (ne_eqb (suc m) at (λ same. absurd (omega arith)), here) (ap (λ l. l ++ (f (suc m) ∷ [])) rest))
-    (le-or-lt (suc m) at)
+    (le_or_lt (suc m) at)

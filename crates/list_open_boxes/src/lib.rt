@@ -3,8 +3,8 @@ ghost use Rattle.std.specs.Prelude.{◌≡◌, cond, ◌++◌, ◌+◌, ◌-◌,
 ghost use Rattle.std.proofs.Math.Seq.{paste};
 ghost use Rattle.certificate.specs.Search.{ahead};
 ghost use Rattle.list_first_smallest.specs.FirstSmallest.{entry_at};
-ghost use Rattle.list_rows.specs.Rows.{rowCount, row_at, rows_of, with_row};
-ghost use Rattle.list_open_boxes.specs.OpenBoxes.{Held, Settled, fits, kept_at, number, othersThan, picked, roomIn};
+ghost use Rattle.list_rows.specs.Rows.{row_count, row_at, rows_of, with_row};
+ghost use Rattle.list_open_boxes.specs.OpenBoxes.{Held, Settled, fits, kept_at, number, others_than, picked, room_in};
 
 use incumbent::{Child, Mark, ahead};
 use numbers::smaller;
@@ -27,7 +27,7 @@ fn keeps(table: &[i16], i: usize, bound: u64, mark: Mark) -> bool
 // How many of the first n boxes are kept.
 pub fn keeping(table: &[i16], bounds: &[u64], n: usize, mark: Mark) -> usize
     ensures { result
-        ≡ number (kept_at table.now bounds.now mark) (min n (roomIn table.now bounds.now)) }
+        ≡ number (kept_at table.now bounds.now mark) (min n (room_in table.now bounds.now)) }
 {
     let listed = smaller(n, smaller(table.len() / 16, bounds.len()));
     let mut kept = 0;
@@ -43,7 +43,7 @@ pub fn keeping(table: &[i16], bounds: &[u64], n: usize, mark: Mark) -> usize
 
 // Moves a box and its bound from one row to another, no later one.
 fn move_box(table: &mut [i16], bounds: &mut [u64], i: usize, to: usize)
-    requires { (to ≤ i) × (i < rowCount table.old) × (i < length bounds.old) }
+    requires { (to ≤ i) × (i < row_count table.old) × (i < length bounds.old) }
     ensures table { table.new ≡ with_row table.old to (row_at table.old i) }
     ensures bounds { bounds.new ≡ set bounds.old to (get_or bounds.old i 0) }
 {
@@ -55,7 +55,7 @@ fn move_box(table: &mut [i16], bounds: &mut [u64], i: usize, to: usize)
 
 // Of the first n boxes those that are kept become the first, in order.
 fn sort_out(table: &mut [i16], bounds: &mut [u64], n: usize, mark: Mark) -> usize
-    requires { n ≤ roomIn table.old bounds.old }
+    requires { n ≤ room_in table.old bounds.old }
     ensures { Held table.old bounds.old n
         (picked (row_at table.old) (kept_at table.old bounds.old mark) n)
         (picked (entry_at bounds.old) (kept_at table.old bounds.old mark) n)
@@ -89,9 +89,9 @@ fn slide_entries(part: &mut [u64])
 // Takes the box in row `at` out of the first n: those behind it move by one row, and nothing before it is read. Of n boxes as many are
 // meant as there is room for.
 pub fn take_out(table: &mut [i16], bounds: &mut [u64], n: usize, at: usize) -> usize
-    ensures { Held table.old bounds.old (min n (roomIn table.old bounds.old))
-        (picked (row_at table.old) (othersThan at) (min n (roomIn table.old bounds.old)))
-        (picked (entry_at bounds.old) (othersThan at) (min n (roomIn table.old bounds.old)))
+    ensures { Held table.old bounds.old (min n (room_in table.old bounds.old))
+        (picked (row_at table.old) (others_than at) (min n (room_in table.old bounds.old)))
+        (picked (entry_at bounds.old) (others_than at) (min n (room_in table.old bounds.old)))
         result table.new bounds.new }
 {
     let listed = smaller(n, smaller(table.len() / 16, bounds.len()));
@@ -135,12 +135,12 @@ fn append(
     m: usize,
     mark: Mark,
 ) -> usize
-    requires { (n ≤ roomIn table.old bounds.old) × (m ≤ length beside.now) }
+    requires { (n ≤ room_in table.old bounds.old) × (m ≤ length beside.now) }
     ensures { Held table.old bounds.old result
-        (take (roomIn table.old bounds.old)
+        (take (room_in table.old bounds.old)
         (rows_of table.old n
         ++ picked (row_at late.now) (kept_at late.now beside.now mark) m))
-        (take (roomIn table.old bounds.old)
+        (take (room_in table.old bounds.old)
         (take n bounds.old
         ++ picked (entry_at beside.now) (kept_at late.now beside.now mark) m))
         result table.new bounds.new }
@@ -168,8 +168,8 @@ pub fn settle(
     m: usize,
     mark: Mark,
 ) -> usize
-    ensures { Settled table.old bounds.old (min n (roomIn table.old bounds.old))
-        late.now beside.now (min m (roomIn late.now beside.now))
+    ensures { Settled table.old bounds.old (min n (room_in table.old bounds.old))
+        late.now beside.now (min m (room_in late.now beside.now))
         mark result table.new bounds.new }
 {
     let listed = smaller(n, smaller(table.len() / 16, bounds.len()));

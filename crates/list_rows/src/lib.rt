@@ -1,7 +1,7 @@
 // The rows of a search's table, a lent slice of signed 16-bit numbers: each box is its own 16-number part, low then high.
 ghost use Rattle.std.specs.Prelude.{◌≡◌, ◌++◌, ◌+◌, ◌-◌, ◌≤◌, ◌<◌, length, take, drop};
 ghost use Rattle.std.proofs.Math.Seq.{paste};
-ghost use Rattle.list_rows.specs.Rows.{rowCount, row_at, with_row, withMoved, withoutRow};
+ghost use Rattle.list_rows.specs.Rows.{row_count, row_at, with_row, with_moved, without_row};
 
 use boxes::Box;
 
@@ -21,7 +21,7 @@ fn vector_at(table: &[i16], at: usize) -> [i16; 8]
 
 // The box in row i, which the table has.
 fn box_at(table: &[i16], i: usize) -> Box
-    requires { i < rowCount table.now }
+    requires { i < row_count table.now }
     ensures { result ≡ row_at table.now i }
 {
     let at = 16 * i;
@@ -71,7 +71,7 @@ pub fn write_row(table: &mut [i16], i: usize, b: Box)
 
 // Writes the box in row i as the earlier row `to` too. Where the table has no row i, or `to` is not before it, nothing changes.
 pub fn move_row(table: &mut [i16], i: usize, to: usize)
-    ensures { table.new ≡ withMoved table.old i to }
+    ensures { table.new ≡ with_moved table.old i to }
 {
     if to < i {
         if i < table.len() / 16 {
@@ -97,7 +97,7 @@ fn slide(part: &mut [i16])
 // Takes row i out of the first n: those behind it move by one row, and the last of them stays where it was too. Where the table has no n
 // rows, or i is none of them, nothing changes.
 pub fn take_row(table: &mut [i16], i: usize, n: usize)
-    ensures { table.new ≡ withoutRow table.old i n }
+    ensures { table.new ≡ without_row table.old i n }
 {
     if i < n {
         if n <= table.len() / 16 {

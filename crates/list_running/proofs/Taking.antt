@@ -13,14 +13,14 @@ use Rattle.boxes.specs.declared.Box.{Box}
 use Rattle.list_rows.specs.Rows.{row_at}
 use Rattle.list_first_smallest.specs.FirstSmallest.{entry_at}
 use Rattle.list_blocks.specs.Blocks.{gone}
-use Rattle.list_open_boxes.specs.OpenBoxes.{othersThan, roomIn}
-use Rattle.list_open_boxes.proofs.Picking.{picked-map}
-use Rattle.certificate.specs.Search.{firstSmallest, without}
+use Rattle.list_open_boxes.specs.OpenBoxes.{others_than, room_in}
+use Rattle.list_open_boxes.proofs.Picking.{picked_map}
+use Rattle.certificate.specs.Search.{first_smallest, without}
 use Rattle.list_running.specs.declared.Found.{Found}
 use Rattle.list_running.specs.declared.Listing.{Listing}
 use Rattle.list_running.specs.Listing.{open_at, TakenBy, Listed, Chosen}
-use Rattle.list_blocks.proofs.Blocks.{spot-taken}
-use Rattle.list_running.proofs.Entries.{entry-is, one_answer, open-others}
+use Rattle.list_blocks.proofs.Blocks.{spot_taken}
+use Rattle.list_running.proofs.Entries.{entry_is, one_answer, open_others}
 
 module _
     (bound : Box → ℕ) (t : List ℤ) (d l p : List ℕ) (v : List ℤ) (f : List ℕ) (g : Listing) (list : List Box)
@@ -28,7 +28,7 @@ module _
     (a : Listing) (e m q : List ℕ) (w : List ℤ) (k : List ℕ) (by : TakenBy d l p v f g r a e m q w k)
   where
     abbrev left : List Box
-    left = without list (firstSmallest bound list)
+    left = without list (first_smallest bound list)
 
     same_rows : a.rows ≡ g.rows
     same_rows = ap (λ (x : Listing). x.rows) by.sizes
@@ -39,7 +39,7 @@ module _
     -- one less
     number : a.number ≡ length left
     number =
-        let at = firstSmallest bound list in
+        let at = first_smallest bound list in
         omega (
           arith,
           ap (λ (x : Listing). x.number) by.sizes,
@@ -50,38 +50,38 @@ module _
           length-drop (suc at) list,
         )
 
-    late-all : min g.late (roomIn v f) ≡ g.late
-    late-all = omega (arith, h.late-room)
+    late_all : min g.late (room_in v f) ≡ g.late
+    late_all = omega (arith, h.late_room)
 
     rows_all : min g.rows (length d) ≡ g.rows
     rows_all = omega (arith, h.room)
 
-    late-taken : r.late ≡ true → Listed bound t e m q w k a left
-    late-taken is =
-        let same = by.late-same is in
-        let held = rw late-all at (by.late-held is) in
-        let others = othersThan r.spot.at in
-        let few : a.late ≤ length k = omega (arith, held.few, held.long-entries, h.late-room) in
+    late_taken : r.late ≡ true → Listed bound t e m q w k a left
+    late_taken is =
+        let same = by.late_same is in
+        let held = rw late_all at (by.late_held is) in
+        let others = others_than r.spot.at in
+        let few : a.late ≤ length k = omega (arith, held.few, held.long_entries, h.late_room) in
         let all : min a.late (length k) ≡ a.late = omega arith in
         rw (same.0, same.1.0, same.1.1)
         (record {
           is = rw (same_rows, held.rows) (sym (rw is at chosen.left));
           number = number;
           bounds = rw same_rows h.bounds;
-          late-bounds =
+          late_bounds =
               held.entries
-              ∙ picked-map bound (row_at v) (entry_at f) others g.late (λ j less x. entry-is bound v f g.late h.late-bounds j less)
+              ∙ picked_map bound (row_at v) (entry_at f) others g.late (λ j less x. entry_is bound v f g.late h.late_bounds j less)
               ∙ ap (map bound) (sym held.rows);
           room = rw same_rows h.room;
-          late-room = omega (arith, held.few, held.long, held.long-entries, h.late-room);
+          late_room = omega (arith, held.few, held.long, held.long_entries, h.late_room);
           blocked = rw (same_rows, same_blocks) h.blocked;
-          near = rw all at (by.late-near is);
+          near = rw all at (by.late_near is);
         })
 
-    row-taken : r.late ≡ false → Listed bound t e m q w k a left
-    row-taken is =
+    row_taken : r.late ≡ false → Listed bound t e m q w k a left
+    row_taken is =
         let same = by.row_same is in
-        let away = rw rows_all at (by.row-gone is) in
+        let away = rw rows_all at (by.row_gone is) in
         let at = r.spot.at in
         let inside : at < length d = omega (arith, chosen.row is, h.room) in
         let longs : length e ≡ length d = ap (λ (x : List ℕ). length x) away.entries ∙ length-set d at gone in
@@ -89,36 +89,36 @@ module _
         (record {
           is = rw (same_rows, same.0, away.entries) (sym (rw is at chosen.left));
           number = number;
-          bounds = λ j less opens. still-there inside away.entries j (omega (arith, same_rows)) opens;
-          late-bounds = rw same.0 h.late-bounds;
+          bounds = λ j less opens. still_there inside away.entries j (omega (arith, same_rows)) opens;
+          late_bounds = rw same.0 h.late_bounds;
           room = omega (arith, same_rows, longs, h.room);
-          late-room = omega (arith, same.0, h.late-room);
+          late_room = omega (arith, same.0, h.late_room);
           blocked =
               rw (same_rows, same_blocks)
-              (spot-taken d g.rows g.blocks l p r.spot (omega (arith, h.room)) (omega (arith, chosen.row is)) h.blocked
+              (spot_taken d g.rows g.blocks l p r.spot (omega (arith, h.room)) (omega (arith, chosen.row is)) h.blocked
               (chosen.spot is) e m q away);
           near = rw (same.0, same.1.0) h.near;
         })
       where
         -- a row that is still open is another one
-        still-there :
+        still_there :
             r.spot.at < length d → e ≡ set d r.spot.at gone → (j : ℕ) → j < g.rows → open_at e j ≡ true →
             entry_at e j ≡ bound (row_at t j)
-        still-there inside is j less opens = go (eqb j at) refl
+        still_there inside is j less opens = go (eqb j at) refl
           where
             at : ℕ
             at = r.spot.at
 
             tested : cond (eqb j at) false (open_at d j) ≡ true
-            tested = sym (open-others d at inside j) ∙ rw is at opens
+            tested = sym (open_others d at inside j) ∙ rw is at opens
 
             go : (b : Bool) → eqb j at ≡ b → entry_at e j ≡ bound (row_at t j)
             go true same = absurd (one_answer (sym (rw same at tested)))
             go false other = rw is (get_or-set_other d at j gone 0 (eqb-false j at other)) ∙ h.bounds j less (rw other at tested)
 
     pub taken : Listed bound t e m q w k a left
-    taken = by-late r.late refl
+    taken = by_late r.late refl
       where
-        by-late : (b : Bool) → r.late ≡ b → Listed bound t e m q w k a left
-        by-late true is = late-taken is
-        by-late false is = row-taken is
+        by_late : (b : Bool) → r.late ≡ b → Listed bound t e m q w k a left
+        by_late true is = late_taken is
+        by_late false is = row_taken is

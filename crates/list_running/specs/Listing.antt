@@ -9,8 +9,8 @@ use Rattle.list_first_smallest.specs.FirstSmallest.{entry_at, LowestOf}
 use Rattle.list_blocks.specs.declared.Spot.{Spot}
 use Rattle.list_blocks.specs.Blocks.{gone, Blocked, LeastsFound, SpotOf, TakenAway}
 use Rattle.incumbent.specs.declared.Mark.{Mark}
-use Rattle.list_open_boxes.specs.OpenBoxes.{othersThan, picked, roomIn, Held, Settled}
-use Rattle.certificate.specs.Search.{firstSmallest, boxAt, without}
+use Rattle.list_open_boxes.specs.OpenBoxes.{others_than, picked, room_in, Held, Settled}
+use Rattle.certificate.specs.Search.{first_smallest, box_at, without}
 use Rattle.list_running.specs.declared.Found.{Found}
 use Rattle.list_running.specs.declared.Listing.{Listing}
 
@@ -27,19 +27,19 @@ abbrev pub list_of : List ℤ → List ℕ → List ℤ → Listing → List Box
 list_of t d v g = open_rows t d g.rows ++ rows_of v g.late
 
 -- the box that was found, and what is left of the list without it
-abbrev pub boxIn : List ℤ → List ℤ → Found → Box
-boxIn t v found = cond found.late (row_at v found.spot.at) (row_at t found.spot.at)
+abbrev pub box_in : List ℤ → List ℤ → Found → Box
+box_in t v found = cond found.late (row_at v found.spot.at) (row_at t found.spot.at)
 
 abbrev pub left_of : List ℤ → List ℕ → List ℤ → Listing → Found → List Box
 left_of t d v g found =
     cond found.late
-    (open_rows t d g.rows ++ picked (row_at v) (othersThan found.spot.at) g.late)
+    (open_rows t d g.rows ++ picked (row_at v) (others_than found.spot.at) g.late)
     (open_rows t (set d found.spot.at gone) g.rows ++ rows_of v g.late)
 
 -- What is found, whatever the leasts l and the places p beside them are: the smaller of what they have and the near one, or c.
 pub record FoundBy (l p : List ℕ) (g : Listing) (c : ℕ) (r : Found) : Type 0 where
   pub far : Spot
-  pub far-is : SpotOf l p (min g.blocks 64) far
+  pub far_is : SpotOf l p (min g.blocks 64) far
   pub is :
       r
       ≡ cond (eqb g.number 0) (record { late = false; spot = record { at = 0; block = 0; bound = c } })
@@ -54,16 +54,16 @@ pub record TakenBy
     (r : Listing) (e m q : List ℕ) (w : List ℤ) (h : List ℕ) : Type 0
   where
     pub sizes : r ≡ record { rows = g.rows; blocks = g.blocks; late = r.late; near = r.near; number = g.number - 1 }
-    pub late-same : found.late ≡ true → (e ≡ d) × ((m ≡ l) × (q ≡ p))
-    pub late-held :
+    pub late_same : found.late ≡ true → (e ≡ d) × ((m ≡ l) × (q ≡ p))
+    pub late_held :
         found.late ≡ true →
-        Held v f (min g.late (roomIn v f))
-        (picked (row_at v) (othersThan found.spot.at) (min g.late (roomIn v f)))
-        (picked (entry_at f) (othersThan found.spot.at) (min g.late (roomIn v f)))
+        Held v f (min g.late (room_in v f))
+        (picked (row_at v) (others_than found.spot.at) (min g.late (room_in v f)))
+        (picked (entry_at f) (others_than found.spot.at) (min g.late (room_in v f)))
         r.late w h
-    pub late-near : found.late ≡ true → LowestOf h (min r.late (length h)) gone r.near
+    pub late_near : found.late ≡ true → LowestOf h (min r.late (length h)) gone r.near
     pub row_same : found.late ≡ false → (r.late ≡ g.late) × ((r.near ≡ g.near) × ((w ≡ v) × (h ≡ f)))
-    pub row-gone : found.late ≡ false → TakenAway d (min g.rows (length d)) l p found.spot e m q
+    pub row_gone : found.late ≡ false → TakenAway d (min g.rows (length d)) l p found.spot e m q
 
 -- All boxes that are kept are the first rows of the table u, with the entries e, the leasts m and the places q, which were t, d, l and p.
 pub record SettledBy
@@ -71,15 +71,15 @@ pub record SettledBy
     (r : Listing) (u : List ℤ) (e m q : List ℕ) : Type 0
   where
     pub sizes : r ≡ record { rows = r.rows; blocks = r.blocks; late = 0; near = record { at = 0; bound = gone }; number = r.rows }
-    pub held : Settled t d (min g.rows (roomIn t d)) v f (min g.late (roomIn v f)) mark r.rows u e
+    pub held : Settled t d (min g.rows (room_in t d)) v f (min g.late (room_in v f)) mark r.rows u e
     pub leasts : LeastsFound e (min r.rows (length e)) l p r.blocks m q
 
 -- the near one where there is one more late box, with the number x beside it
 abbrev pub nearer : Lowest → ℕ → ℕ → Lowest
 nearer near at x = cond (ltb x near.bound) (record { at = at; bound = x }) near
 
-abbrev pub withLate : Listing → ℕ → Listing
-withLate g x =
+abbrev pub with_late : Listing → ℕ → Listing
+with_late g x =
     record { rows = g.rows; blocks = g.blocks; late = g.late + 1; near = nearer g.near g.late x; number = g.number + 1 }
 
 -- The list is held, with the bound of each box beside it.
@@ -87,9 +87,9 @@ pub record Listed (bound : Box → ℕ) (t : List ℤ) (d l p : List ℕ) (v : L
   pub is : list_of t d v g ≡ list
   pub number : g.number ≡ length list
   pub bounds : (k : ℕ) → k < g.rows → open_at d k ≡ true → entry_at d k ≡ bound (row_at t k)
-  pub late-bounds : take g.late f ≡ map bound (rows_of v g.late)
-  pub room : g.rows ≤ roomIn t d
-  pub late-room : g.late ≤ roomIn v f
+  pub late_bounds : take g.late f ≡ map bound (rows_of v g.late)
+  pub room : g.rows ≤ room_in t d
+  pub late_room : g.late ≤ room_in v f
   pub blocked : Blocked d g.rows g.blocks l p
   pub near : LowestOf f g.late gone g.near
 
@@ -97,9 +97,9 @@ pub record Listed (bound : Box → ℕ) (t : List ℤ) (d l p : List ℕ) (v : L
 pub record Chosen
     (bound : Box → ℕ) (t : List ℤ) (d l p : List ℕ) (v : List ℤ) (g : Listing) (list : List Box) (found : Found) : Type 0
   where
-    pub box : boxAt list (firstSmallest bound list) ≡ boxIn t v found
-    pub left : without list (firstSmallest bound list) ≡ left_of t d v g found
-    pub inside : firstSmallest bound list < length list
-    pub exact : found.spot.bound ≡ bound (boxIn t v found)
+    pub box : box_at list (first_smallest bound list) ≡ box_in t v found
+    pub left : without list (first_smallest bound list) ≡ left_of t d v g found
+    pub inside : first_smallest bound list < length list
+    pub exact : found.spot.bound ≡ bound (box_in t v found)
     pub row : found.late ≡ false → found.spot.at < g.rows
     pub spot : found.late ≡ false → SpotOf l p g.blocks found.spot

@@ -3,18 +3,18 @@
 use Rattle.std.specs.Prelude.{List, [], ◌∷◌, ℕ, length}
 use Rattle.codes.specs.declared.Check.{Check}
 use Rattle.codes.specs.declared.Outcome.{Outcome}
-use Rattle.codes.specs.Codes.{inOrder, unlessRefused}
-use Rattle.fields.specs.Buffers.{checkRoom, written}
-use Rattle.frames.specs.Frames.{merged, checkBoth}
+use Rattle.codes.specs.Codes.{in_order, unless_refused}
+use Rattle.fields.specs.Buffers.{check_room, written}
+use Rattle.frames.specs.Frames.{merged, check_both}
 
 -- "After the checks below, a union over 4,096 records gets number 1, then a small output 10."
-unfoldable pub checkMerge : List ℕ → List ℕ → List ℕ → Check
-checkMerge first second out = inOrder (checkBoth first second ∷ checkRoom (length (merged first second)) out ∷ [])
+unfoldable pub check_merge : List ℕ → List ℕ → List ℕ → Check
+check_merge first second out = in_order (check_both first second ∷ check_room (length (merged first second)) out ∷ [])
 
 -- "The call returns the outcome's length in bytes"
-unfoldable pub mergeAnswer : List ℕ → List ℕ → List ℕ → Outcome
-mergeAnswer first second out = unlessRefused (checkMerge first second out) (length (merged first second))
+unfoldable pub merge_answer : List ℕ → List ℕ → List ℕ → Outcome
+merge_answer first second out = unless_refused (check_merge first second out) (length (merged first second))
 
 -- "and keeps the output behind it": the output afterwards, at a refusal as it was.
-unfoldable pub outputAfter : List ℕ → List ℕ → List ℕ → List ℕ
-outputAfter first second out = written (checkMerge first second out) (merged first second) out
+unfoldable pub output_after : List ℕ → List ℕ → List ℕ → List ℕ
+output_after first second out = written (check_merge first second out) (merged first second) out

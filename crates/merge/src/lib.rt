@@ -2,14 +2,14 @@
 mod write;
 
 ghost use Rattle.std.specs.Prelude.{◌≡◌};
-ghost use Rattle.merge.specs.Merge.{mergeAnswer, outputAfter};
+ghost use Rattle.merge.specs.Merge.{merge_answer, output_after};
 
 use codes::{Outcome, Refusal};
 
 // The union of both stores' records at the front of the output, and its length in bytes. Nothing is written before all checks have passed.
 pub fn merge(first: &[u8], second: &[u8], out: &mut [u8]) -> Outcome
-    ensures outcome { result ≡ mergeAnswer first.now second.now out.old }
-    ensures output { out.new ≡ outputAfter first.now second.now out.old }
+    ensures outcome { result ≡ merge_answer first.now second.now out.old }
+    ensures output { out.new ≡ output_after first.now second.now out.old }
 {
     match frames::check_both(first, second) {
         Outcome::Refused(r) => Outcome::Refused(r),

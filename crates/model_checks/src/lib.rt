@@ -1,8 +1,8 @@
 // The checks that the calls on a store and a model make, in the order of their numbers.
 ghost use Rattle.std.specs.Prelude.{[], ◌∷◌, ◌≡◌};
-ghost use Rattle.codes.specs.Codes.{inOrder};
-ghost use Rattle.points.specs.Points.{points_of, checkStray};
-ghost use Rattle.model_checks.specs.Checks.{checkModel, checkCost, checkThreshold, checkBound};
+ghost use Rattle.codes.specs.Codes.{in_order};
+ghost use Rattle.points.specs.Points.{points_of, check_stray};
+ghost use Rattle.model_checks.specs.Checks.{check_model, check_cost, check_threshold, check_bound};
 
 use boxes::Box;
 use codes::{Check, in_order};
@@ -10,7 +10,7 @@ use jobs::Model;
 
 // Checks 1 to 4.
 pub fn check_model(store: &[u8], m: Model) -> Check
-    ensures { result ≡ checkModel store.now m }
+    ensures { result ≡ check_model store.now m }
 {
     let first = in_order(
         points::check_store(store.len()),
@@ -25,7 +25,7 @@ pub fn check_model(store: &[u8], m: Model) -> Check
 
 // Check 7 behind others: only a store that passes those is looked through for stray fields.
 fn then_stray(first: Check, store: &[u8], d: u8) -> Check
-    ensures { result ≡ inOrder (first ∷ checkStray d (points_of store.now) ∷ []) }
+    ensures { result ≡ in_order (first ∷ check_stray d (points_of store.now) ∷ []) }
 {
     match first {
         Check::Pass => points::check_stray(store, d),
@@ -35,7 +35,7 @@ fn then_stray(first: Check, store: &[u8], d: u8) -> Check
 
 // The checks of a cost.
 pub fn check_cost(store: &[u8], m: Model, v: [i16; 8]) -> Check
-    ensures { result ≡ checkCost store.now m v }
+    ensures { result ≡ check_cost store.now m v }
 {
     then_stray(
         in_order(check_model(store, m), boxes::check_vector(m.n, m.d, v)),
@@ -46,7 +46,7 @@ pub fn check_cost(store: &[u8], m: Model, v: [i16; 8]) -> Check
 
 // The checks of a call over a vector that takes ε for a threshold.
 pub fn check_threshold(store: &[u8], m: Model, v: [i16; 8]) -> Check
-    ensures { result ≡ checkThreshold store.now m v }
+    ensures { result ≡ check_threshold store.now m v }
 {
     let chosen = in_order(check_model(store, m), loss::check_loss(m.p, m.eps));
     then_stray(
@@ -58,7 +58,7 @@ pub fn check_threshold(store: &[u8], m: Model, v: [i16; 8]) -> Check
 
 // The checks of a bound.
 pub fn check_bound(store: &[u8], m: Model, b: Box) -> Check
-    ensures { result ≡ checkBound store.now m b }
+    ensures { result ≡ check_bound store.now m b }
 {
     then_stray(
         in_order(check_model(store, m), boxes::check_box(m.n, m.d, b)),

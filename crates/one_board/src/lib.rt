@@ -1,8 +1,8 @@
 // One of several jobs: under the budget that it gets, and its search in the table of all.
 ghost use Rattle.std.specs.Prelude.{◌≡◌, ◌/◌, min};
 ghost use Rattle.search.specs.Search.{refused};
-ghost use Rattle.job_records.specs.Jobs.{readJob};
-ghost use Rattle.one_board.specs.Board.{under, boardAnswer, BoardTable, BoardBounds};
+ghost use Rattle.job_records.specs.Jobs.{read_job};
+ghost use Rattle.one_board.specs.Board.{under, board_answer, BoardTable, BoardBounds};
 
 use codes::Refusal;
 use jobs::Job;
@@ -33,7 +33,7 @@ fn share(left: u32, waiting: u32) -> u32
 // The job of a record, under the smaller of its own budget and its share.
 pub fn allotted(bytes: &[u8], left: u32, waiting: u32) -> Job
     ensures { result
-        ≡ under (readJob bytes.now).job (min (readJob bytes.now).job.budget (left / waiting)) }
+        ≡ under (read_job bytes.now).job (min (read_job bytes.now).job.budget (left / waiting)) }
 {
     let read = job_records::read_job(bytes);
     let job = read.job;
@@ -62,7 +62,7 @@ pub fn search_part(
     table: &mut [i16],
     bounds: &mut [u64],
 ) -> Answer
-    ensures answer { result ≡ boardAnswer stores.now from size job table.old bounds.old }
+    ensures answer { result ≡ board_answer stores.now from size job table.old bounds.old }
     ensures table { BoardTable stores.now from size job table.old bounds.old table.new }
     ensures bounds { BoardBounds stores.now from size job table.old bounds.old bounds.new }
 {

@@ -3,9 +3,9 @@ mod round;
 
 ghost use Rattle.std.specs.Prelude.{◌≡◌, cond, ◌≤◌, eqb, length};
 ghost use Rattle.codes.specs.declared.Check.TheVariants.{Pass};
-ghost use Rattle.peel_rounds.specs.Told.{noRound};
+ghost use Rattle.peel_rounds.specs.Told.{no_round};
 ghost use Rattle.peel_rounds.specs.Going.{RoundsDone};
-ghost use Rattle.peel.specs.Peel.{checkLent, peelAnswer, labelsAfter, TablePeeled, BoundsPeeled, PeelingLent};
+ghost use Rattle.peel.specs.Peel.{check_lent, peel_answer, labels_after, TablePeeled, BoundsPeeled, PeelingLent};
 
 use crate::round::one_round;
 use codes::{Check, Refusal};
@@ -22,7 +22,7 @@ pub struct Peeled {
 
 // What a slot holds where no round was run.
 fn no_round() -> Answer
-    ensures { result ≡ noRound }
+    ensures { result ≡ no_round }
 {
     Answer {
         kind: Kind::Refused(Refusal::Rounds),
@@ -51,7 +51,7 @@ fn each_round(
     bounds: &mut [u64],
     labels: &mut [u8],
 ) -> Peeled
-    requires { checkLent store.now job limit table.old bounds.old labels.old ≡ Pass }
+    requires { check_lent store.now job limit table.old bounds.old labels.old ≡ Pass }
     ensures done { RoundsDone store.now job limit table.old bounds.old labels.old result.rounds result.answers
         labels.new table.new bounds.new }
     ensures check { result.check ≡ Pass }
@@ -83,9 +83,9 @@ pub fn peel(
     labels: &mut [u8],
 ) -> Peeled
     ensures answer { result
-        ≡ peelAnswer store.now job limit table.old bounds.old labels.old }
+        ≡ peel_answer store.now job limit table.old bounds.old labels.old }
     ensures labels { labels.new
-        ≡ labelsAfter store.now job limit table.old bounds.old labels.old }
+        ≡ labels_after store.now job limit table.old bounds.old labels.old }
     ensures table { TablePeeled store.now job limit table.old bounds.old labels.old table.new }
     ensures bounds { BoundsPeeled store.now job limit table.old bounds.old labels.old
         bounds.new }

@@ -1,9 +1,9 @@
 // A round: a search on the points left, and the removal of those that its line fits.
 ghost use Rattle.std.specs.Prelude.{◌≡◌, ◌/◌, ◌≤◌, length};
 ghost use Rattle.codes.specs.declared.Check.TheVariants.{Pass};
-ghost use Rattle.model_checks.specs.Checks.{checkThreshold};
+ghost use Rattle.model_checks.specs.Checks.{check_threshold};
 ghost use Rattle.points_left.specs.Left.{relabelled, relabels};
-ghost use Rattle.peel_rounds.specs.Going.{ifSolved, marksOf, roundsAfter, Ready, RoundDone};
+ghost use Rattle.peel_rounds.specs.Going.{if_solved, marks_of, rounds_after, Ready, RoundDone};
 
 use jobs::{Job, Model};
 use search::{Answer, Kind};
@@ -25,10 +25,10 @@ fn remove(
     number: u8,
     labels: &mut [u8],
 ) -> usize
-    requires { checkThreshold store.now m vector ≡ Pass }
-    ensures removed { result ≡ ifSolved kind (relabels labels.old (marksOf store.now m vector)) 0 }
+    requires { check_threshold store.now m vector ≡ Pass }
+    ensures removed { result ≡ if_solved kind (relabels labels.old (marks_of store.now m vector)) 0 }
     ensures labels { labels.new
-        ≡ ifSolved kind (relabelled number labels.old (marksOf store.now m vector)) labels.old }
+        ≡ if_solved kind (relabelled number labels.old (marks_of store.now m vector)) labels.old }
 {
     match kind {
         Kind::Solved => {
@@ -45,7 +45,7 @@ fn remove(
 // How many rounds may follow one that removed so many of the points left.
 fn rounds_after(removed: usize, left: usize, more: usize) -> usize
     requires { 1 ≤ more }
-    ensures { result ≡ roundsAfter removed left more }
+    ensures { result ≡ rounds_after removed left more }
 {
     if (removed == 0) | (removed == left) {
         0

@@ -1,15 +1,15 @@
 // The checks of peeling.
 ghost use Rattle.std.specs.Prelude.{◌≡◌, ◌/◌, leb, eqb};
-ghost use Rattle.codes.specs.Codes.{passIf, within, inOrder};
+ghost use Rattle.codes.specs.Codes.{pass_if, within, in_order};
 ghost use Rattle.codes.specs.declared.Refusal.{Refusal};
-ghost use Rattle.peel_checks.specs.Checks.{modelChecks, checkPeel};
+ghost use Rattle.peel_checks.specs.Checks.{model_checks, check_peel};
 
 use codes::{Check, Refusal, in_order};
 use jobs::{Job, Model};
 
 // "Other n .. get 2".
 fn check_line(n: u8) -> Check
-    ensures { result ≡ passIf (eqb n 1) Refusal.Shape }
+    ensures { result ≡ pass_if (eqb n 1) Refusal.Shape }
 {
     if n == 1 {
         Check::Pass
@@ -20,7 +20,7 @@ fn check_line(n: u8) -> Check
 
 // "Other .. p get .. 4".
 fn check_counting(p: u8) -> Check
-    ensures { result ≡ passIf (eqb p 0) Refusal.Loss }
+    ensures { result ≡ pass_if (eqb p 0) Refusal.Loss }
 {
     if p == 0 {
         Check::Pass
@@ -31,7 +31,7 @@ fn check_counting(p: u8) -> Check
 
 // Check 13.
 fn check_limit(limit: u8) -> Check
-    ensures { result ≡ passIf (within 1 limit 4) Refusal.Rounds }
+    ensures { result ≡ pass_if (within 1 limit 4) Refusal.Rounds }
 {
     if (1 <= limit) & (limit <= 4) {
         Check::Pass
@@ -42,7 +42,7 @@ fn check_limit(limit: u8) -> Check
 
 // Check 10, of a store's bytes and the labels that there is room for.
 fn check_labels(bytes: usize, labels: usize) -> Check
-    ensures { result ≡ passIf (leb (bytes / 12) labels) Refusal.Short }
+    ensures { result ≡ pass_if (leb (bytes / 12) labels) Refusal.Short }
 {
     if bytes / 12 <= labels {
         Check::Pass
@@ -53,7 +53,7 @@ fn check_labels(bytes: usize, labels: usize) -> Check
 
 // Checks 1 to 4 and 13, of a store's bytes.
 fn check_given(bytes: usize, m: Model, limit: u8) -> Check
-    ensures { result ≡ inOrder (modelChecks bytes m limit) }
+    ensures { result ≡ in_order (model_checks bytes m limit) }
 {
     let store = in_order(points::check_store(bytes), boxes::check_shape(m.n, m.d));
     let line = in_order(check_line(m.n), scale::check_scale(m.scale));
@@ -71,7 +71,7 @@ pub fn check_peel(
     entries: usize,
     labels: usize,
 ) -> Check
-    ensures { result ≡ checkPeel store.now job limit numbers entries labels }
+    ensures { result ≡ check_peel store.now job limit numbers entries labels }
 {
     let m = job.model;
     match check_given(store.len(), m, limit) {

@@ -10,11 +10,11 @@ use Rattle.sharing.specs.Sharing.{Run}
 use Rattle.rounds.specs.Rounds.{Round}
 
 -- "the answers of all rounds run are given", in order; a slot behind them says by 13 that no round was run
-abbrev pub noRound : Answer
-noRound = refused Refusal.Rounds
+abbrev pub no_round : Answer
+no_round = refused Refusal.Rounds
 
 abbrev pub slots_of : List Round → List Answer
-slots_of rs = over (map (λ r. told r.found) rs) (replicate 4 noRound)
+slots_of rs = over (map (λ r. told r.found) rs) (replicate 4 no_round)
 
 -- the searches that were run in the table, for what they leave there
 abbrev pub run_of : Job → Round → Run

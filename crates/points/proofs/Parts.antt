@@ -8,16 +8,16 @@ use lib.ListN.{length, take, drop, length-append, length-drop}
 use lib.Seq.{take-append-le, drop-append-le, drop-append-add}
 use mir.Syntax.{w16}
 use mir.Val.{to_z}
-use Rattle.fields.specs.Fields.{number_at, fromBigEndian}
-use Rattle.points.specs.Points.{unsignedAt, signedAt, pointAt, firstPoints, points_of}
+use Rattle.fields.specs.Fields.{number_at, from_big_endian}
+use Rattle.points.specs.Points.{unsigned_at, signed_at, point_at, first_points, points_of}
 
 -- records with the same numbers in their six fields are the same point
-same-fields :
+same_fields :
     (s s' : List ℕ) (i i' : ℕ) →
     ((o : ℕ) → o + 2 ≤ 12 → number_at s (i * 12 + o) 2 ≡ number_at s' (i' * 12 + o) 2) →
-    pointAt s i ≡ pointAt s' i'
-unfolding pointAt signedAt unsignedAt
-same-fields s s' i i' same =
+    point_at s i ≡ point_at s' i'
+unfolding point_at signed_at unsigned_at
+same_fields s s' i i' same =
     let first : number_at s (i * 12) 2 ≡ number_at s' (i' * 12) 2 = simp add-zero at (same 0 (omega arith)) in
     λ j.
     record {
@@ -31,35 +31,35 @@ same-fields s s' i i' same =
 
 module _ (a b : List ℕ) (k : ℕ) (whole : length a ≡ k * 12) where
   -- a record of the first part
-  front-point : (i : ℕ) → i < k → pointAt (a ++ b) i ≡ pointAt a i
-  front-point i h =
-      same-fields (a ++ b) a i i
+  front_point : (i : ℕ) → i < k → point_at (a ++ b) i ≡ point_at a i
+  front_point i h =
+      same_fields (a ++ b) a i i
       (λ o g.
-      ap (λ (l : List ℕ). fromBigEndian (take 2 l)) (drop-append-le (i * 12 + o) a b (omega arith))
-      ∙ ap fromBigEndian (take-append-le 2 (drop (i * 12 + o) a) b (omega (arith, length-drop (i * 12 + o) a))))
+      ap (λ (l : List ℕ). from_big_endian (take 2 l)) (drop-append-le (i * 12 + o) a b (omega arith))
+      ∙ ap from_big_endian (take-append-le 2 (drop (i * 12 + o) a) b (omega (arith, length-drop (i * 12 + o) a))))
 
   -- a record behind it
-  later-point : (i : ℕ) → pointAt (a ++ b) (k + i) ≡ pointAt b i
-  later-point i =
-      same-fields (a ++ b) b (k + i) i
+  later_point : (i : ℕ) → point_at (a ++ b) (k + i) ≡ point_at b i
+  later_point i =
+      same_fields (a ++ b) b (k + i) i
       (λ o g.
       let place : (k + i) * 12 + o ≡ length a + (i * 12 + o) = omega arith in
-      rw place (ap (λ (l : List ℕ). fromBigEndian (take 2 l)) (drop-append-add a b (i * 12 + o))))
+      rw place (ap (λ (l : List ℕ). from_big_endian (take 2 l)) (drop-append-add a b (i * 12 + o))))
 
-  front-points : (n : ℕ) → n ≤ k → firstPoints (a ++ b) n ≡ firstPoints a n
-  unfolding firstPoints
-  front-points zero h = refl
-  front-points (suc n) h = λ j. front-points n (omega arith) j ++ (front-point n (omega arith) j ∷ [])
+  front_points : (n : ℕ) → n ≤ k → first_points (a ++ b) n ≡ first_points a n
+  unfolding first_points
+  front_points zero h = refl
+  front_points (suc n) h = λ j. front_points n (omega arith) j ++ (front_point n (omega arith) j ∷ [])
 
-  both-points : (n : ℕ) → firstPoints (a ++ b) (k + n) ≡ firstPoints a k ++ firstPoints b n
-  unfolding firstPoints
-  both-points zero = rw add-zero (front-points k (omega arith) ∙ sym (append-nil (firstPoints a k)))
-  both-points (suc n) =
+  both_points : (n : ℕ) → first_points (a ++ b) (k + n) ≡ first_points a k ++ first_points b n
+  unfolding first_points
+  both_points zero = rw add-zero (front_points k (omega arith) ∙ sym (append-nil (first_points a k)))
+  both_points (suc n) =
       rw add-suc
-      ((λ j. both-points n j ++ (later-point n j ∷ [])) ∙ append_assoc (firstPoints a k) (firstPoints b n) (pointAt b n ∷ []))
+      ((λ j. both_points n j ++ (later_point n j ∷ [])) ∙ append_assoc (first_points a k) (first_points b n) (point_at b n ∷ []))
 
-pub points-append : (a b : List ℕ) → length a % 12 ≡ 0 → points_of (a ++ b) ≡ points_of a ++ points_of b
+pub points_append : (a b : List ℕ) → length a % 12 ≡ 0 → points_of (a ++ b) ≡ points_of a ++ points_of b
 unfolding points_of
-points-append a b whole =
+points_append a b whole =
     let records : length (a ++ b) / 12 ≡ length a / 12 + length b / 12 = omega (arith, length-append a b) in
-    rw records (both-points a b (length a / 12) (omega arith) (length b / 12))
+    rw records (both_points a b (length a / 12) (omega arith) (length b / 12))

@@ -8,47 +8,47 @@ use borrow.Author.Tests.{le-leb, lt-leb, eq-eqb, ne_eqb}
 use lib.Dec.{leb, eqb}
 use lib.IntN.{ℤ}
 use lib.ListN.{length, length-map, drop}
-use Rattle.integers.specs.Integers.{allZero}
+use Rattle.integers.specs.Integers.{all_zero}
 use Rattle.integers.specs.Lists.{All, none, also}
 use Rattle.codes.specs.declared.Check.{Check}
 use Rattle.codes.specs.declared.Check.TheVariants.{Pass, Refuse}
 use Rattle.codes.specs.declared.Refusal.{Refusal}
-use Rattle.codes.proofs.Checks.{refused-not-passed}
+use Rattle.codes.proofs.Checks.{refused_not_passed}
 use Rattle.jobs.specs.declared.Model.{Model}
 use Rattle.points.specs.declared.Point.{Point}
-use Rattle.points.specs.Points.{isGap, xs, recordAt, points_of, strayFrom, checkStray}
+use Rattle.points.specs.Points.{is_gap, xs, record_at, points_of, stray_from, check_stray}
 use Rattle.residuals.specs.Cost.{least, size_at}
-use Rattle.certificate.specs.Search.{keepIf}
-use Rattle.labels.specs.Labels.{firstLeast, nearestLabel, fitting, sampleLabel, label}
-use Rattle.frames.specs.Frames.{recordsOf}
-use Rattle.frames.proofs.Records.{Long, records-long, flatten-length, records-flatten}
-use Rattle.merge.proofs.Laws.{record-points}
+use Rattle.certificate.specs.Search.{keep_if}
+use Rattle.labels.specs.Labels.{first_least, nearest_label, fitting, sample_label, label}
+use Rattle.frames.specs.Frames.{records_of}
+use Rattle.frames.proofs.Records.{Long, records_long, flatten_length, records_flatten}
+use Rattle.merge.proofs.Laws.{record_points}
 use Rattle.rounds.specs.Rounds.{fits, fitted}
-use Rattle.points_left.specs.Left.{left_of, bytesLeft, relabel, relabelled, relabels}
-use Rattle.points_left.proofs.Gathering.{left-none}
-use Rattle.points_left.proofs.Marking.{no-marks}
+use Rattle.points_left.specs.Left.{left_of, bytes_left, relabel, relabelled, relabels}
+use Rattle.points_left.proofs.Gathering.{left_none}
+use Rattle.points_left.proofs.Marking.{no_marks}
 
 -- those left are those with label 0
-pub left-labels : (f : Point → ℕ) (qs : List Point) (rest : List ℕ) → left_of (map f qs ++ rest) qs ≡ keepIf (λ q. eqb (f q) 0) qs
+pub left_labels : (f : Point → ℕ) (qs : List Point) (rest : List ℕ) → left_of (map f qs ++ rest) qs ≡ keep_if (λ q. eqb (f q) 0) qs
 unfolding left_of
-left-labels f [] rest = left-none rest
-left-labels f (q ∷ qs) rest = ap (λ (l : List Point). cond (eqb (f q) 0) (q ∷ l) l) (left-labels f qs rest)
+left_labels f [] rest = left_none rest
+left_labels f (q ∷ qs) rest = ap (λ (l : List Point). cond (eqb (f q) 0) (q ∷ l) l) (left_labels f qs rest)
 
 module _ (k : ℕ) (f h : Point → ℕ) where
   -- labels after a round, point by point
-  pub relabelled-each : (qs : List Point) (rest : List ℕ) →
+  pub relabelled_each : (qs : List Point) (rest : List ℕ) →
       relabelled k (map f qs ++ rest) (map h qs) ≡ map (λ q. relabel k (f q) (h q)) qs ++ rest
   unfolding relabelled
-  relabelled-each [] rest = (no-marks k rest).0
-  relabelled-each (q ∷ qs) rest = ap (λ (l : List ℕ). relabel k (f q) (h q) ∷ l) (relabelled-each qs rest)
+  relabelled_each [] rest = (no_marks k rest).0
+  relabelled_each (q ∷ qs) rest = ap (λ (l : List ℕ). relabel k (f q) (h q) ∷ l) (relabelled_each qs rest)
 
   -- as many as the line fits of those left, where the marks tell that
-  pub relabels-fitted : (m : Model) (v : List ℤ) → ((q : Point) → eqb (f q) 0 ≡ true → eqb (h q) 1 ≡ fits m v q) →
+  pub relabels_fitted : (m : Model) (v : List ℤ) → ((q : Point) → eqb (f q) 0 ≡ true → eqb (h q) 1 ≡ fits m v q) →
       (qs : List Point) (rest : List ℕ) →
-      relabels (map f qs ++ rest) (map h qs) ≡ fitted m v (keepIf (λ q. eqb (f q) 0) qs)
+      relabels (map f qs ++ rest) (map h qs) ≡ fitted m v (keep_if (λ q. eqb (f q) 0) qs)
   unfolding relabels fitted
-  relabels-fitted m v same [] rest = (no-marks k rest).1
-  relabels-fitted m v same (q ∷ qs) rest = one (eqb (f q) 0) refl (keepIf (λ q. eqb (f q) 0) qs) _ (relabels-fitted m v same qs rest)
+  relabels_fitted m v same [] rest = (no_marks k rest).1
+  relabels_fitted m v same (q ∷ qs) rest = one (eqb (f q) 0) refl (keep_if (λ q. eqb (f q) 0) qs) _ (relabels_fitted m v same qs rest)
     where
       one : (b : Bool) → eqb (f q) 0 ≡ b → (l : List Point) (n : ℕ) → n ≡ fitted m v l →
           cond (b && eqb (h q) 1) 1 0 + n ≡ fitted m v (cond b (q ∷ l) l)
@@ -56,19 +56,19 @@ module _ (k : ℕ) (f h : Point → ℕ) where
       one false e l n w = omega arith
 
 -- The labels of a store under one line mark the samples that it fits.
-module _ (m : Model) (line : m.n ≡ 1) (v : List ℤ) (q : Point) (sample : isGap q ≡ false) where
-  one-least : (n : ℕ) (f : ℕ → ℕ) (ε : ℕ) → n ≡ 1 →
-      eqb (cond (leb 2 (fitting f ε n)) 5 (cond (leb (least f n) ε) (suc (firstLeast f n)) 0)) 1 ≡ leb (f 0) ε
-  unfolding least firstLeast fitting
-  one-least n f ε e = rw e (one (leb (f 0) ε))
+module _ (m : Model) (line : m.n ≡ 1) (v : List ℤ) (q : Point) (sample : is_gap q ≡ false) where
+  one_least : (n : ℕ) (f : ℕ → ℕ) (ε : ℕ) → n ≡ 1 →
+      eqb (cond (leb 2 (fitting f ε n)) 5 (cond (leb (least f n) ε) (suc (first_least f n)) 0)) 1 ≡ leb (f 0) ε
+  unfolding least first_least fitting
+  one_least n f ε e = rw e (one (leb (f 0) ε))
     where
       one : (b : Bool) → eqb (cond (leb 2 (0 + cond b 1 0)) 5 (cond b 1 0)) 1 ≡ b
       one true = refl
       one false = refl
 
-  pub mark-fits : eqb (label m v q) 1 ≡ fits m v q
-  unfolding label sampleLabel nearestLabel fits
-  mark-fits = rw sample (one-least m.n (size_at m v q) m.eps line)
+  pub mark_fits : eqb (label m v q) 1 ≡ fits m v q
+  unfolding label sample_label nearest_label fits
+  mark_fits = rw sample (one_least m.n (size_at m v q) m.eps line)
 
 -- The records left are the points left.
 module _ {A : Type 0} where
@@ -82,63 +82,63 @@ module _ {A : Type 0} where
       one true ys k = also h k
       one false ys k = k
 
-  pub left-few : (ls : List ℕ) (xs : List A) → length (left_of ls xs) ≤ length xs
+  pub left_few : (ls : List ℕ) (xs : List A) → length (left_of ls xs) ≤ length xs
   unfolding left_of
-  left-few [] xs = omega arith
-  left-few (l ∷ ls) [] = omega arith
-  left-few (l ∷ ls) (x ∷ xs) = one (eqb l 0) (left_of ls xs) (left-few ls xs)
+  left_few [] xs = omega arith
+  left_few (l ∷ ls) [] = omega arith
+  left_few (l ∷ ls) (x ∷ xs) = one (eqb l 0) (left_of ls xs) (left_few ls xs)
     where
       one : (b : Bool) (ys : List A) → length ys ≤ length xs → length (cond b (x ∷ ys) ys) ≤ length (x ∷ xs)
       one true ys h = omega arith
       one false ys h = omega arith
 
-  left-map : {B : Type 0} (g : A → B) (ls : List ℕ) (xs : List A) → map g (left_of ls xs) ≡ left_of ls (map g xs)
+  left_map : {B : Type 0} (g : A → B) (ls : List ℕ) (xs : List A) → map g (left_of ls xs) ≡ left_of ls (map g xs)
   unfolding left_of
-  left-map {B = B} g [] xs = refl
-  left-map {B = B} g (l ∷ ls) [] = refl
-  left-map {B = B} g (l ∷ ls) (x ∷ xs) = one (eqb l 0) (left_of ls xs) (left_of ls (map g xs)) (left-map g ls xs)
+  left_map {B = B} g [] xs = refl
+  left_map {B = B} g (l ∷ ls) [] = refl
+  left_map {B = B} g (l ∷ ls) (x ∷ xs) = one (eqb l 0) (left_of ls xs) (left_of ls (map g xs)) (left_map g ls xs)
     where
       one : (b : Bool) (ys : List A) (zs : List B) → map g ys ≡ zs → map g (cond b (x ∷ ys) ys) ≡ cond b (g x ∷ zs) zs
       one true ys zs e = ap (λ (l : List B). g x ∷ l) e
       one false ys zs e = e
 
 module _ (ls store : List ℕ) where
-  long-left : All Long (left_of ls (recordsOf store))
-  long-left = left-all ls (records-long store)
+  long_left : All Long (left_of ls (records_of store))
+  long_left = left-all ls (records_long store)
 
-  pub points-left : points_of (bytesLeft ls store) ≡ left_of ls (points_of store)
-  points-left =
-      record-points (bytesLeft ls store)
-      ∙ ap (map (λ (r : List ℕ). recordAt r 0)) (records-flatten long-left)
-      ∙ left-map (λ (r : List ℕ). recordAt r 0) ls (recordsOf store)
-      ∙ ap (left_of ls) (sym (record-points store))
+  pub points_left : points_of (bytes_left ls store) ≡ left_of ls (points_of store)
+  points_left =
+      record_points (bytes_left ls store)
+      ∙ ap (map (λ (r : List ℕ). record_at r 0)) (records_flatten long_left)
+      ∙ left_map (λ (r : List ℕ). record_at r 0) ls (records_of store)
+      ∙ ap (left_of ls) (sym (record_points store))
 
-  pub bytes_left : length (bytesLeft ls store) ≡ length (left_of ls (points_of store)) * 12
-  bytes_left =
-      flatten-length long-left
+  pub bytes_left_lem : length (bytes_left ls store) ≡ length (left_of ls (points_of store)) * 12
+  bytes_left_lem =
+      flatten_length long_left
       ∙ ap (λ (n : ℕ). n * 12)
-      (sym (length-map (left_of ls (recordsOf store)) (λ (r : List ℕ). recordAt r 0))
-      ∙ ap length (left-map (λ (r : List ℕ). recordAt r 0) ls (recordsOf store) ∙ ap (left_of ls) (sym (record-points store))))
+      (sym (length-map (left_of ls (records_of store)) (λ (r : List ℕ). record_at r 0))
+      ∙ ap length (left_map (λ (r : List ℕ). record_at r 0) ls (records_of store) ∙ ap (left_of ls) (sym (record_points store))))
 
 -- Fields that are 0 in all records are so in those left.
 abbrev Clear : ℕ → List Point → Type 0
-Clear d qs = All (λ q. allZero (drop d (xs q)) ≡ true) qs
+Clear d qs = All (λ q. all_zero (drop d (xs q)) ≡ true) qs
 
-passed-clear : (d i : ℕ) (qs : List Point) → strayFrom d i qs ≡ Pass → Clear d qs
-unfolding strayFrom
-passed-clear d i [] e = none
-passed-clear d i (q ∷ qs) e = one (allZero (drop d (xs q))) refl e (λ k. passed-clear d (suc i) qs k)
+passed_clear : (d i : ℕ) (qs : List Point) → stray_from d i qs ≡ Pass → Clear d qs
+unfolding stray_from
+passed_clear d i [] e = none
+passed_clear d i (q ∷ qs) e = one (all_zero (drop d (xs q))) refl e (λ k. passed_clear d (suc i) qs k)
   where
-    one : (b : Bool) → allZero (drop d (xs q)) ≡ b → cond b (strayFrom d (suc i) qs) (Refuse (Refusal.Stray i)) ≡ Pass →
-        (strayFrom d (suc i) qs ≡ Pass → Clear d qs) → Clear d (q ∷ qs)
+    one : (b : Bool) → all_zero (drop d (xs q)) ≡ b → cond b (stray_from d (suc i) qs) (Refuse (Refusal.Stray i)) ≡ Pass →
+        (stray_from d (suc i) qs ≡ Pass → Clear d qs) → Clear d (q ∷ qs)
     one true z e later = also z (later e)
-    one false z e later = refused-not-passed (Refusal.Stray i) e
+    one false z e later = refused_not_passed (Refusal.Stray i) e
 
-clear-passes : (d i : ℕ) (qs : List Point) → Clear d qs → strayFrom d i qs ≡ Pass
-unfolding strayFrom
-clear-passes d i [] none = refl
-clear-passes d i (q ∷ qs) (also h hs) = rw (h, clear-passes d (suc i) qs hs) refl
+clear_passes : (d i : ℕ) (qs : List Point) → Clear d qs → stray_from d i qs ≡ Pass
+unfolding stray_from
+clear_passes d i [] none = refl
+clear_passes d i (q ∷ qs) (also h hs) = rw (h, clear_passes d (suc i) qs hs) refl
 
-pub clear-left : (d : ℕ) (ls : List ℕ) (qs : List Point) → checkStray d qs ≡ Pass → checkStray d (left_of ls qs) ≡ Pass
-unfolding checkStray
-clear-left d ls qs e = clear-passes d 0 (left_of ls qs) (left-all ls (passed-clear d 0 qs e))
+pub clear_left : (d : ℕ) (ls : List ℕ) (qs : List Point) → check_stray d qs ≡ Pass → check_stray d (left_of ls qs) ≡ Pass
+unfolding check_stray
+clear_left d ls qs e = clear_passes d 0 (left_of ls qs) (left-all ls (passed_clear d 0 qs e))

@@ -9,14 +9,14 @@ use native.Mathlib.Omega.{arith}
 use lib.Dec.{eqb}
 use lib.ListN.{length, take, drop, set, get_or, length-set, take-append-drop, drop_of_length-le}
 use lib.Seq.{drop-cons, take-suc-set, drop-set-lt, append_snoc}
-use Rattle.integers.proofs.Tests.{le-or-lt}
+use Rattle.integers.proofs.Tests.{le_or_lt}
 use Rattle.points_left.specs.Left.{relabel, relabelled, relabels}
 
 -- without marks nothing changes
-pub no-marks : (k : ℕ) (ls : List ℕ) → (relabelled k ls [] ≡ ls) × (relabels ls [] ≡ 0)
+pub no_marks : (k : ℕ) (ls : List ℕ) → (relabelled k ls [] ≡ ls) × (relabels ls [] ≡ 0)
 unfolding relabelled relabels
-no-marks k [] = (refl, refl)
-no-marks k (l ∷ ls) = (refl, refl)
+no_marks k [] = (refl, refl)
+no_marks k (l ∷ ls) = (refl, refl)
 
 pub at_most_one : (b : Bool) → cond b 1 0 ≤ 1
 at_most_one true = omega arith
@@ -30,16 +30,16 @@ module _ (k : ℕ) (old marks : List ℕ) where
     pub all : take i labels ++ relabelled k (drop i labels) (drop i marks) ≡ relabelled k old marks
     pub count : removed + relabels (drop i labels) (drop i marks) ≡ relabels old marks
 
-  pub none-marked : Marked 0 0 old
-  none-marked = record { few = omega arith; long = refl; within = omega arith; all = refl; count = omega arith }
+  pub none_marked : Marked 0 0 old
+  none_marked = record { few = omega arith; long = refl; within = omega arith; all = refl; count = omega arith }
 
-  pub one-marked : (removed i : ℕ) (labels : List ℕ) (label one : ℕ) → i < min (length old) (length marks) →
+  pub one_marked : (removed i : ℕ) (labels : List ℕ) (label one : ℕ) → i < min (length old) (length marks) →
       label ≡ relabel k (get_or labels i 0) (get_or marks i 0) →
       one ≡ cond (eqb (get_or labels i 0) 0 && eqb (get_or marks i 0) 1) 1 0 →
       Marked removed i labels →
       Marked (removed + one) (i + 1) (set labels i label)
   unfolding relabelled relabels
-  one-marked removed i labels label one h e w g =
+  one_marked removed i labels label one h e w g =
       let room : i < length labels = omega (arith, g.long) in
       let here : drop i labels ≡ get_or labels i 0 ∷ drop (i + 1) labels = drop-cons labels i 0 room ∙ rw (add-one i) refl in
       let mark : drop i marks ≡ get_or marks i 0 ∷ drop (i + 1) marks = drop-cons marks i 0 (omega arith) ∙ rw (add-one i) refl in
@@ -65,11 +65,11 @@ module _ (k : ℕ) (old marks : List ℕ) where
       (rw end refl, rw end refl))
       (λ g.
       let end : drop i marks ≡ [] = drop_of_length-le marks {i = i} (omega arith) in
-      (rw end (no-marks k (drop i labels)).0, rw end (no-marks k (drop i labels)).1))
-      (le-or-lt (length old) i)
+      (rw end (no_marks k (drop i labels)).0, rw end (no_marks k (drop i labels)).1))
+      (le_or_lt (length old) i)
 
-  pub all-marked : (removed i : ℕ) (labels : List ℕ) → min (length old) (length marks) ≤ i → Marked removed i labels →
+  pub all_marked : (removed i : ℕ) (labels : List ℕ) → min (length old) (length marks) ≤ i → Marked removed i labels →
       (removed ≡ relabels old marks) × (labels ≡ relabelled k old marks)
-  all-marked removed i labels h g =
+  all_marked removed i labels h g =
       let end = ended i labels g.long h in
       (omega (arith, g.count, end.1), sym (take-append-drop i labels) ∙ ap (λ (l : List ℕ). take i labels ++ l) (sym end.0) ∙ g.all)

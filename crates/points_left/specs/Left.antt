@@ -2,12 +2,12 @@
 use Rattle.std.specs.Prelude.{cond, ◌&&◌, ℕ, ◌+◌, eqb}
 use mathlib.Core.List.{List, [], ◌∷◌, flatten}
 use Rattle.points.specs.declared.Point.{Point}
-use Rattle.points.specs.Points.{isGap}
-use Rattle.frames.specs.Frames.{recordsOf}
+use Rattle.points.specs.Points.{is_gap}
+use Rattle.frames.specs.Frames.{records_of}
 
 -- "gaps are set aside before the first round": a label of 6; a sample's is 0 then
-unfoldable pub firstLabel : Point → ℕ
-firstLabel q = cond (isGap q) 6 0
+unfoldable pub first_label : Point → ℕ
+first_label q = cond (is_gap q) 6 0
 
 -- those of a list whose label is 0, in order; where the labels end, or the list, the rest is not among them
 unfoldable pub left_of : {A : Type 0} → List ℕ → List A → List A
@@ -16,8 +16,8 @@ left_of (l ∷ ls) [] = []
 left_of (l ∷ ls) (x ∷ xs) = cond (eqb l 0) (x ∷ left_of ls xs) (left_of ls xs)
 
 -- the store of the records left
-abbrev pub bytesLeft : List ℕ → List ℕ → List ℕ
-bytesLeft labels store = flatten (left_of labels (recordsOf store))
+abbrev pub bytes_left : List ℕ → List ℕ → List ℕ
+bytes_left labels store = flatten (left_of labels (records_of store))
 
 -- "A point's label is the round that removed it": one that is left and that the line fits, where its mark is 1, gets the round's number k.
 abbrev pub relabel : ℕ → ℕ → ℕ → ℕ

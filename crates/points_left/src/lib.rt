@@ -1,9 +1,9 @@
 // The points left of a store, by their labels: a label of 0 says that no round has removed the point.
 ghost use Rattle.std.specs.Prelude.{cond, ◌&&◌, map, ◌≡◌, ◌+◌, ◌*◌, ◌/◌, ◌≤◌, ◌<◌, leb, eqb, length, take, drop};
 ghost use Rattle.integers.specs.Lists.{over};
-ghost use Rattle.points.specs.Points.{pointAt, points_of};
+ghost use Rattle.points.specs.Points.{point_at, points_of};
 ghost use Rattle.rounds.specs.Rounds.{samples};
-ghost use Rattle.points_left.specs.Left.{firstLabel, bytesLeft, relabel, relabelled, relabels};
+ghost use Rattle.points_left.specs.Left.{first_label, bytes_left, relabel, relabelled, relabels};
 ghost use Rattle.points_left.specs.Inside.{put};
 
 use points::Record;
@@ -11,7 +11,7 @@ use points::Record;
 // 6 of a gap, 0 of a sample.
 fn first_label(store: &[u8], i: usize) -> u8
     requires { i < length store.now / 12 }
-    ensures { result ≡ firstLabel (pointAt store.now i) }
+    ensures { result ≡ first_label (point_at store.now i) }
 {
     match points::read_point(store, i) {
         Record::Sample(_) => 0,
@@ -34,7 +34,7 @@ pub fn set_aside(store: &[u8], labels: &mut [u8]) -> usize
         (length (samples (points_of store.now))) 0 }
     ensures labels { labels.new
         ≡ cond (leb (length store.now / 12) (length labels.old))
-        (over (map firstLabel (points_of store.now)) labels.old) labels.old }
+        (over (map first_label (points_of store.now)) labels.old) labels.old }
 {
     let count = store.len() / 12;
     if labels.len() < count {
@@ -70,10 +70,10 @@ fn put_left(label: u8, out: &mut [u8], n: usize, store: &[u8], o: usize) -> usiz
 pub fn gather(store: &[u8], labels: &[u8], out: &mut [u8]) -> usize
     ensures bytes { result
         ≡ cond (leb (length store.now) (length out.old))
-        (length (bytesLeft labels.now store.now)) 0 }
+        (length (bytes_left labels.now store.now)) 0 }
     ensures output { out.new
         ≡ cond (leb (length store.now) (length out.old))
-        (over (bytesLeft labels.now store.now) out.old) out.old }
+        (over (bytes_left labels.now store.now) out.old) out.old }
 {
     if out.len() < store.len() {
         return 0;

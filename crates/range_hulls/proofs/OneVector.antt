@@ -10,8 +10,8 @@ use lib.IntN.{ℤ, pos}
 use lib.ListN.{length, get_or, drop, drop_of_length-le}
 use lib.Seq.{drop-cons}
 use lib.Signed.{≤ℤ_refl}
-use Rattle.boxes.specs.Boxes.{sideSize, sides, product}
-use Rattle.boxes.proofs.Sides.{size-parts, side-only, side-some}
+use Rattle.boxes.specs.Boxes.{side_size, sides, product}
+use Rattle.boxes.proofs.Sides.{size_parts, side_only, side_some}
 
 both_one : (a b : ℕ) → a * b ≡ 1 → (a ≡ 1) × (b ≡ 1)
 both_one zero b h = absurd (omega arith)
@@ -25,34 +25,34 @@ module _ (ls hs : List ℤ) (k : ℕ) (same : length ls ≡ length hs) where
   abbrev later : ℕ
   later = product (sides (drop (suc k) ls) (drop (suc k) hs))
 
-  side-first : k < length ls → rest ≡ sideSize (get_or ls k (pos 0)) (get_or hs k (pos 0)) * later
+  side_first : k < length ls → rest ≡ side_size (get_or ls k (pos 0)) (get_or hs k (pos 0)) * later
   unfolding sides product
-  side-first inside =
-      let inside-h : k < length hs = omega arith in
+  side_first inside =
+      let inside_h : k < length hs = omega arith in
       rw (drop-cons ls k (pos 0), drop-cons hs k (pos 0))
 
   -- equal ends: the sides behind decide
-  pub equal-ends : k < length ls → get_or ls k (pos 0) ≡ get_or hs k (pos 0) → eqb rest 1 ≡ eqb later 1
-  equal-ends inside e =
+  pub equal_ends : k < length ls → get_or ls k (pos 0) ≡ get_or hs k (pos 0) → eqb rest 1 ≡ eqb later 1
+  equal_ends inside e =
       let l = get_or ls k (pos 0) in
-      let one : sideSize l (get_or hs k (pos 0)) ≡ 1 = rw (← e) (omega (arith, size-parts l l)) in
-      let all : rest ≡ later = side-first inside ∙ rw one (omega arith) in
+      let one : side_size l (get_or hs k (pos 0)) ≡ 1 = rw (← e) (omega (arith, size_parts l l)) in
+      let all : rest ≡ later = side_first inside ∙ rw one (omega arith) in
       rw all
 
   -- other ends: the side has no number, or more than one
-  pub other-ends : k < length ls → (get_or ls k (pos 0) ≡ get_or hs k (pos 0) → ⊥) → eqb rest 1 ≡ false
-  other-ends inside other =
+  pub other_ends : k < length ls → (get_or ls k (pos 0) ≡ get_or hs k (pos 0) → ⊥) → eqb rest 1 ≡ false
+  other_ends inside other =
       ne_eqb rest 1
       (λ e.
       let l = get_or ls k (pos 0) in
       let h = get_or hs k (pos 0) in
-      let is : sideSize l h * later ≡ 1 = rw (side-first inside) at e in
-      let one = (both_one (sideSize l h) later is).0 in
-      let p = side-some l h (omega arith) in
-      other (sym (side-only l h h one p (≤ℤ_refl h))))
+      let is : side_size l h * later ≡ 1 = rw (side_first inside) at e in
+      let one = (both_one (side_size l h) later is).0 in
+      let p = side_some l h (omega arith) in
+      other (sym (side_only l h h one p (≤ℤ_refl h))))
 
-  pub no-side : length ls ≤ k → eqb rest 1 ≡ true
+  pub no_side : length ls ≤ k → eqb rest 1 ≡ true
   unfolding sides product
-  no-side past =
-      let past-h : length hs ≤ k = omega arith in
-      rw (drop_of_length-le ls past, drop_of_length-le hs past-h)
+  no_side past =
+      let past_h : length hs ≤ k = omega arith in
+      rw (drop_of_length-le ls past, drop_of_length-le hs past_h)

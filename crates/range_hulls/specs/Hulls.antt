@@ -9,19 +9,19 @@ use Rattle.range_hulls.specs.declared.Range.TheVariants.{One, Between, Nothing}
 use Rattle.range_hulls.specs.declared.Slot.{Slot}
 
 -- what a struct holds as found
-abbrev pub foundOf : Hull → Found
-foundOf h = cond h.found (ends h.ends) nothing
+abbrev pub found_of : Hull → Found
+found_of h = cond h.found (ends h.ends) nothing
 
 -- the coefficient of each coordinate's value, w / 2^S
 module _ (coefficient : ℤ → Float) where
   -- "One value means equal ends": the low end is never above the high one.
-  abbrev pub rangeBetween : ℤ → ℤ → Range
-  rangeBetween low high = cond (lt_z low high) (Between (coefficient low) (coefficient high)) (One (coefficient low))
+  abbrev pub range_between : ℤ → ℤ → Range
+  range_between low high = cond (lt_z low high) (Between (coefficient low) (coefficient high)) (One (coefficient low))
 
   -- The range of coordinate k, where `used` coordinates are used: "none that no vector costs at most K".
   abbrev pub range_of : ℕ → Found → ℕ → Range
   range_of used nothing k = Nothing
-  range_of used (ends b) k = cond (ltb k used) (rangeBetween (get_or b.low k (pos 0)) (get_or b.high k (pos 0))) Nothing
+  range_of used (ends b) k = cond (ltb k used) (range_between (get_or b.low k (pos 0)) (get_or b.high k (pos 0))) Nothing
 
   abbrev pub slot_of : ℕ → Found → ℕ → Slot
   slot_of used found k = record { range = range_of used found k }

@@ -1,10 +1,10 @@
 // The least and the greatest value of each coordinate among the vectors found, and the range of each coefficient that they tell.
 ghost use Rattle.std.specs.Prelude.{◌≡◌, ◌<◌, eqb};
-ghost use Rattle.integers.specs.Integers.{minZ, maxZ};
+ghost use Rattle.integers.specs.Integers.{min_z, max_z};
 ghost use Rattle.boxes.specs.Boxes.{volume};
-ghost use Rattle.coefficients.specs.Coefficient.{coefficientOrZero};
+ghost use Rattle.coefficients.specs.Coefficient.{coefficient_or_zero};
 ghost use Rattle.range_search.specs.RangeSearch.{widen, least, greatest};
-ghost use Rattle.range_hulls.specs.Hulls.{foundOf, rangeBetween, slot_of, slots_of};
+ghost use Rattle.range_hulls.specs.Hulls.{found_of, range_between, slot_of, slots_of};
 
 use boxes::Box;
 use coefficients::coefficient_of;
@@ -30,13 +30,13 @@ pub struct Slot {
 }
 
 fn lower(a: i16, b: i16) -> i16
-    ensures { result ≡ minZ a b }
+    ensures { result ≡ min_z a b }
 {
     if a <= b { a } else { b }
 }
 
 fn higher(a: i16, b: i16) -> i16
-    ensures { result ≡ maxZ a b }
+    ensures { result ≡ max_z a b }
 {
     if a <= b { b } else { a }
 }
@@ -58,7 +58,7 @@ fn with_vector(ends: Box, v: [i16; 8]) -> Box
 
 // What is found with one vector more.
 pub fn widened(hull: Hull, v: [i16; 8]) -> Hull
-    ensures { foundOf result ≡ widen (foundOf hull) v }
+    ensures { found_of result ≡ widen (found_of hull) v }
 {
     if hull.found {
         let ends = hull.ends;
@@ -91,7 +91,7 @@ pub fn one_vector(b: Box) -> bool
 
 // The range between two ends.
 fn range_between(s: u8, low: i16, high: i16) -> Range
-    ensures { result ≡ rangeBetween (coefficientOrZero s) low high }
+    ensures { result ≡ range_between (coefficient_or_zero s) low high }
 {
     if low < high {
         return Range::Between(coefficient_of(s, low), coefficient_of(s, high));
@@ -102,7 +102,7 @@ fn range_between(s: u8, low: i16, high: i16) -> Range
 // The range of coordinate k, where `used` of the 8 are used.
 fn slot_at(s: u8, used: usize, hull: Hull, k: usize) -> Slot
     requires { k < 8 }
-    ensures { result ≡ slot_of (coefficientOrZero s) used (foundOf hull) k }
+    ensures { result ≡ slot_of (coefficient_or_zero s) used (found_of hull) k }
 {
     if hull.found {
         if k < used {
@@ -121,7 +121,7 @@ fn slot_at(s: u8, used: usize, hull: Hull, k: usize) -> Slot
 
 // The ranges of all coordinates.
 pub fn slots(s: u8, used: usize, hull: Hull) -> [Slot; 8]
-    ensures { result ≡ slots_of (coefficientOrZero s) used (foundOf hull) }
+    ensures { result ≡ slots_of (coefficient_or_zero s) used (found_of hull) }
 {
     [
         slot_at(s, used, hull, 0),

@@ -10,21 +10,21 @@ use native.Mathlib.Nat.{le_refl}
 use lib.Dec.{T_not, leb, leb→le, le→leb}
 use lib.IntN.{ℤ}
 use lib.ListN.{length}
-use Rattle.integers.proofs.Tests.{and_parts, and_both, le-or-lt}
+use Rattle.integers.proofs.Tests.{and_parts, and_both, le_or_lt}
 use Rattle.boxes.specs.declared.Box.{Box}
 use Rattle.boxes.specs.Boxes.{InBox, volume}
-use Rattle.boxes.specs.Split.{left_half, right_half, zeroBox}
+use Rattle.boxes.specs.Split.{left_half, right_half, zero_box}
 use Rattle.boxes.specs.Laws.{Bounds, Halved}
-use Rattle.boxes.proofs.Volume.{some_in, only-low}
+use Rattle.boxes.proofs.Volume.{some_in, only_low}
 use Rattle.boxes.proofs.Halving.{halved}
-use Rattle.certificate.specs.Search.{boxAt, without}
+use Rattle.certificate.specs.Search.{box_at, without}
 use Rattle.certificate.specs.Laws.{Open}
-use Rattle.certificate.proofs.Lists.{passed-kept, length-kept, Takes, takes_at, takes_all}
+use Rattle.certificate.proofs.Lists.{passed_kept, length_kept, Takes, takes_at, takes_all}
 use Rattle.certificate.proofs.Cover.{Cover, Keeping, begins, cuts}
 use Rattle.range_search.specs.RangeSearch.{Found, nothing, State, go, keeps, costed, begin, split}
 use Rattle.range_search.specs.Ranged.{Reached, beginning, counting}
 use Rattle.range_search.specs.Laws.{Sound, AllSound}
-use Rattle.range_search.proofs.Found.{Ends, neither, Settled, costed-stays, costed-ends, costed-new}
+use Rattle.range_search.proofs.Found.{Ends, neither, Settled, costed_stays, costed_ends, costed_new}
 use Rattle.range_search.proofs.Steps.{Case, goes, step_case}
 
 module _ (cost : List ℤ → ℕ) (bound : Box → ℕ) (laws : Bounds cost bound) (K budget rows : ℕ) (box : Box) where
@@ -37,12 +37,12 @@ module _ (cost : List ℤ → ℕ) (bound : Box → ℕ) (laws : Bounds cost bou
             ⊎_elim
             (λ small.
             let e : volume b ≡ 1 = omega (arith, some_in b i) in
-            subst (Settled cost K box found) (sym (only-low b v e i)) (one e) cheap)
+            subst (Settled cost K box found) (sym (only_low b v e i)) (one e) cheap)
             (λ two.
             absurd (T_not (leb (bound b) K && leb 2 (volume b)) t
             (and_both (leb (bound b) K) (leb 2 (volume b)) (le→leb (bound b) K (omega (arith, laws.sound b v i)))
             (le→leb 2 (volume b) two))))
-            (le-or-lt (volume b) 1);
+            (le_or_lt (volume b) 1);
         single = λ b e s t.
             let two = leb→le 2 (volume b) (and_parts (leb (bound b) K) (leb 2 (volume b)) t).1 in omega arith;
       }
@@ -52,26 +52,26 @@ module _ (cost : List ℤ → ℕ) (bound : Box → ℕ) (laws : Bounds cost bou
 
   pub record Held (k : ℕ) (s : State) : Type 1 where
     pub covers : Covers s
-    pub held-ends : Ends cost K box s.found
+    pub held_ends : Ends cost K box s.found
     pub sound : Sound bound K budget rows box s
     pub counted : s.count ≡ k
 
-  begin-held : 1 ≤ volume box → Held 0 (begin cost bound K box)
+  begin_held : 1 ≤ volume box → Held 0 (begin cost bound K box)
   unfolding begin
-  begin-held some =
+  begin_held some =
       let found = costed cost K nothing box in
       let covers =
       begins box (Settled cost K box found) (keeps bound K) (keeping found) some
-      (costed-new cost K box nothing box neither (λ v i. i) some) in
+      (costed_new cost K box nothing box neither (λ v i. i) some) in
       record {
         covers = covers;
-        held-ends = costed-ends cost K box nothing box neither (λ v i. i) some;
+        held_ends = costed_ends cost K box nothing box neither (λ v i. i) some;
         sound =
             record {
               opened = covers.boxes;
-              kept = passed-kept (keeps bound K) (box ∷ []);
+              kept = passed_kept (keeps bound K) (box ∷ []);
               longest = le_refl _;
-              room = omega (arith, length-kept (keeps bound K) (box ∷ []));
+              room = omega (arith, length_kept (keeps bound K) (box ∷ []));
               within = omega arith;
             };
         counted = refl;
@@ -79,13 +79,13 @@ module _ (cost : List ℤ → ℕ) (bound : Box → ℕ) (laws : Bounds cost bou
 
   module _ (s : State) (some : 1 ≤ length s.list) (c : Covers s) (e : Ends cost K box s.found) where
     abbrev b : Box
-    b = boxAt s.list (pred (length s.list))
+    b = box_at s.list (pred (length s.list))
 
     abbrev one : Found
     one = costed cost K s.found (left_half b)
 
     takes : Takes b s.list (without s.list (pred (length s.list)))
-    takes = takes_at zeroBox s.list (pred (length s.list)) (omega arith)
+    takes = takes_at zero_box s.list (pred (length s.list)) (omega arith)
 
     o : Open box b
     o = (takes_all takes c.boxes).0
@@ -93,45 +93,45 @@ module _ (cost : List ℤ → ℕ) (bound : Box → ℕ) (laws : Bounds cost bou
     halves : Halved b
     halves = halved b o.two
 
-    left-inside : (v : List ℤ) → InBox v (left_half b) → InBox v box
-    left-inside v i = o.inside v (halves.left_in v i)
+    left_inside : (v : List ℤ) → InBox v (left_half b) → InBox v box
+    left_inside v i = o.inside v (halves.left_in v i)
 
-    right-inside : (v : List ℤ) → InBox v (right_half b) → InBox v box
-    right-inside v i = o.inside v (halves.right-in v i)
+    right_inside : (v : List ℤ) → InBox v (right_half b) → InBox v box
+    right_inside v i = o.inside v (halves.right_in v i)
 
-    left-ends : Ends cost K box one
-    left-ends = costed-ends cost K box s.found (left_half b) e left-inside halves.left-some
+    left_ends : Ends cost K box one
+    left_ends = costed_ends cost K box s.found (left_half b) e left_inside halves.left_some
 
-    pub split-ends : Ends cost K box (split cost bound K s).found
+    pub split_ends : Ends cost K box (split cost bound K s).found
     unfolding split
-    split-ends = costed-ends cost K box one (right_half b) left-ends right-inside halves.right-some
+    split_ends = costed_ends cost K box one (right_half b) left_ends right_inside halves.right_some
 
-    pub split-covers : Covers (split cost bound K s)
+    pub split_covers : Covers (split cost bound K s)
     unfolding split
-    split-covers =
+    split_covers =
         let both = costed cost K one (right_half b) in
         let l = (left_half b).low in
         cuts box (Settled cost K box both) (keeps bound K) (keeping both) takes
-        (λ v k. costed-stays cost K box one (right_half b) v (costed-stays cost K box s.found (left_half b) v k))
+        (λ v k. costed_stays cost K box one (right_half b) v (costed_stays cost K box s.found (left_half b) v k))
         (λ single.
-        costed-stays cost K box one (right_half b) l
-        (costed-new cost K box s.found (left_half b) e left-inside halves.left-some single))
-        (costed-new cost K box one (right_half b) left-ends right-inside halves.right-some)
+        costed_stays cost K box one (right_half b) l
+        (costed_new cost K box s.found (left_half b) e left_inside halves.left_some single))
+        (costed_new cost K box one (right_half b) left_ends right_inside halves.right_some)
         c
 
-  split-held : {k : ℕ} (s : State) {after : State} → Case cost bound K budget rows s (go after) → Held k s → Held (suc k) after
+  split_held : {k : ℕ} (s : State) {after : State} → Case cost bound K budget rows s (go after) → Held k s → Held (suc k) after
   unfolding split
-  split-held s (goes some left few) h =
-      let covers = split-covers s some h.covers h.held-ends in
+  split_held s (goes some left few) h =
+      let covers = split_covers s some h.covers h.held_ends in
       let k = pred (length s.list) in
-      let cut = boxAt s.list k in
+      let cut = box_at s.list k in
       record {
         covers = covers;
-        held-ends = split-ends s some h.covers h.held-ends;
+        held_ends = split_ends s some h.covers h.held_ends;
         sound =
             record {
               opened = covers.boxes;
-              kept = passed-kept (keeps bound K) (without s.list k ++ (left_half cut ∷ right_half cut ∷ []));
+              kept = passed_kept (keeps bound K) (without s.list k ++ (left_half cut ∷ right_half cut ∷ []));
               longest = omega arith;
               room = omega (arith, h.sound.room);
               within = omega (arith, h.sound.within);
@@ -140,8 +140,8 @@ module _ (cost : List ℤ → ℕ) (bound : Box → ℕ) (laws : Bounds cost bou
       }
 
   pub held : 1 ≤ volume box → {k : ℕ} {s : State} → Reached cost bound K budget rows box k s → Held k s
-  held some beginning = begin-held some
-  held some (counting {s = s} r e) = split-held s (rw e at (step_case cost bound K budget rows s)) (held some r)
+  held some beginning = begin_held some
+  held some (counting {s = s} r e) = split_held s (rw e at (step_case cost bound K budget rows s)) (held some r)
 
-pub reached-sound : AllSound
-reached-sound cost bound laws K budget rows box some k s r = (held cost bound laws K budget rows box some r).sound
+pub reached_sound : AllSound
+reached_sound cost bound laws K budget rows box some k s r = (held cost bound laws K budget rows box some r).sound

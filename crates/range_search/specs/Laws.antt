@@ -5,9 +5,9 @@ use Rattle.boxes.specs.declared.Box.{Box}
 use Rattle.boxes.specs.Boxes.{volume}
 use Rattle.boxes.specs.Split.{left_half, right_half}
 use Rattle.boxes.specs.Laws.{Bounds}
-use Rattle.certificate.specs.Search.{keepIf}
+use Rattle.certificate.specs.Search.{keep_if}
 use Rattle.certificate.specs.Laws.{Open}
-use Rattle.range_search.specs.RangeSearch.{State, keeps, costed, split, rangeSearch}
+use Rattle.range_search.specs.RangeSearch.{State, keeps, costed, split, range_search}
 use Rattle.range_search.specs.Ranged.{Reached, Ranged}
 
 -- Every search of a box with a vector keeps what request 13 promises, where the cost and the bound have the two laws.
@@ -17,7 +17,7 @@ AllRanged =
     Bounds cost bound →
     (K budget rows : ℕ) (box : Box) →
     1 ≤ volume box →
-    Ranged cost bound K budget rows box (rangeSearch cost bound K budget rows box)
+    Ranged cost bound K budget rows box (range_search cost bound K budget rows box)
 
 -- A state of a search of `box`: the open boxes have two vectors at least and lie in it, each would be kept again, the list is no longer
 -- than peak, peak is at most r (at the beginning one box may be open, whatever r is), and the count is within the budget.
@@ -41,7 +41,7 @@ AllSound =
 
 -- "always cut the last open one": where b stands behind the open boxes bs, its halves take its place, and they are what is costed.
 pub record CutsLast (cost : List ℤ → ℕ) (bound : Box → ℕ) (K : ℕ) (s : State) (bs : List Box) (b : Box) : Type 0 where
-  pub list : s.list ≡ bs ++ (b ∷ []) → (split cost bound K s).list ≡ keepIf (keeps bound K) (bs ++ (left_half b ∷ right_half b ∷ []))
+  pub list : s.list ≡ bs ++ (b ∷ []) → (split cost bound K s).list ≡ keep_if (keeps bound K) (bs ++ (left_half b ∷ right_half b ∷ []))
   pub found :
       s.list ≡ bs ++ (b ∷ []) →
       (split cost bound K s).found ≡ costed cost K (costed cost K s.found (left_half b)) (right_half b)

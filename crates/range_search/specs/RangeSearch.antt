@@ -2,11 +2,11 @@
 -- coordinate the least and greatest value among all grid vectors of the box that cost at most K." "Search as before, but ..": what stands
 -- in quotes behind "01:" is as in certificate/specs/Search.antt, of which the kinds, the lists and the halves are.
 use Rattle.std.specs.Prelude.{Bool, cond, ◌&&◌, List, [], ◌∷◌, ◌++◌, ℕ, zero, suc, pred, max, leb, ltb, eqb, ℤ, length}
-use Rattle.integers.specs.Integers.{maxZ, minZ}
+use Rattle.integers.specs.Integers.{max_z, min_z}
 use Rattle.boxes.specs.declared.Box.{Box}
 use Rattle.boxes.specs.Boxes.{volume}
 use Rattle.boxes.specs.Split.{left_half, right_half}
-use Rattle.certificate.specs.Search.{Kind, solved, spent, full, keepIf, boxAt, without}
+use Rattle.certificate.specs.Search.{Kind, solved, spent, full, keep_if, box_at, without}
 
 -- The least and the greatest value of each coordinate among the vectors found so far, as the low and the high vector of a box; or nothing,
 -- as long as none is found.
@@ -18,12 +18,12 @@ pub data Found : Type 0 where
 unfoldable pub least : List ℤ → List ℤ → List ℤ
 least [] v = []
 least (l ∷ ls) [] = l ∷ ls
-least (l ∷ ls) (x ∷ v) = minZ l x ∷ least ls v
+least (l ∷ ls) (x ∷ v) = min_z l x ∷ least ls v
 
 unfoldable pub greatest : List ℤ → List ℤ → List ℤ
 greatest [] v = []
 greatest (h ∷ hs) [] = h ∷ hs
-greatest (h ∷ hs) (x ∷ v) = maxZ h x ∷ greatest hs v
+greatest (h ∷ hs) (x ∷ v) = max_z h x ∷ greatest hs v
 
 -- one vector more is found
 unfoldable pub widen : Found → List ℤ → Found
@@ -60,7 +60,7 @@ module _ (cost : List ℤ → ℕ) (bound : Box → ℕ) (K : ℕ) where
   -- 01: "The list holds the given box" if it is kept, "else nothing. Count is 0." "A given box of one vector is costed at the beginning."
   unfoldable pub begin : Box → State
   begin box =
-      let held = keepIf (keeps bound K) (box ∷ []) in
+      let held = keep_if (keeps bound K) (box ∷ []) in
       record { found = costed cost K nothing box; list = held; count = 0; peak = length held }
 
   -- (c) "always cut the last open one". 01: "From the remaining list, then left, then right, keep in order the boxes" that are kept; of the
@@ -68,9 +68,9 @@ module _ (cost : List ℤ → ℕ) (bound : Box → ℕ) (K : ℕ) where
   unfoldable pub split : State → State
   split s =
       let k = pred (length s.list) in
-      let left = left_half (boxAt s.list k) in
-      let right = right_half (boxAt s.list k) in
-      let kept = keepIf (keeps bound K) (without s.list k ++ (left ∷ right ∷ [])) in
+      let left = left_half (box_at s.list k) in
+      let right = right_half (box_at s.list k) in
+      let kept = keep_if (keeps bound K) (without s.list k ++ (left ∷ right ∷ [])) in
       record {
         found = costed cost K (costed cost K s.found left) right;
         list = kept;
@@ -80,15 +80,15 @@ module _ (cost : List ℤ → ℕ) (bound : Box → ℕ) (K : ℕ) where
 
   module _ (budget rows : ℕ) where
     -- 01: "If more than r remain, answer full with the state before this step; else count one split."
-    unfoldable pub ifRoom : State → Next
-    ifRoom after = cond (ltb rows (length after.list)) (stop full) (go after)
+    unfoldable pub if_room : State → Next
+    if_room after = cond (ltb rows (length after.list)) (stop full) (go after)
 
     -- (a) "The search is finished when no box is open, and t isn't used." 01: "(b) If the count equals the budget, answer spent. (c) .."
     unfoldable pub step : State → Next
     step s =
         cond (eqb (length s.list) 0) (stop solved)
         (cond (eqb s.count budget) (stop spent)
-        (ifRoom (split s)))
+        (if_room (split s)))
 
     -- what follows a step at s, where `on` goes on from the state after a split
     unfoldable pub follow : (State → Answer) → State → Next → Answer
@@ -102,5 +102,5 @@ module _ (cost : List ℤ → ℕ) (bound : Box → ℕ) (K : ℕ) where
     run (suc n) s = follow (run n) s (step s)
 
     -- from the beginning to an answer
-    unfoldable pub rangeSearch : Box → Answer
-    rangeSearch box = run (suc budget) (begin box)
+    unfoldable pub range_search : Box → Answer
+    range_search box = run (suc budget) (begin box)

@@ -9,52 +9,52 @@ use lib.ListN.{length}
 use Rattle.boxes.specs.declared.Box.{Box}
 use Rattle.boxes.specs.Boxes.{volume}
 use Rattle.boxes.specs.Laws.{Bounds}
-use Rattle.list_rows.specs.Rows.{rowCount, rows_of}
+use Rattle.list_rows.specs.Rows.{row_count, rows_of}
 use Rattle.list_rows.proofs.Rows.{Whole}
 use Rattle.range_search.specs.RangeSearch.{nothing, keeps, widen, costed, begin}
-use Rattle.range_hulls.specs.Hulls.{foundOf}
-use Rattle.branching.specs.Branching.{justAbove}
+use Rattle.range_hulls.specs.Hulls.{found_of}
+use Rattle.branching.specs.Branching.{just_above}
 use Rattle.ranges.specs.declared.step.State.{State}
 use Rattle.ranges.specs.declared.step.Tested.{Tested}
-use Rattle.ranges.specs.Inside.{testedBy, pushed, placeAfter, stateIn, Within, Begun}
-use Rattle.ranges.proofs.Testing.{kept_same, costed-same}
-use Rattle.ranges.proofs.Pushing.{push-rows, push-within}
+use Rattle.ranges.specs.Inside.{tested_by, pushed, place_after, state_in, Within, Begun}
+use Rattle.ranges.proofs.Testing.{kept_same, costed_same}
+use Rattle.ranges.proofs.Pushing.{push_rows, push_within}
 
 module _ (cost : List ℤ → ℕ) (bound : Box → ℕ) (laws : Bounds cost bound) (K : ℕ) (box : Box) (some : 1 ≤ volume box) (w : Whole box)
-    (small : bound box < 18446744073709551615) (t : List ℤ) (room : 1 ≤ rowCount t) (x : ℕ)
-    (is_x : x ≡ min (bound box) (justAbove K)) (p : Tested) (is-p : p ≡ testedBy box x K) where
+    (small : bound box < 18446744073709551615) (t : List ℤ) (room : 1 ≤ row_count t) (x : ℕ)
+    (is_x : x ≡ min (bound box) (just_above K)) (p : Tested) (is-p : p ≡ tested_by box x K) where
   kept : p.kept ≡ keeps bound K box
   kept = ap (λ (d : Tested). d.kept) is-p ∙ kept_same cost bound laws K box some x is_x small
 
   -- the box alone, or nothing
-  begin-list : (begin cost bound K box).list ≡ cond p.kept (box ∷ []) []
+  begin_list : (begin cost bound K box).list ≡ cond p.kept (box ∷ []) []
   unfolding begin
-  begin-list = rw kept
+  begin_list = rw kept
 
   rows : rows_of (pushed t 0 box p.kept) (cond p.kept 1 0) ≡ cond p.kept (box ∷ []) []
   unfolding rows_of
   rows = by p.kept
     where
       by : (k : Bool) → rows_of (pushed t 0 box k) (cond k 1 0) ≡ cond k (box ∷ []) []
-      by true = push-rows t 0 box w true (omega arith)
+      by true = push_rows t 0 box w true (omega arith)
       by false = refl
 
-  first-within : (k : Bool) → Within (cond k 1 0) t (pushed t 0 box k)
-  first-within true = push-within t 0 box w true
-  first-within false = push-within t 0 box w false
+  first_within : (k : Bool) → Within (cond k 1 0) t (pushed t 0 box k)
+  first_within true = push_within t 0 box w true
+  first_within false = push_within t 0 box w false
 
-  pub begun : (r : State) → foundOf r.hull ≡ cond p.counts (widen nothing box.low) nothing → r.«open» ≡ cond p.kept 1 0 →
+  pub begun : (r : State) → found_of r.hull ≡ cond p.counts (widen nothing box.low) nothing → r.«open» ≡ cond p.kept 1 0 →
       r.count ≡ 0 → r.peak ≡ cond p.kept 1 0 → Begun cost bound K box t r (pushed t 0 box p.kept)
   unfolding begin
   begun r found is_open count peak =
-      let is_found : foundOf r.hull ≡ costed cost K nothing box =
+      let is_found : found_of r.hull ≡ costed cost K nothing box =
       found ∙ subst (λ (d : Tested). cond d.counts (widen nothing box.low) nothing ≡ costed cost K nothing box) (sym is-p)
-      (costed-same cost bound laws K box some x is_x small nothing) in
-      let list : rows_of (pushed t 0 box p.kept) r.«open» ≡ (begin cost bound K box).list = rw is_open rows ∙ sym begin-list in
-      let long : r.peak ≡ length (begin cost bound K box).list = peak ∙ by p.kept ∙ ap length (sym begin-list) in
+      (costed_same cost bound laws K box some x is_x small nothing) in
+      let list : rows_of (pushed t 0 box p.kept) r.«open» ≡ (begin cost bound K box).list = rw is_open rows ∙ sym begin_list in
+      let long : r.peak ≡ length (begin cost bound K box).list = peak ∙ by p.kept ∙ ap length (sym begin_list) in
       record {
         state = rw (is_found, list, count, long);
-        within = rw peak (first-within p.kept);
+        within = rw peak (first_within p.kept);
       }
     where
       by : (k : Bool) → cond k 1 0 ≡ length (cond k (box ∷ []) [])

@@ -8,27 +8,27 @@ use native.Mathlib.Omega.{arith}
 use borrow.Author.Tests.{le-leb, lt-leb, eqb-true, eqb-false}
 use lib.Dec.{leb, eqb}
 use lib.IntN.{ℤ}
-use Rattle.integers.proofs.Tests.{le-or-lt}
+use Rattle.integers.proofs.Tests.{le_or_lt}
 use Rattle.boxes.specs.declared.Box.{Box}
 use Rattle.boxes.specs.Boxes.{volume}
 use Rattle.boxes.specs.Laws.{Bounds}
 use Rattle.range_search.specs.RangeSearch.{Found, keeps, widen, costed}
-use Rattle.branching.specs.Branching.{justAbove}
-use Rattle.ranges.specs.Inside.{testedBy}
+use Rattle.branching.specs.Branching.{just_above}
+use Rattle.ranges.specs.Inside.{tested_by}
 
 -- as far as one more than the ceiling decides as the whole bound does
-same_test : (a x K : ℕ) → x ≡ min a (justAbove K) → a < 18446744073709551615 → leb x K ≡ leb a K
+same_test : (a x K : ℕ) → x ≡ min a (just_above K) → a < 18446744073709551615 → leb x K ≡ leb a K
 same_test a x K is small =
     ⊎_elim (λ (le : a ≤ K). le-leb x K (omega arith) ∙ sym (le-leb a K le))
-    (λ (lt : K < a). lt-leb x K (omega arith) ∙ sym (lt-leb a K lt)) (le-or-lt a K)
+    (λ (lt : K < a). lt-leb x K (omega arith) ∙ sym (lt-leb a K lt)) (le_or_lt a K)
 
 module _ (cost : List ℤ → ℕ) (bound : Box → ℕ) (laws : Bounds cost bound) (K : ℕ) (b : Box) (some : 1 ≤ volume b) (x : ℕ)
-    (is : x ≡ min (bound b) (justAbove K)) (small : bound b < 18446744073709551615) where
+    (is : x ≡ min (bound b) (just_above K)) (small : bound b < 18446744073709551615) where
   test : leb x K ≡ leb (bound b) K
   test = same_test (bound b) x K is small
 
   -- it is kept
-  pub kept_same : (testedBy b x K).kept ≡ keeps bound K b
+  pub kept_same : (tested_by b x K).kept ≡ keeps bound K b
   unfolding keeps
   kept_same = rw test (by (eqb (volume b) 1) refl)
     where
@@ -39,13 +39,13 @@ module _ (cost : List ℤ → ℕ) (bound : Box → ℕ) (laws : Bounds cost bou
           rw (le-leb 2 (volume b) (omega arith))
 
   -- its one vector is found
-  pub costed-same : (found : Found) → cond (testedBy b x K).counts (widen found b.low) found ≡ costed cost K found b
+  pub costed_same : (found : Found) → cond (tested_by b x K).counts (widen found b.low) found ≡ costed cost K found b
   unfolding costed
-  costed-same found = ap (λ (t : Bool). cond t (widen found b.low) found) counts
+  costed_same found = ap (λ (t : Bool). cond t (widen found b.low) found) counts
     where
       by : (t : Bool) → eqb (volume b) 1 ≡ t → (t && leb (bound b) K) ≡ (t && leb (cost b.low) K)
       by true e = rw (laws.tight b (eqb-true (volume b) 1 e))
       by false e = refl
 
-      counts : (testedBy b x K).counts ≡ (eqb (volume b) 1 && leb (cost b.low) K)
+      counts : (tested_by b x K).counts ≡ (eqb (volume b) 1 && leb (cost b.low) K)
       counts = rw test (by (eqb (volume b) 1) refl)

@@ -5,9 +5,9 @@ mod step;
 
 ghost use Rattle.std.specs.Prelude.{◌≡◌, ◌*◌};
 ghost use Rattle.residuals.specs.Laws.{Small};
-ghost use Rattle.range_hulls.specs.Hulls.{foundOf};
-ghost use Rattle.ranges.specs.Ranges.{checkRanges, givenBy, refused, rangesAnswer, TableRanged, RangesCertified};
-ghost use Rattle.ranges.specs.Inside.{toldOf};
+ghost use Rattle.range_hulls.specs.Hulls.{found_of};
+ghost use Rattle.ranges.specs.Ranges.{check_ranges, given_by, refused, ranges_answer, TableRanged, RangesCertified};
+ghost use Rattle.ranges.specs.Inside.{told_of};
 
 use crate::run::{End, begin, no_hull, steps};
 use codes::{Check, Refusal};
@@ -37,7 +37,7 @@ pub struct Answer {
 
 // Checks 1 to 8, with a table of so many numbers.
 pub fn check_ranges(store: &[u8], job: Job, numbers: usize) -> Check
-    ensures { result ≡ checkRanges store.now job numbers }
+    ensures { result ≡ check_ranges store.now job numbers }
 {
     let given = search_checks::check_job(store, job);
     let table = search_checks::check_table(numbers);
@@ -61,7 +61,7 @@ fn refusal(why: Refusal) -> Answer
 
 // What is told of what was found: all, if the search is finished.
 fn given_by(kind: Kind, hull: Hull) -> Hull
-    ensures { foundOf result ≡ givenBy kind (foundOf hull) }
+    ensures { found_of result ≡ given_by kind (found_of hull) }
 {
     match kind {
         Kind::Finished => hull,
@@ -80,7 +80,7 @@ fn used_by(n: u8, d: u8) -> usize
 
 // An answer with a kind and a state.
 fn tell(m: Model, end: End) -> Answer
-    ensures { result ≡ toldOf m end }
+    ensures { result ≡ told_of m end }
 {
     let kind = end.kind;
     let s = end.state;
@@ -108,7 +108,7 @@ fn sixteen_bits(v: &[i16])
 // Finds the range of every coefficient among the vectors of a job's box that cost at most the ceiling, within a split budget and the rows
 // of a lent table.
 pub fn ranges(store: &[u8], job: Job, ceiling: u64, table: &mut [i16]) -> Answer
-    ensures answer { result ≡ rangesAnswer store.now job ceiling table.old }
+    ensures answer { result ≡ ranges_answer store.now job ceiling table.old }
     ensures table { TableRanged store.now job ceiling table.old table.new }
     ensures ranges { RangesCertified store.now job ceiling table.old result }
 {

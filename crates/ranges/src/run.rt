@@ -3,11 +3,11 @@ ghost use Rattle.std.specs.Prelude.{◌≡◌, ◌≤◌, ◌<◌};
 ghost use Rattle.boxes.specs.Boxes.{volume};
 ghost use Rattle.points.specs.Points.{points_of};
 ghost use Rattle.residuals.specs.Cost.{bound, cost};
-ghost use Rattle.list_rows.specs.Rows.{rowCount};
+ghost use Rattle.list_rows.specs.Rows.{row_count};
 ghost use Rattle.range_search.specs.RangeSearch.{begin};
 ghost use Rattle.branching.specs.Branching.{Evaluable};
-ghost use Rattle.ranges.specs.Ranges.{rangesIn};
-ghost use Rattle.ranges.specs.Inside.{noHull, stateIn, Limited, Begun, Ended};
+ghost use Rattle.ranges.specs.Ranges.{ranges_in};
+ghost use Rattle.ranges.specs.Inside.{no_hull, state_in, Limited, Begun, Ended};
 
 use crate::Kind;
 use crate::step::{State, costed, one_if, push, step, test};
@@ -26,7 +26,7 @@ pub struct End {
 
 // Nothing is found.
 pub fn no_hull() -> Hull
-    ensures { result ≡ noHull }
+    ensures { result ≡ no_hull }
 {
     let zero = [0i16; 8];
     Hull {
@@ -47,7 +47,7 @@ pub fn begin(
     table: &mut [i16],
     domain: Box,
 ) -> State
-    requires { Evaluable store.now lanes.now m × (1 ≤ rowCount table.old) × (1 ≤ volume domain)
+    requires { Evaluable store.now lanes.now m × (1 ≤ row_count table.old) × (1 ≤ volume domain)
         × (bound m (points_of store.now) domain < 18446744073709551615) }
     ensures { Begun (cost m (points_of store.now)) (bound m (points_of store.now)) ceiling domain table.old
         result table.new }
@@ -79,11 +79,11 @@ pub fn steps(
     table: &mut [i16],
     first: State,
 ) -> End
-    requires evaluable { Evaluable store.now lanes.now job.model × (1 ≤ rowCount table.old) × (1 ≤ volume job.domain)
+    requires evaluable { Evaluable store.now lanes.now job.model × (1 ≤ row_count table.old) × (1 ≤ volume job.domain)
         × Limited (bound job.model (points_of store.now)) job.domain }
-    requires first_value { stateIn table.old first
+    requires first_value { state_in table.old first
         ≡ begin (cost job.model (points_of store.now)) (bound job.model (points_of store.now)) ceiling job.domain }
-    ensures { Ended (rangesIn store.now job ceiling (rowCount table.old)) table.old result table.new }
+    ensures { Ended (ranges_in store.now job ceiling (row_count table.old)) table.old result table.new }
 {
     let m = job.model;
     let mut s = first;

@@ -3,9 +3,9 @@ ghost use Rattle.std.specs.Prelude.{◌≡◌, cond};
 ghost use Rattle.points.specs.Points.{points_of};
 ghost use Rattle.residuals.specs.Cost.{bound, cost};
 ghost use Rattle.range_search.specs.RangeSearch.{widen};
-ghost use Rattle.range_hulls.specs.Hulls.{foundOf};
+ghost use Rattle.range_hulls.specs.Hulls.{found_of};
 ghost use Rattle.branching.specs.Branching.{Evaluable};
-ghost use Rattle.ranges.specs.Inside.{testedBy, pushed, Steppable, StepOutcome};
+ghost use Rattle.ranges.specs.Inside.{tested_by, pushed, Steppable, StepOutcome};
 
 use boxes::Box;
 use branching::{half_bounds, just_above};
@@ -39,7 +39,7 @@ pub struct Tested {
 
 // A box by its bound, which is the cost of a box of one vector.
 pub fn test(b: Box, bound: u64, ceiling: u64) -> Tested
-    ensures { result ≡ testedBy b bound ceiling }
+    ensures { result ≡ tested_by b bound ceiling }
 {
     let low = bound <= ceiling;
     let one = one_vector(b);
@@ -51,7 +51,7 @@ pub fn test(b: Box, bound: u64, ceiling: u64) -> Tested
 
 // What is found, with the one vector of a box if that counts.
 pub fn costed(hull: Hull, b: Box, counts: bool) -> Hull
-    ensures { foundOf result ≡ cond counts (widen (foundOf hull) b.low) (foundOf hull) }
+    ensures { found_of result ≡ cond counts (widen (found_of hull) b.low) (found_of hull) }
 {
     if counts {
         let low = b.low;

@@ -7,7 +7,7 @@ use Rattle.codes.specs.declared.Check.TheVariants.{Pass}
 use Rattle.jobs.specs.declared.Job.{Job}
 use Rattle.job_records.specs.Jobs.{job_of}
 use Rattle.answer_records.specs.Answers.{passing}
-use Rattle.registers.specs.Runs.{checkRun, foundBytes, refusalNumber, recordShown}
+use Rattle.registers.specs.Runs.{check_run, found_bytes, refusal_number, record_shown}
 
 -- An access of the bus: a read of an offset, or a write of a value to an offset, with the numbers of the table and the entries of the list
 -- of bounds that are lent to it.
@@ -25,10 +25,10 @@ last this [] = []
 last this (a ∷ h) = cond (this (a ∷ h)) (a ∷ h) (last this h)
 
 -- whether a moment writes to a place, and what it writes
-abbrev pub writesTo : ℕ → History → Bool
-writesTo place [] = false
-writesTo place (reads o ∷ h) = false
-writesTo place (writes o v n e ∷ h) = eqb o place
+abbrev pub writes_to : ℕ → History → Bool
+writes_to place [] = false
+writes_to place (reads o ∷ h) = false
+writes_to place (writes o v n e ∷ h) = eqb o place
 
 abbrev pub value : History → ℕ
 value [] = 0
@@ -36,8 +36,8 @@ value (reads o ∷ h) = 0
 value (writes o v n e ∷ h) = v
 
 -- the value that was last written to a place; "All bytes are 0 after reset."
-abbrev pub lastValue : ℕ → History → ℕ
-lastValue place h = value (last (writesTo place) h)
+abbrev pub last_value : ℕ → History → ℕ
+last_value place h = value (last (writes_to place) h)
 
 -- "Byte 0 is the command"
 abbrev pub commands : ℕ → History → Bool
@@ -58,19 +58,19 @@ consecutive f o zero = []
 consecutive f o (suc n) = f o ∷ consecutive f (suc o) n
 
 -- "64 to 135 are the job record", "as it stood" at the end of a history: each byte as it was last written
-unfoldable pub jobRecord : History → List ℕ
-jobRecord h = consecutive (λ place. lastValue place h) 64 72
+unfoldable pub job_record : History → List ℕ
+job_record h = consecutive (λ place. last_value place h) 64 72
 
-abbrev pub jobStanding : History → Job
-jobStanding h = job_of (jobRecord h)
+abbrev pub job_standing : History → Job
+job_standing h = job_of (job_record h)
 
 -- "Byte 2 enables the interrupt by bit 0"
 abbrev pub enabled : History → Bool
-enabled h = eqb (lastValue 2 h % 2) 1
+enabled h = eqb (last_value 2 h % 2) 1
 
 -- byte 2: "other bits read 0"
 unfoldable pub enable : History → ℕ
-enable h = lastValue 2 h % 2
+enable h = last_value 2 h % 2
 
 -- a run while the interrupt is enabled
 abbrev pub interrupts : History → Bool
@@ -82,8 +82,8 @@ abbrev pub pending : History → Bool
 pending h = interrupts (last (λ m. interrupts m || clears m) h)
 
 -- "A run sets done or refused and clears the other"; command 3 "clears flags": the last of both tells.
-abbrev pub lastFlagged : History → History
-lastFlagged h = last (λ m. runs m || clears m) h
+abbrev pub last_flagged : History → History
+last_flagged h = last (λ m. runs m || clears m) h
 
 -- a bit by whether it is set
 abbrev pub bit : Bool → ℕ
@@ -93,22 +93,22 @@ bit false = 0
 -- "over one unchanged store"
 module _ (store : List ℕ) where
   -- the check of a run, by the job record as it stood; and the record of its answer
-  abbrev pub checkAt : History → Check
-  checkAt [] = Pass
-  checkAt (reads o ∷ h) = Pass
-  checkAt (writes o v n e ∷ h) = checkRun store (jobStanding h) n e
+  abbrev pub check_at : History → Check
+  check_at [] = Pass
+  check_at (reads o ∷ h) = Pass
+  check_at (writes o v n e ∷ h) = check_run store (job_standing h) n e
 
-  abbrev pub recordAt : History → List ℕ
-  recordAt [] = replicate 40 0
-  recordAt (reads o ∷ h) = replicate 40 0
-  recordAt (writes o v n e ∷ h) = recordShown (checkRun store (jobStanding h) n e) (foundBytes store (jobStanding h))
+  abbrev pub record_at : History → List ℕ
+  record_at [] = replicate 40 0
+  record_at (reads o ∷ h) = replicate 40 0
+  record_at (writes o v n e ∷ h) = record_shown (check_run store (job_standing h) n e) (found_bytes store (job_standing h))
 
   -- "bit 0 done, bit 1 refused"
   abbrev pub done : History → Bool
-  done h = runs (lastFlagged h) && passing (checkAt (lastFlagged h))
+  done h = runs (last_flagged h) && passing (check_at (last_flagged h))
 
   abbrev pub refused : History → Bool
-  refused h = runs (lastFlagged h) && not (passing (checkAt (lastFlagged h)))
+  refused h = runs (last_flagged h) && not (passing (check_at (last_flagged h)))
 
   -- "Byte 1 holds flags"
   unfoldable pub flags : History → ℕ
@@ -116,11 +116,11 @@ module _ (store : List ℕ) where
 
   -- "Byte 3 is the last run's refusal number, 0 if it was done."
   unfoldable pub refusal : History → ℕ
-  refusal h = refusalNumber (checkAt (last runs h))
+  refusal h = refusal_number (check_at (last runs h))
 
   -- "Bytes 8 to 47 are the answer record", of the last run
   unfoldable pub answer : History → List ℕ
-  answer h = recordAt (last runs h)
+  answer h = record_at (last runs h)
 
   -- What a read of an offset gives. Byte 0 "reads 0"; "Gaps and offsets over 135 read 0."
   unfoldable pub described : History → ℕ → ℕ
@@ -129,11 +129,11 @@ module _ (store : List ℕ) where
       (cond (eqb o 2) (enable h)
       (cond (eqb o 3) (refusal h)
       (cond (within 8 o 47) (get_or (answer h) (o - 8) 0)
-      (cond (within 64 o 135) (lastValue o h)
+      (cond (within 64 o 135) (last_value o h)
       0))))
 
   -- what each read of a list gives, after a history
-  abbrev pub describedReplies : History → List Access → List ℕ
-  describedReplies h [] = []
-  describedReplies h (reads o ∷ more) = described h o ∷ describedReplies (reads o ∷ h) more
-  describedReplies h (writes o v n e ∷ more) = describedReplies (writes o v n e ∷ h) more
+  abbrev pub described_replies : History → List Access → List ℕ
+  described_replies h [] = []
+  described_replies h (reads o ∷ more) = described h o ∷ described_replies (reads o ∷ h) more
+  described_replies h (writes o v n e ∷ more) = described_replies (writes o v n e ∷ h) more

@@ -1,19 +1,19 @@
 -- The 136 register bytes: what an access does to them, and what a read of them gives, whatever they hold.
 use Rattle.std.specs.Prelude.{cond, ◌||◌, List, [], ◌∷◌, ◌++◌, ℕ, ◌+◌, ◌*◌, ◌/◌, ◌%◌, eqb, get_or, set, take, drop, replicate}
-use Rattle.codes.specs.Codes.{ifPassed, within}
+use Rattle.codes.specs.Codes.{if_passed, within}
 use Rattle.codes.specs.declared.Check.{Check}
 use Rattle.jobs.specs.declared.Job.{Job}
 use Rattle.job_records.specs.Jobs.{job_of}
 use Rattle.registers.specs.History.{Access, reads, writes, bit}
-use Rattle.registers.specs.Runs.{checkRun, foundBytes, refusalNumber, recordShown}
+use Rattle.registers.specs.Runs.{check_run, found_bytes, refusal_number, record_shown}
 
 -- "All bytes are 0 after reset."
 abbrev pub cleared : List ℕ
 cleared = replicate 136 0
 
 -- what a read gives
-unfoldable pub readAt : List ℕ → ℕ → ℕ
-readAt s o =
+unfoldable pub read_at : List ℕ → ℕ → ℕ
+read_at s o =
     cond (eqb o 1) (get_or s 1 0 % 8)
     (cond (eqb o 2) (get_or s 2 0 % 2)
     (cond (eqb o 3) (get_or s 3 0)
@@ -22,24 +22,24 @@ readAt s o =
     0))))
 
 -- the job record in the registers
-abbrev pub jobIn : List ℕ → Job
-jobIn s = job_of (drop 64 s)
+abbrev pub job_in : List ℕ → Job
+job_in s = job_of (drop 64 s)
 
 -- byte 1 after a run: done or refused, and pending if it was or if the interrupt is enabled
-unfoldable pub flagsAfter : Check → ℕ → ℕ → ℕ
-flagsAfter check before enable = ifPassed check 1 2 + 4 * bit (eqb (before / 4 % 2) 1 || eqb (enable % 2) 1)
+unfoldable pub flags_after : Check → ℕ → ℕ → ℕ
+flags_after check before enable = if_passed check 1 2 + 4 * bit (eqb (before / 4 % 2) 1 || eqb (enable % 2) 1)
 
 -- the registers with a run's flags, refusal number and record
 unfoldable pub with_run : List ℕ → Check → List ℕ → List ℕ
 with_run s check shown =
-    set (set (take 8 s ++ (shown ++ drop 48 s)) 3 (refusalNumber check)) 1 (flagsAfter check (get_or s 1 0) (get_or s 2 0))
+    set (set (take 8 s ++ (shown ++ drop 48 s)) 3 (refusal_number check)) 1 (flags_after check (get_or s 1 0) (get_or s 2 0))
 
 module _ (store : List ℕ) where
   -- command 2: a run with the job record in the registers
   unfoldable pub ran : List ℕ → ℕ → ℕ → List ℕ
   ran s numbers entries =
-      let check = checkRun store (jobIn s) numbers entries in
-      with_run s check (recordShown check (foundBytes store (jobIn s)))
+      let check = check_run store (job_in s) numbers entries in
+      with_run s check (record_shown check (found_bytes store (job_in s)))
 
   -- "2 runs a search, 3 clears flags and interrupt, and other values do nothing"
   unfoldable pub commanded : List ℕ → ℕ → ℕ → ℕ → List ℕ
@@ -64,5 +64,5 @@ module _ (store : List ℕ) where
   -- what each read of a list gives
   abbrev pub replies : List ℕ → List Access → List ℕ
   replies s [] = []
-  replies s (reads o ∷ more) = readAt s o ∷ replies s more
+  replies s (reads o ∷ more) = read_at s o ∷ replies s more
   replies s (writes o v n e ∷ more) = replies (written s o v n e) more

@@ -8,40 +8,40 @@ use lib.Dec.{ltb}
 use lib.IntN.{ℤ}
 use Rattle.incumbent.specs.Incumbent.{ahead_of}
 use Rattle.branching.specs.declared.Branches.{Branches}
-use Rattle.list_rows.specs.Rows.{rowCount}
-use Rattle.list_open_boxes.specs.OpenBoxes.{kept_at, number, roomIn}
+use Rattle.list_rows.specs.Rows.{row_count}
+use Rattle.list_open_boxes.specs.OpenBoxes.{kept_at, number, room_in}
 use Rattle.list_running.specs.declared.Found.{Found}
 use Rattle.list_running.specs.declared.Listing.{Listing}
-use Rattle.list_running.specs.Listing.{boxIn}
-use Rattle.replacing.specs.Replacing.{tooMany}
+use Rattle.list_running.specs.Listing.{box_in}
+use Rattle.replacing.specs.Replacing.{too_many}
 
 module _ (t : List ℤ) (d : List ℕ) (v : List ℤ) (f : List ℕ) (g : Listing) (found : Found) (br : Branches) where
-  pub too_long : rowCount t < g.number → true ≡ tooMany t d v f g found br
-  unfolding tooMany
-  too_long h = rw (lt-ltb (rowCount t) g.number h)
+  pub too_long : row_count t < g.number → true ≡ too_many t d v f g found br
+  unfolding too_many
+  too_long h = rw (lt-ltb (row_count t) g.number h)
 
-  module _ (within : g.number ≤ rowCount t) (a b : ℕ) (left : a ≡ cond br.left.kept 1 0) (right : b ≡ cond br.right.kept 1 0) where
-    pub enough : g.number + (a + b) ≤ rowCount t + 1 → false ≡ tooMany t d v f g found br
-    unfolding tooMany
-    enough h = rw (le-ltb (rowCount t) g.number within, ← left, ← right, le-leb (g.number + (a + b)) (rowCount t + 1) h)
+  module _ (within : g.number ≤ row_count t) (a b : ℕ) (left : a ≡ cond br.left.kept 1 0) (right : b ≡ cond br.right.kept 1 0) where
+    pub enough : g.number + (a + b) ≤ row_count t + 1 → false ≡ too_many t d v f g found br
+    unfolding too_many
+    enough h = rw (le-ltb (row_count t) g.number within, ← left, ← right, le-leb (g.number + (a + b)) (row_count t + 1) h)
 
-    module _ (many : rowCount t + 1 < g.number + (a + b)) where
-      pub all_stay : br.stays ≡ true → true ≡ tooMany t d v f g found br
-      unfolding tooMany
-      all_stay is = rw (le-ltb (rowCount t) g.number within, ← left, ← right, lt-leb (g.number + (a + b)) (rowCount t + 1) many, is)
+    module _ (many : row_count t + 1 < g.number + (a + b)) where
+      pub all_stay : br.stays ≡ true → true ≡ too_many t d v f g found br
+      unfolding too_many
+      all_stay is = rw (le-ltb (row_count t) g.number within, ← left, ← right, lt-leb (g.number + (a + b)) (row_count t + 1) many, is)
 
       pub counted :
-          br.stays ≡ false → (own : Bool) (o : ℕ) → own ≡ ahead_of br.mark found.spot.bound (boxIn t v found).low →
-          o ≡ cond own 1 0 → (x y : ℕ) → x ≡ number (kept_at t d br.mark) (min g.rows (roomIn t d)) →
-          y ≡ number (kept_at v f br.mark) (min g.late (roomIn v f)) →
-          ltb (rowCount t + o) (x + y + (a + b)) ≡ tooMany t d v f g found br
-      unfolding tooMany
+          br.stays ≡ false → (own : Bool) (o : ℕ) → own ≡ ahead_of br.mark found.spot.bound (box_in t v found).low →
+          o ≡ cond own 1 0 → (x y : ℕ) → x ≡ number (kept_at t d br.mark) (min g.rows (room_in t d)) →
+          y ≡ number (kept_at v f br.mark) (min g.late (room_in v f)) →
+          ltb (row_count t + o) (x + y + (a + b)) ≡ too_many t d v f g found br
+      unfolding too_many
       counted is own o own_is o_is x y far near =
           rw (
-            le-ltb (rowCount t) g.number within,
+            le-ltb (row_count t) g.number within,
             ← left,
             ← right,
-            lt-leb (g.number + (a + b)) (rowCount t + 1) many,
+            lt-leb (g.number + (a + b)) (row_count t + 1) many,
             is,
             o_is,
             own_is,

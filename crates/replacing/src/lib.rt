@@ -1,8 +1,8 @@
 // What a step does to the list: the box that was found goes, the others that are kept stay, and its halves that are kept follow.
 ghost use Rattle.std.specs.Prelude.{◌≡◌, cond};
 ghost use Rattle.incumbent.specs.Incumbent.{ahead_of};
-ghost use Rattle.list_running.specs.Listing.{boxIn, nearer};
-ghost use Rattle.replacing.specs.Replacing.{memory, putLate, putRow, putEntry, tooMany, RoomMade, ReplacedBy};
+ghost use Rattle.list_running.specs.Listing.{box_in, nearer};
+ghost use Rattle.replacing.specs.Replacing.{memory, put_late, put_row, put_entry, too_many, RoomMade, ReplacedBy};
 
 use boxes::Box;
 use branching::Branches;
@@ -30,7 +30,7 @@ fn one_if(kept: bool) -> usize
 
 // The box that was found.
 pub fn box_found(table: &[i16], late: &[i16], found: Found) -> Box
-    ensures { result ≡ boxIn table.now late.now found }
+    ensures { result ≡ box_in table.now late.now found }
 {
     let spot = found.spot;
     if found.late {
@@ -41,7 +41,7 @@ pub fn box_found(table: &[i16], late: &[i16], found: Found) -> Box
 
 // Whether it would be kept itself.
 fn kept_itself(table: &[i16], late: &[i16], found: Found, mark: Mark) -> bool
-    ensures { result ≡ ahead_of mark found.spot.bound (boxIn table.now late.now found).low }
+    ensures { result ≡ ahead_of mark found.spot.bound (box_in table.now late.now found).low }
 {
     let b = box_found(table, late, found);
     let low = b.low;
@@ -61,9 +61,9 @@ fn nearest(near: Lowest, at: usize, x: u64) -> Lowest
 
 // Puts a box that is kept behind the list, if there is room for one more late box.
 pub fn add(late: &mut [i16], beside: &mut [u64], list: Listing, child: Child) -> Listing
-    ensures list { result ≡ putLate late.old beside.old list child }
-    ensures late { late.new ≡ putRow late.old beside.old list child }
-    ensures beside { beside.new ≡ putEntry late.old beside.old list child }
+    ensures list { result ≡ put_late late.old beside.old list child }
+    ensures late { late.new ≡ put_row late.old beside.old list child }
+    ensures beside { beside.new ≡ put_entry late.old beside.old list child }
 {
     if list.number == GONE as usize {
         return list;
@@ -94,7 +94,7 @@ fn too_many(
     br: Branches,
 ) -> bool
     ensures { result
-        ≡ tooMany table.now bounds.now late.now beside.now list found br }
+        ≡ too_many table.now bounds.now late.now beside.now list found br }
 {
     let left = br.left;
     let right = br.right;

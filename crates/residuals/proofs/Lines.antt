@@ -8,8 +8,8 @@ use Rattle.boxes.specs.declared.Box.{Box}
 use Rattle.jobs.specs.declared.Model.{Model}
 use Rattle.points.specs.declared.Point.{Point}
 use Rattle.points.specs.Points.{xs}
-use Rattle.residuals.specs.Cost.{at, eMin, eMax, leastSize}
-use Rattle.residuals.specs.Inside.{dotMax, dotMin}
+use Rattle.residuals.specs.Cost.{at, e_min, e_max, least_size}
+use Rattle.residuals.specs.Inside.{dot_max, dot_min}
 use Rattle.integers.specs.Sums.{Σ}
 
 module _ (A B : Box) (b : ℕ) (x : List ℤ) where
@@ -17,16 +17,16 @@ module _ (A B : Box) (b : ℕ) (x : List ℤ) where
   abbrev pub Agree : ℕ → Type 0
   Agree k = (i : ℕ) → i < k → (at A.low (b + i) ≡ at B.low (b + i)) × (at A.high (b + i) ≡ at B.high (b + i))
 
-  max-agrees : (k : ℕ) → Agree k → dotMax A b x k ≡ dotMax B b x k
+  max_agrees : (k : ℕ) → Agree k → dot_max A b x k ≡ dot_max B b x k
   unfolding Σ
-  max-agrees zero s = refl
-  max-agrees (suc k) s = rw (max-agrees k (λ i h. s i (omega arith)), (s k (omega arith)).0, (s k (omega arith)).1)
+  max_agrees zero s = refl
+  max_agrees (suc k) s = rw (max_agrees k (λ i h. s i (omega arith)), (s k (omega arith)).0, (s k (omega arith)).1)
 
-  min-agrees : (k : ℕ) → Agree k → dotMin A b x k ≡ dotMin B b x k
+  min_agrees : (k : ℕ) → Agree k → dot_min A b x k ≡ dot_min B b x k
   unfolding Σ
-  min-agrees zero s = refl
-  min-agrees (suc k) s = rw (min-agrees k (λ i h. s i (omega arith)), (s k (omega arith)).0, (s k (omega arith)).1)
+  min_agrees zero s = refl
+  min_agrees (suc k) s = rw (min_agrees k (λ i h. s i (omega arith)), (s k (omega arith)).0, (s k (omega arith)).1)
 
-pub size-agrees : (m : Model) (A B : Box) (q : Point) (j : ℕ) → Agree A B (j * m.d) (xs q) m.d → leastSize m A q j ≡ leastSize m B q j
-unfolding leastSize eMin eMax
-size-agrees m A B q j s = rw (max-agrees A B (j * m.d) (xs q) m.d s, min-agrees A B (j * m.d) (xs q) m.d s)
+pub size_agrees : (m : Model) (A B : Box) (q : Point) (j : ℕ) → Agree A B (j * m.d) (xs q) m.d → least_size m A q j ≡ least_size m B q j
+unfolding least_size e_min e_max
+size_agrees m A B q j s = rw (max_agrees A B (j * m.d) (xs q) m.d s, min_agrees A B (j * m.d) (xs q) m.d s)

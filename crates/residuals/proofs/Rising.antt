@@ -4,9 +4,9 @@ use mathlib.Core.List.{List, [], ◌∷◌, ◌++◌, map, append_assoc}
 use Prim.Native.Nat.{ℕ, ◌≤◌}
 use native.Mathlib.Omega.{arith}
 use native.Mathlib.Nat.{le_refl, le_trans}
-use Rattle.loss.proofs.Laws.{loss-mono}
+use Rattle.loss.proofs.Laws.{loss_mono}
 use Rattle.ranks.specs.Laws.{Rises}
-use Rattle.residuals.specs.Laws.{lossSum}
+use Rattle.residuals.specs.Laws.{loss_sum}
 
 module _ (make : List ℕ → ℕ) (rises : Rises make) {Q : Type 0} (f g : Q → ℕ) (below : (q : Q) → f q ≤ g q) where
   -- one after the other, behind those that have grown
@@ -16,13 +16,13 @@ module _ (make : List ℕ → ℕ) (rises : Rises make) {Q : Type 0} (f g : Q �
       le_trans (rises.grows front (map f qs) (f q) (g q) (below q))
       (rw (← append_assoc front (g q ∷ []) (map f qs), ← append_assoc front (g q ∷ []) (map g qs)) (grown (front ++ (g q ∷ [])) qs))
 
-  pub made-mono : (qs : List Q) → make (map f qs) ≤ make (map g qs)
-  made-mono qs = grown [] qs
+  pub made_mono : (qs : List Q) → make (map f qs) ≤ make (map g qs)
+  made_mono qs = grown [] qs
 
-losses-grow : (p ε : ℕ) (xs ys : List ℕ) (a b : ℕ) → a ≤ b → lossSum p ε (xs ++ a ∷ ys) ≤ lossSum p ε (xs ++ b ∷ ys)
-unfolding lossSum
-losses-grow p ε [] ys a b h = omega (arith, loss-mono p ε h)
-losses-grow p ε (x ∷ xs) ys a b h = omega (arith, losses-grow p ε xs ys a b h)
+losses_grow : (p ε : ℕ) (xs ys : List ℕ) (a b : ℕ) → a ≤ b → loss_sum p ε (xs ++ a ∷ ys) ≤ loss_sum p ε (xs ++ b ∷ ys)
+unfolding loss_sum
+losses_grow p ε [] ys a b h = omega (arith, loss_mono p ε h)
+losses_grow p ε (x ∷ xs) ys a b h = omega (arith, losses_grow p ε xs ys a b h)
 
-pub losses-rise : (p ε : ℕ) → Rises (lossSum p ε)
-losses-rise p ε = record { grows = losses-grow p ε }
+pub losses_rise : (p ε : ℕ) → Rises (loss_sum p ε)
+losses_rise p ε = record { grows = losses_grow p ε }

@@ -1,7 +1,7 @@
 -- What the loops behind the calls are handed and say: a model that was checked, sums over a line's coordinates, and sizes of a point.
 use Rattle.std.specs.Prelude.{cond, List, ℕ, zero, suc, ◌+◌, ◌*◌, ◌≤◌, ◌<◌, min, ℤ, pos, nat_abs, ◌-ℤ◌, ◌*ℤ◌}
 use Rattle.std.specs.Int.Signed.{lt_z}
-use Rattle.integers.specs.Integers.{maxZ, minZ}
+use Rattle.integers.specs.Integers.{max_z, min_z}
 use Rattle.integers.specs.Sums.{Σ}
 use Rattle.boxes.specs.declared.Box.{Box}
 use Rattle.jobs.specs.declared.Model.{Model}
@@ -22,18 +22,18 @@ pub record Ready (bytes : ℕ) (m : Model) : Type 0 where
   pub kind : m.p ≤ 3
 
 -- a box by its low and its high vector
-abbrev pub boxOf : List ℤ → List ℤ → Box
-boxOf low high = record { low = low; high = high }
+abbrev pub box_of : List ℤ → List ℤ → Box
+box_of low high = record { low = low; high = high }
 
--- the sums of `residual`, `eMin` and `eMax` of Cost.antt over the first d coordinates of a line, which begin at place b
+-- the sums of `residual`, `e_min` and `e_max` of Cost.antt over the first d coordinates of a line, which begin at place b
 abbrev pub dot : List ℤ → ℕ → List ℤ → ℕ → ℤ
 dot v b x d = Σ (λ k. at v (b + k) *ℤ at x k) d
 
-abbrev pub dotMax : Box → ℕ → List ℤ → ℕ → ℤ
-dotMax B b x d = Σ (λ k. maxZ (at B.low (b + k) *ℤ at x k) (at B.high (b + k) *ℤ at x k)) d
+abbrev pub dot_max : Box → ℕ → List ℤ → ℕ → ℤ
+dot_max B b x d = Σ (λ k. max_z (at B.low (b + k) *ℤ at x k) (at B.high (b + k) *ℤ at x k)) d
 
-abbrev pub dotMin : Box → ℕ → List ℤ → ℕ → ℤ
-dotMin B b x d = Σ (λ k. minZ (at B.low (b + k) *ℤ at x k) (at B.high (b + k) *ℤ at x k)) d
+abbrev pub dot_min : Box → ℕ → List ℤ → ℕ → ℤ
+dot_min B b x d = Σ (λ k. min_z (at B.low (b + k) *ℤ at x k) (at B.high (b + k) *ℤ at x k)) d
 
 -- `size_at` of Cost.antt, by the numbers that a loop has: the line's coordinates begin at place b, and `power` is 2^S
 abbrev pub size_of : Point → List ℤ → ℕ → ℕ → ℕ → ℕ
@@ -44,6 +44,6 @@ unfoldable pub positive : ℤ → ℕ
 positive z = cond (lt_z z (pos 0)) 0 (nat_abs z)
 
 -- the least of `most` and f 0, …, f (n − 1)
-unfoldable pub leastFrom : ℕ → (ℕ → ℕ) → ℕ → ℕ
-leastFrom most f zero = most
-leastFrom most f (suc n) = min (leastFrom most f n) (f n)
+unfoldable pub least_from : ℕ → (ℕ → ℕ) → ℕ → ℕ
+least_from most f zero = most
+least_from most f (suc n) = min (least_from most f n) (f n)

@@ -6,16 +6,16 @@ use Rattle.boxes.specs.Boxes.{InBox}
 use Rattle.jobs.specs.declared.Job.{Job}
 use Rattle.jobs.specs.declared.Model.{Model}
 use Rattle.points.specs.declared.Point.{Point}
-use Rattle.points.specs.Points.{isGap}
+use Rattle.points.specs.Points.{is_gap}
 use Rattle.residuals.specs.Cost.{size_at, cost, bound}
-use Rattle.certificate.specs.Search.{keepIf, solved}
+use Rattle.certificate.specs.Search.{keep_if, solved}
 use Rattle.certificate.specs.Certificate.{Certificate}
-use Rattle.rounds.specs.Rounds.{samples, solve, leftBy, Round, peeled, roundLabel, fitted}
+use Rattle.rounds.specs.Rounds.{samples, solve, left_by, Round, peeled, round_label, fitted}
 
 -- Of a round that was run behind others, on the points of a store.
 pub record RoundHolds (job : Job) (rows : ℕ) (qs : List Point) (before : List Round) (r : Round) : Type 0 where
   -- "the points then left": those whose label is still 0, in order, and there are some
-  pub those-left : r.left ≡ keepIf (λ q. eqb (roundLabel job.model before q) 0) qs
+  pub those_left : r.left ≡ keep_if (λ q. eqb (round_label job.model before q) 0) qs
   pub some_left : r.left ≢ []
   -- "solve again on those left, each time from the job's start vector"; "Each round has the whole split budget and the table"
   pub alone : r.found ≡ solve job rows r.left
@@ -30,23 +30,23 @@ pub record RoundHolds (job : Job) (rows : ℕ) (qs : List Point) (before : List 
 
 -- Of a label that a point has after these rounds: which one, and why.
 pub data Labelled (m : Model) (rs : List Round) (q : Point) : ℕ → Type 0 where
-  gap : isGap q ≡ true → Labelled m rs q 6
+  gap : is_gap q ≡ true → Labelled m rs q 6
   -- "the round that removed it": it was solved and its line fits the point, which was left until then
   removed :
-      (before after : List Round) (r : Round) → rs ≡ before ++ (r ∷ after) → roundLabel m before q ≡ 0 → isGap q ≡ false →
+      (before after : List Round) (r : Round) → rs ≡ before ++ (r ∷ after) → round_label m before q ≡ 0 → is_gap q ≡ false →
       r.found.kind ≡ solved →
       size_at m r.found.vector q 0 ≤ m.eps →
       Labelled m rs q (suc (length before))
   -- "else 0": no line of a solved round fits it
   unremoved :
-      isGap q ≡ false → All (λ r. r.found.kind ≡ solved → m.eps < size_at m r.found.vector q 0) rs → Labelled m rs q 0
+      is_gap q ≡ false → All (λ r. r.found.kind ≡ solved → m.eps < size_at m r.found.vector q 0) rs → Labelled m rs q 0
 
 -- All of a peeling with a limit.
 pub record Peeling (job : Job) (rows limit : ℕ) (qs : List Point) : Type 0 where
-  pub each-round :
+  pub each_round :
       (before after : List Round) (r : Round) → peeled job rows limit qs ≡ before ++ (r ∷ after) → RoundHolds job rows qs before r
   -- "Stop .. after a given limit"
-  pub within-limit : length (peeled job rows limit qs) ≤ limit
+  pub within_limit : length (peeled job rows limit qs) ≤ limit
   -- "when the line fits none of the points left, or when a round isn't solved": a round with another behind it is solved and fits some
   pub goes_on :
       (before after : List Round) (r next : Round) → peeled job rows limit qs ≡ before ++ (r ∷ next ∷ after) →
@@ -56,13 +56,13 @@ pub record Peeling (job : Job) (rows limit : ℕ) (qs : List Point) : Type 0 whe
       (before : List Round) (r : Round) → peeled job rows limit qs ≡ before ++ (r ∷ []) → length (before ++ (r ∷ [])) < limit →
       r.found.kind ≡ solved →
       1 ≤ fitted job.model r.found.vector r.left →
-      leftBy job.model r.found r.left ≡ []
+      left_by job.model r.found r.left ≡ []
   -- "gaps are set aside before the first round, and if nothing else is there, no round is run", else one is
-  pub gaps-alone : samples qs ≡ [] → peeled job rows limit qs ≡ []
+  pub gaps_alone : samples qs ≡ [] → peeled job rows limit qs ≡ []
   pub begins : samples qs ≢ [] → 1 ≤ limit → peeled job rows limit qs ≢ []
   -- "A point's label is the round that removed it, else 0."; a gap's is 6; none is 5
-  pub label : (q : Point) → Labelled job.model (peeled job rows limit qs) q (roundLabel job.model (peeled job rows limit qs) q)
-  pub decided : limit ≤ 4 → (q : Point) → roundLabel job.model (peeled job rows limit qs) q ≢ 5
+  pub label : (q : Point) → Labelled job.model (peeled job rows limit qs) q (round_label job.model (peeled job rows limit qs) q)
+  pub decided : limit ≤ 4 → (q : Point) → round_label job.model (peeled job rows limit qs) q ≢ 5
 
 -- So it is with every job of one line and p = 0 whose start vector lies in its box.
 abbrev pub AllPeeling : Type 0

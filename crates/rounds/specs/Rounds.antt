@@ -4,14 +4,14 @@ use Rattle.std.specs.Prelude.{Bool, true, false, cond, not, ◌&&◌, ◌||◌, 
 use Rattle.jobs.specs.declared.Job.{Job}
 use Rattle.jobs.specs.declared.Model.{Model}
 use Rattle.points.specs.declared.Point.{Point}
-use Rattle.points.specs.Points.{isGap}
+use Rattle.points.specs.Points.{is_gap}
 use Rattle.residuals.specs.Cost.{size_at, cost, bound}
 use Rattle.certificate.specs.Search as Search
-use Rattle.certificate.specs.Search.{keepIf, solved, spent, full, search}
+use Rattle.certificate.specs.Search.{keep_if, solved, spent, full, search}
 
 -- "gaps are set aside before the first round": the points that are left at its beginning
 abbrev pub samples : List Point → List Point
-samples qs = keepIf (λ q. not (isGap q)) qs
+samples qs = keep_if (λ q. not (is_gap q)) qs
 
 -- "solve": the search that the job asks for, over these points alone, in so many rows. "each time from the job's start vector"; "Each round
 -- has the whole split budget and the table".
@@ -23,23 +23,23 @@ solve job rows qs =
 unfoldable pub fits : Model → List ℤ → Point → Bool
 fits m v q = leb (size_at m v q 0) m.eps
 
-abbrev pub isSolved : Search.Kind → Bool
-isSolved solved = true
-isSolved spent = false
-isSolved full = false
+abbrev pub is_solved : Search.Kind → Bool
+is_solved solved = true
+is_solved spent = false
+is_solved full = false
 
 -- Whether a round that came to r removes a point: "a round isn't solved, which then removes nothing".
 unfoldable pub removes : Model → Search.Answer → Point → Bool
-removes m r q = isSolved r.kind && fits m r.vector q
+removes m r q = is_solved r.kind && fits m r.vector q
 
 -- "those left"
-abbrev pub leftBy : Model → Search.Answer → List Point → List Point
-leftBy m r qs = keepIf (λ q. not (removes m r q)) qs
+abbrev pub left_by : Model → Search.Answer → List Point → List Point
+left_by m r qs = keep_if (λ q. not (removes m r q)) qs
 
 -- whether it removes any of these points
-unfoldable pub removesAny : Model → Search.Answer → List Point → Bool
-removesAny m r [] = false
-removesAny m r (q ∷ qs) = removes m r q || removesAny m r qs
+unfoldable pub removes_any : Model → Search.Answer → List Point → Bool
+removes_any m r [] = false
+removes_any m r (q ∷ qs) = removes m r q || removes_any m r qs
 
 -- A round that was run: the points then left, and what solving on them came to.
 pub record Round : Type 0 where
@@ -55,20 +55,20 @@ rounds job rows (suc limit) (q ∷ qs) =
     let r = solve job rows (q ∷ qs) in
     let m = job.model in
     record { left = q ∷ qs; found = r }
-    ∷ cond (removesAny m r (q ∷ qs)) (rounds job rows limit (leftBy m r (q ∷ qs))) []
+    ∷ cond (removes_any m r (q ∷ qs)) (rounds job rows limit (left_by m r (q ∷ qs))) []
 
 -- the rounds of a store's points
 abbrev pub peeled : Job → ℕ → ℕ → List Point → List Round
 peeled job rows limit qs = rounds job rows limit (samples qs)
 
 -- The number of the round that removed a point, where the first of these is round k; 0 if none did.
-unfoldable pub removedBy : Model → ℕ → List Round → Point → ℕ
-removedBy m k [] q = 0
-removedBy m k (r ∷ rs) q = cond (removes m r.found q) k (removedBy m (suc k) rs q)
+unfoldable pub removed_by : Model → ℕ → List Round → Point → ℕ
+removed_by m k [] q = 0
+removed_by m k (r ∷ rs) q = cond (removes m r.found q) k (removed_by m (suc k) rs q)
 
 -- "A point's label is the round that removed it, else 0." Request 2: a gap's label is 6.
-unfoldable pub roundLabel : Model → List Round → Point → ℕ
-roundLabel m rs q = cond (isGap q) 6 (removedBy m 1 rs q)
+unfoldable pub round_label : Model → List Round → Point → ℕ
+round_label m rs q = cond (is_gap q) 6 (removed_by m 1 rs q)
 
 -- how many of these points a line fits
 unfoldable pub fitted : Model → List ℤ → List Point → ℕ

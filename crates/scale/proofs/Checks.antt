@@ -5,8 +5,8 @@ use lib.Dec.{leb, leb→le}
 use Rattle.codes.specs.declared.Check.TheVariants.{Pass}
 use Rattle.codes.specs.declared.Refusal.TheVariants.{Scale}
 use Rattle.codes.proofs.Checks.{passed}
-use Rattle.scale.specs.Scale.{checkScale}
+use Rattle.scale.specs.Scale.{check_scale}
 
-pub scale-within : (S : ℕ) → checkScale S ≡ Pass → S ≤ 15
-unfolding checkScale
-scale-within S e = leb→le S 15 (passed (leb S 15) Scale e)
+pub scale_within : (S : ℕ) → check_scale S ≡ Pass → S ≤ 15
+unfolding check_scale
+scale_within S e = leb→le S 15 (passed (leb S 15) Scale e)

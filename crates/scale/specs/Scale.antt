@@ -2,8 +2,8 @@
 use Rattle.std.specs.Prelude.{ℕ, leb}
 use Rattle.codes.specs.declared.Check.{Check}
 use Rattle.codes.specs.declared.Refusal.TheVariants.{Scale}
-use Rattle.codes.specs.Codes.{passIf}
+use Rattle.codes.specs.Codes.{pass_if}
 
 -- Check 3: "S over 15".
-unfoldable pub checkScale : ℕ → Check
-checkScale S = passIf (leb S 15) Scale
+unfoldable pub check_scale : ℕ → Check
+check_scale S = pass_if (leb S 15) Scale

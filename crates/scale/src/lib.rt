@@ -1,6 +1,6 @@
 // The scale S: a parameter w stands for w / 2^S.
 ghost use Rattle.std.specs.Prelude.{◌≡◌, ◌^◌, ◌%◌};
-ghost use Rattle.scale.specs.Scale.{checkScale};
+ghost use Rattle.scale.specs.Scale.{check_scale};
 
 use codes::{Check, Refusal};
 
@@ -18,7 +18,7 @@ pub fn power(s: u8) -> u16
 
 // Check 3.
 pub fn check_scale(s: u8) -> Check
-    ensures { result ≡ checkScale s }
+    ensures { result ≡ check_scale s }
 {
     if s <= 15 {
         Check::Pass

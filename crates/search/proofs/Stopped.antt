@@ -6,11 +6,11 @@ use Prim.Native.Nat.{ℕ, suc, ◌≤◌}
 use native.Mathlib.Omega.{arith}
 use lib.IntN.{ℤ}
 use Rattle.boxes.specs.declared.Box.{Box}
-use Rattle.certificate.specs.Search.{State, Answer, solved, spent, go, begin, split, isSolved, answer, search}
+use Rattle.certificate.specs.Search.{State, Answer, solved, spent, go, begin, split, is_solved, answer, search}
 use Rattle.certificate.specs.Certificate.{Reached, beginning, counting, state_of}
 use Rattle.search.specs.Laws.{StopsAt}
 use Rattle.certificate.proofs.Steps.{Case, goes, step_case}
-use Rattle.certificate.proofs.Running.{Running, running-begins, running-goes, running-solved, running-spent}
+use Rattle.certificate.proofs.Running.{Running, running_begins, running_goes, running_solved, running_spent}
 
 module _ (cost : List ℤ → ℕ) (bound : Box → ℕ) (budget budget' rows t : ℕ) (start : List ℤ) (box : Box) where
   abbrev Runs : ℕ → State → Type 0
@@ -20,22 +20,22 @@ module _ (cost : List ℤ → ℕ) (bound : Box → ℕ) (budget budget' rows t 
       after
   unfolding split
   goes_on s less (goes unsolved left few) h =
-      (ap suc h.0, running-goes cost bound budget' rows t start box s h.1 unsolved (omega (arith, h.0)) few)
+      (ap suc h.0, running_goes cost bound budget' rows t start box s h.1 unsolved (omega (arith, h.0)) few)
 
   -- with another budget that is no smaller than the count the same steps are made
-  runs-as-far : {k : ℕ} {s : State} → k ≤ budget' → Reached cost bound budget rows t start box k s → Runs k s
+  runs_as_far : {k : ℕ} {s : State} → k ≤ budget' → Reached cost bound budget rows t start box k s → Runs k s
   unfolding begin
-  runs-as-far le beginning = (refl, running-begins cost bound budget' rows t start box)
-  runs-as-far le (counting {k = k} {s = s} r e) =
-      goes_on s le (rw e at (step_case cost bound budget rows t s)) (runs-as-far (omega arith) r)
+  runs_as_far le beginning = (refl, running_begins cost bound budget' rows t start box)
+  runs_as_far le (counting {k = k} {s = s} r e) =
+      goes_on s le (rw e at (step_case cost bound budget rows t s)) (runs_as_far (omega arith) r)
 
 pub stops_at : StopsAt
 unfolding answer
-stops_at cost bound budget rows t start box k s reached = by (isSolved cost bound t s) refl
+stops_at cost bound budget rows t start box k s reached = by (is_solved cost bound t s) refl
   where
     here : (s.count ≡ k) × Running cost bound k rows t start box s
-    here = runs-as-far cost bound budget k rows t start box (omega arith) reached
+    here = runs_as_far cost bound budget k rows t start box (omega arith) reached
 
-    by : (b : Bool) → isSolved cost bound t s ≡ b → state_of (search cost bound k rows t start box) ≡ s
-    by true e = ap state_of (running-solved cost bound k rows t start box s here.1 e)
-    by false e = ap state_of (running-spent cost bound k rows t start box s here.1 e here.0)
+    by : (b : Bool) → is_solved cost bound t s ≡ b → state_of (search cost bound k rows t start box) ≡ s
+    by true e = ap state_of (running_solved cost bound k rows t start box s here.1 e)
+    by false e = ap state_of (running_spent cost bound k rows t start box s here.1 e here.0)

@@ -5,11 +5,11 @@ use Rattle.boxes.specs.declared.Box.{Box}
 use Rattle.boxes.specs.Boxes.{volume}
 use Rattle.certificate.specs.Search as Search
 use Rattle.certificate.specs.Search.{better, begin, split}
-use Rattle.incumbent.specs.Incumbent.{keptBy, Marks}
-use Rattle.list_rows.specs.Rows.{rowCount, rows_of}
-use Rattle.list_open_boxes.specs.OpenBoxes.{roomIn}
+use Rattle.incumbent.specs.Incumbent.{kept_by, Marks}
+use Rattle.list_rows.specs.Rows.{row_count, rows_of}
+use Rattle.list_open_boxes.specs.OpenBoxes.{room_in}
 use Rattle.list_running.specs.declared.Found.{Found}
-use Rattle.replacing.specs.Replacing.{Memory, memory, listIn, boxFound, HeldIn, ChosenIn, LateLong, Within}
+use Rattle.replacing.specs.Replacing.{Memory, memory, list_in, box_found, HeldIn, ChosenIn, LateLong, Within}
 use Rattle.search.specs.declared.Kind.{Kind}
 use Rattle.search.specs.declared.Answer.{Answer}
 use Rattle.search.specs.declared.step.State.{State}
@@ -18,14 +18,14 @@ use Rattle.search.specs.declared.run.End.{End}
 use Rattle.search.specs.Search.{told}
 
 -- the state of a search, with the list that is held
-abbrev pub stateIn : Memory → State → Search.State
-stateIn h s = record { best = s.mark.best; list = listIn h s.list; count = s.count; peak = s.peak }
+abbrev pub state_in : Memory → State → Search.State
+state_in h s = record { best = s.mark.best; list = list_in h s.list; count = s.count; peak = s.peak }
 
 -- What holds of a state between two steps, and of how its list is held: in `HeldIn` the bound of each open box stands beside it, in the
 -- lent list or, for a late box, in the search's own memory.
 pub record Stands (cost : List ℤ → ℕ) (bound : Box → ℕ) (h : Memory) (s : State) : Type 0 where
   pub marks : Marks cost s.mark
-  pub listed : HeldIn bound h s.list (listIn h s.list)
+  pub listed : HeldIn bound h s.list (list_in h s.list)
   pub few : s.list.rows ≤ s.peak
   pub late : LateLong h
 
@@ -33,12 +33,12 @@ pub record Stands (cost : List ℤ → ℕ) (bound : Box → ℕ) (h : Memory) (
 -- beside the best vector. Where a split has been counted, the low vector of the box does not become best.
 pub record Steppable (cost : List ℤ → ℕ) (bound : Box → ℕ) (h : Memory) (s : State) (found : Found) : Type 0 where
   pub stands : Stands cost bound h s
-  pub chosen : ChosenIn bound h s.list (listIn h s.list) found
-  pub wide : 2 ≤ volume (boxFound h found)
-  pub kept : All (λ b. keptBy bound s.mark b ≡ true) (listIn h s.list)
-  pub costed : 1 ≤ s.count → better cost s.mark.t s.mark.best (boxFound h found).low ≡ s.mark.best
-  pub room : s.list.number ≤ rowCount h.table
-  pub entries : rowCount h.table ≤ length h.bounds
+  pub chosen : ChosenIn bound h s.list (list_in h s.list) found
+  pub wide : 2 ≤ volume (box_found h found)
+  pub kept : All (λ b. kept_by bound s.mark b ≡ true) (list_in h s.list)
+  pub costed : 1 ≤ s.count → better cost s.mark.t s.mark.best (box_found h found).low ≡ s.mark.best
+  pub room : s.list.number ≤ row_count h.table
+  pub entries : row_count h.table ≤ length h.bounds
   pub longest : s.list.number ≤ s.peak
   pub countable : s.count < 4294967295
 
@@ -46,13 +46,13 @@ pub record Steppable (cost : List ℤ → ℕ) (bound : Box → ℕ) (h : Memory
 pub record Moved (cost : List ℤ → ℕ) (bound : Box → ℕ) (h : Memory) (s₁ s₂ : State) (k : Memory) : Type 0 where
   pub stands : Stands cost bound k s₂
   pub tolerance : s₂.mark.t ≡ s₁.mark.t
-  pub state : stateIn k s₂ ≡ split cost bound s₁.mark.t (stateIn h s₁)
+  pub state : state_in k s₂ ≡ split cost bound s₁.mark.t (state_in h s₁)
   pub within : Within s₂.peak h k
 
 -- What a step says: there is no room for the split and nothing changed, or the split is made.
 pub record StepOutcome (cost : List ℤ → ℕ) (bound : Box → ℕ) (h : Memory) (s : State) (r : Stepped) (k : Memory) : Type 0 where
   pub kept : r.full ≡ true → k ≡ h
-  pub told : r.full ≡ ltb (rowCount h.table) (length (split cost bound s.mark.t (stateIn h s)).list)
+  pub told : r.full ≡ ltb (row_count h.table) (length (split cost bound s.mark.t (state_in h s)).list)
   pub moved : r.full ≡ false → Moved cost bound h s r.state k
 
 -- The state s and the late rows and entries are those of the beginning, whatever the table, its entries and the blocks are.
@@ -61,11 +61,11 @@ pub record Begun
   where
     pub tolerance : s.mark.t ≡ tol
     pub stands : (t : List ℤ) (d l p : List ℕ) → length l ≡ 64 → length p ≡ 64 → Stands cost bound (memory t d l p v f) s
-    pub state : (t : List ℤ) (d l p : List ℕ) → stateIn (memory t d l p v f) s ≡ begin cost bound tol start domain
+    pub state : (t : List ℤ) (d l p : List ℕ) → state_in (memory t d l p v f) s ≡ begin cost bound tol start domain
 
 -- an answer with a state and L
-abbrev pub answerWith : Kind → State → ℕ → Answer
-answerWith kind s low =
+abbrev pub answer_with : Kind → State → ℕ → Answer
+answer_with kind s low =
     record {
       kind = kind;
       vector = s.mark.best;
@@ -78,11 +78,11 @@ answerWith kind s low =
 
 -- What the steps end with is the answer `def`; its list is held, and each box in it is kept. The memory k was h.
 pub record Ended (bound : Box → ℕ) (def : Search.Answer) (h : Memory) (z : End) (k : Memory) : Type 0 where
-  pub answer : answerWith z.kind z.state z.low ≡ told def
+  pub answer : answer_with z.kind z.state z.low ≡ told def
   pub listed : HeldIn bound k z.state.list def.list
-  pub kept : All (λ b. keptBy bound z.state.mark b ≡ true) def.list
+  pub kept : All (λ b. kept_by bound z.state.mark b ≡ true) def.list
   pub fits : z.state.mark.cost < 18446744073709551615
-  pub room : length def.list ≤ roomIn k.table k.bounds
+  pub room : length def.list ≤ room_in k.table k.bounds
   pub few : length def.list ≤ def.peak
   pub rows : z.state.list.rows ≤ def.peak
   pub late : LateLong k
@@ -91,10 +91,10 @@ pub record Ended (bound : Box → ℕ) (def : Search.Answer) (h : Memory) (z : E
 -- The answer r, the table u and the list e are those of the answer `def`, where they were t and d.
 pub record Ran (bound : Box → ℕ) (def : Search.Answer) (t : List ℤ) (d : List ℕ) (r : Answer) (u : List ℤ) (e : List ℕ) : Type 0 where
   pub answer : r ≡ told def
-  pub open-rows : rows_of u (length def.list) ≡ def.list
-  pub open-entries : take (length def.list) e ≡ map bound def.list
+  pub open_rows : rows_of u (length def.list) ≡ def.list
+  pub open_entries : take (length def.list) e ≡ map bound def.list
   pub few : length def.list ≤ def.peak
   pub long : length u ≡ length t
-  pub long-entries : length e ≡ length d
+  pub long_entries : length e ≡ length d
   pub rest : drop (16 * def.peak) u ≡ drop (16 * def.peak) t
-  pub rest-entries : drop def.peak e ≡ drop def.peak d
+  pub rest_entries : drop def.peak e ≡ drop def.peak d

@@ -5,11 +5,11 @@ use Rattle.boxes.specs.declared.Box.{Box}
 use Rattle.jobs.specs.declared.Job.{Job}
 use Rattle.points.specs.Points.{points_of}
 use Rattle.residuals.specs.Cost.{cost, bound}
-use Rattle.list_rows.specs.Rows.{rowCount, rows_of}
+use Rattle.list_rows.specs.Rows.{row_count, rows_of}
 use Rattle.certificate.specs.Search.{State, search}
 use Rattle.certificate.specs.Certificate.{state_of, Reached}
 use Rattle.search.specs.declared.Kind.TheVariants.{Solved}
-use Rattle.search.specs.Search.{checkLent, searchAnswer, TableSearched, BoundsSearched}
+use Rattle.search.specs.Search.{check_lent, search_answer, TableSearched, BoundsSearched}
 
 -- Document 02, request 6: "From different start vectors two operators got different fits of equal cost." With t = 0 two solved answers over
 -- the same points, model and box have one vector, "whatever the start", the budgets, the tables and the lists of bounds.
@@ -21,9 +21,9 @@ SameVector =
     job.domain ≡ job'.domain →
     job.t ≡ 0 →
     job'.t ≡ 0 →
-    (searchAnswer store job table bounds).kind ≡ Solved →
-    (searchAnswer store' job' table' bounds').kind ≡ Solved →
-    (searchAnswer store job table bounds).vector ≡ (searchAnswer store' job' table' bounds').vector
+    (search_answer store job table bounds).kind ≡ Solved →
+    (search_answer store' job' table' bounds').kind ≡ Solved →
+    (search_answer store job table bounds).vector ≡ (search_answer store' job' table' bounds').vector
 
 -- A search over any cost and bound whose budget is a number k of splits that a search with another budget counts stops at the state that
 -- these lead to, solved or spent.
@@ -34,8 +34,8 @@ StopsAt =
     state_of (search cost bound k rows t start box) ≡ s
 
 -- the same job with another split budget
-abbrev pub withBudget : ℕ → Job → Job
-withBudget k job =
+abbrev pub with_budget : ℕ → Job → Job
+with_budget k job =
     record { model = job.model; t = job.t; budget = k; rows = job.rows; domain = job.domain; start = job.start }
 
 -- Document 02, request 3: "after the beginning and after every step the entry equals that bound by definition." While a search runs, its
@@ -45,9 +45,9 @@ withBudget k job =
 abbrev pub EachStep : Type 0
 EachStep =
     (store : List ℕ) (job : Job) (table after : List ℤ) (bounds entries : List ℕ) (k : ℕ) (s : State) →
-    checkLent store job table bounds ≡ Pass →
-    Reached (cost job.model (points_of store)) (bound job.model (points_of store)) job.budget (rowCount table) job.t
+    check_lent store job table bounds ≡ Pass →
+    Reached (cost job.model (points_of store)) (bound job.model (points_of store)) job.budget (row_count table) job.t
     job.start job.domain k s →
-    TableSearched store (withBudget k job) table bounds after →
-    BoundsSearched store (withBudget k job) table bounds entries →
+    TableSearched store (with_budget k job) table bounds after →
+    BoundsSearched store (with_budget k job) table bounds entries →
     (rows_of after (length s.list) ≡ s.list) × (take (length s.list) entries ≡ map (bound job.model (points_of store)) s.list)

@@ -7,11 +7,11 @@ use Rattle.boxes.specs.declared.Box.{Box}
 use Rattle.jobs.specs.declared.Job.{Job}
 use Rattle.points.specs.Points.{points_of}
 use Rattle.residuals.specs.Cost.{cost, bound}
-use Rattle.list_rows.specs.Rows.{rowCount, rows_of}
+use Rattle.list_rows.specs.Rows.{row_count, rows_of}
 use Rattle.certificate.specs.Search as Search
 use Rattle.certificate.specs.Search.{solved, spent, full, search}
 use Rattle.certificate.specs.Certificate.{Certificate}
-use Rattle.search_checks.specs.Checks.{checkSearch}
+use Rattle.search_checks.specs.Checks.{check_search}
 use Rattle.search.specs.declared.Kind.{Kind}
 use Rattle.search.specs.declared.Kind.TheVariants.{Solved, Spent, Full, Refused}
 use Rattle.search.specs.declared.Answer.{Answer}
@@ -28,11 +28,11 @@ kind_of spent = Spent
 kind_of full = Full
 
 -- "kind (1 solved, 2 spent, 3 full)"; a refusal has no kind, and 0 is no kind's number
-abbrev pub kindNumber : Kind → ℕ
-kindNumber Solved = 1
-kindNumber Spent = 2
-kindNumber Full = 3
-kindNumber (Refused why) = 0
+abbrev pub kind_number : Kind → ℕ
+kind_number Solved = 1
+kind_number Spent = 2
+kind_number Full = 3
+kind_number (Refused why) = 0
 
 -- "The answer carries vector, C, L, count, open boxes and peak", the boxes by their number: they stand in the table.
 abbrev pub told : Search.Answer → Answer
@@ -52,9 +52,9 @@ abbrev pub refused : Refusal → Answer
 refused why = record { kind = Refused why; vector = replicate 8 (pos 0); cost = 0; bound = 0; count = 0; «open» = 0; peak = 0 }
 
 -- "A search accepts a job when none of the checks that it makes, by the codes below, refuses the call."
-abbrev pub answerUnlessRefused : Check → Search.Answer → Answer
-answerUnlessRefused Pass r = told r
-answerUnlessRefused (Refuse why) r = refused why
+abbrev pub answer_unless_refused : Check → Search.Answer → Answer
+answer_unless_refused Pass r = told r
+answer_unless_refused (Refuse why) r = refused why
 
 -- What a search leaves of the table, by its check and by what it comes to. "At the end the first rows hold the open boxes in list order.
 -- Rows from there up to peak may hold leftovers; from peak on, and in a partial row, nothing changed." At a refusal nothing changed at all.
@@ -86,23 +86,23 @@ CertifiedIn store job rows =
 
 -- A search that is lent a table and a list of bounds. "r is its length divided by 16, rounded down."
 module _ (store : List ℕ) (job : Job) (table : List ℤ) (bounds : List ℕ) where
-  abbrev pub checkLent : Check
-  checkLent = checkSearch store job (length table) (length bounds)
+  abbrev pub check_lent : Check
+  check_lent = check_search store job (length table) (length bounds)
 
-  abbrev pub searchedLent : Search.Answer
-  searchedLent = searched store job (rowCount table)
+  abbrev pub searched_lent : Search.Answer
+  searched_lent = searched store job (row_count table)
 
   -- what it answers
-  unfoldable pub searchAnswer : Answer
-  searchAnswer = answerUnlessRefused checkLent searchedLent
+  unfoldable pub search_answer : Answer
+  search_answer = answer_unless_refused check_lent searched_lent
 
   -- and leaves in what it is lent
   abbrev pub TableSearched : List ℤ → Type 0
-  TableSearched after = TableAfter checkLent searchedLent table after
+  TableSearched after = TableAfter check_lent searched_lent table after
 
   abbrev pub BoundsSearched : List ℕ → Type 0
-  BoundsSearched after = BoundsAfter (bound job.model (points_of store)) checkLent searchedLent bounds after
+  BoundsSearched after = BoundsAfter (bound job.model (points_of store)) check_lent searched_lent bounds after
 
   -- An answer r to an accepted job is certified: it tells what the search comes to, and of that demand 3 holds.
   abbrev pub Certified : Answer → Type 0
-  Certified r = checkLent ≡ Pass → (r ≡ told searchedLent) × CertifiedIn store job (rowCount table)
+  Certified r = check_lent ≡ Pass → (r ≡ told searched_lent) × CertifiedIn store job (row_count table)

@@ -3,7 +3,7 @@ mod run;
 mod step;
 
 ghost use Rattle.std.specs.Prelude.{◌≡◌};
-ghost use Rattle.search.specs.Search.{refused, searchAnswer, TableSearched, BoundsSearched, Certified};
+ghost use Rattle.search.specs.Search.{refused, search_answer, TableSearched, BoundsSearched, Certified};
 
 use crate::run::run;
 use codes::{Check, Refusal};
@@ -51,7 +51,7 @@ fn refusal(why: Refusal) -> Answer
 // Searches the box of a job for the cheapest vector, within a split budget and the rows of a lent table, with the bound of each open box
 // at the end in a lent list.
 pub fn search(store: &[u8], job: Job, table: &mut [i16], bounds: &mut [u64]) -> Answer
-    ensures answer { result ≡ searchAnswer store.now job table.old bounds.old }
+    ensures answer { result ≡ search_answer store.now job table.old bounds.old }
     ensures table { TableSearched store.now job table.old bounds.old table.new }
     ensures bounds { BoundsSearched store.now job table.old bounds.old bounds.new }
     ensures certificate { Certified store.now job table.old bounds.old result }

@@ -4,9 +4,9 @@ ghost use Rattle.boxes.specs.Boxes.{InBox};
 ghost use Rattle.points.specs.Points.{points_of};
 ghost use Rattle.residuals.specs.Cost.{cost, bound};
 ghost use Rattle.branching.specs.Branching.{Evaluable};
-ghost use Rattle.list_rows.specs.Rows.{rowCount};
+ghost use Rattle.list_rows.specs.Rows.{row_count};
 ghost use Rattle.replacing.specs.Replacing.{memory};
-ghost use Rattle.search.specs.Inside.{Begun, Ended, answerWith, Ran};
+ghost use Rattle.search.specs.Inside.{Begun, Ended, answer_with, Ran};
 ghost use Rattle.search.specs.Search.{searched};
 
 use crate::step::{State, step};
@@ -52,7 +52,7 @@ fn begin(store: &[u8], lanes: &[Chunk], job: Job, late: &mut [i16], beside: &mut
 }
 
 fn answer(kind: Kind, s: State, low: u64) -> Answer
-    ensures { result ≡ answerWith kind s low }
+    ensures { result ≡ answer_with kind s low }
 {
     let mark = s.mark;
     let vector = mark.best;
@@ -95,11 +95,11 @@ fn steps(
     beside: &mut [u64],
     first: State,
 ) -> End
-    requires evaluable { Evaluable store.now lanes.now job.model × (1 ≤ rowCount table.old) × (rowCount table.old ≤ length bounds.old)
+    requires evaluable { Evaluable store.now lanes.now job.model × (1 ≤ row_count table.old) × (row_count table.old ≤ length bounds.old)
         × InBox job.start job.domain × (length leasts.old ≡ 64) × (length places.old ≡ 64) }
     requires begun { Begun (cost job.model (points_of store.now)) (bound job.model (points_of store.now)) job.t job.start job.domain
         first late.old beside.old }
-    ensures { Ended (bound job.model (points_of store.now)) (searched store.now job (rowCount table.old))
+    ensures { Ended (bound job.model (points_of store.now)) (searched store.now job (row_count table.old))
         (memory table.old bounds.old leasts.old places.old late.old
         beside.old) result (memory table.new bounds.new leasts.new places.new
         late.new beside.new) }
@@ -142,10 +142,10 @@ pub fn run(
     late: &mut [i16],
     beside: &mut [u64],
 ) -> Answer
-    requires { Evaluable store.now lanes.now job.model × (1 ≤ rowCount table.old) × (rowCount table.old ≤ length bounds.old)
+    requires { Evaluable store.now lanes.now job.model × (1 ≤ row_count table.old) × (row_count table.old ≤ length bounds.old)
         × InBox job.start job.domain × (length leasts.old ≡ 64) × (length places.old ≡ 64)
         × (length late.old ≡ 2048) × (length beside.old ≡ 128) }
-    ensures { Ran (bound job.model (points_of store.now)) (searched store.now job (rowCount table.old))
+    ensures { Ran (bound job.model (points_of store.now)) (searched store.now job (row_count table.old))
         table.old bounds.old result table.new bounds.new }
 {
     let first = begin(store, lanes, job, late, beside);

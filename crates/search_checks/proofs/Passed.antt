@@ -6,89 +6,89 @@ use lib.Dec.{leb, leb→le}
 use Rattle.codes.specs.declared.Check.{Check}
 use Rattle.codes.specs.declared.Check.TheVariants.{Pass, Refuse}
 use Rattle.codes.specs.declared.Refusal.{Refusal}
-use Rattle.codes.specs.Codes.{passIf, inOrder}
-use Rattle.codes.proofs.Checks.{refused-not-passed, passed, first-passed, others-passed}
-use Rattle.codes.proofs.Laws.{in-order-one}
-use Rattle.boxes.specs.Boxes.{InBox, checkBox, checkStart}
-use Rattle.boxes.proofs.Checks.{start-passed}
+use Rattle.codes.specs.Codes.{pass_if, in_order}
+use Rattle.codes.proofs.Checks.{refused_not_passed, passed, first_passed, others_passed}
+use Rattle.codes.proofs.Laws.{in_order_one}
+use Rattle.boxes.specs.Boxes.{InBox, check_box, check_start}
+use Rattle.boxes.proofs.Checks.{start_passed}
 use Rattle.jobs.specs.declared.Job.{Job}
-use Rattle.points.specs.Points.{points_of, checkStray}
-use Rattle.model_checks.specs.Checks.{checkModel}
-use Rattle.search_checks.specs.Checks.{checkJob, checkSearch}
+use Rattle.points.specs.Points.{points_of, check_stray}
+use Rattle.model_checks.specs.Checks.{check_model}
+use Rattle.search_checks.specs.Checks.{check_job, check_search}
 
 -- four checks, the first three of them in two groups
-last-decides : (a b c d : Check) → inOrder (a ∷ inOrder (b ∷ c ∷ []) ∷ []) ≡ Pass → inOrder (a ∷ b ∷ c ∷ d ∷ []) ≡ d
-unfolding inOrder
-last-decides Pass Pass Pass d h = in-order-one d
-last-decides Pass Pass (Refuse r) d h = refused-not-passed r h
-last-decides Pass (Refuse r) c d h = refused-not-passed r h
-last-decides (Refuse r) b c d h = refused-not-passed r h
+last_decides : (a b c d : Check) → in_order (a ∷ in_order (b ∷ c ∷ []) ∷ []) ≡ Pass → in_order (a ∷ b ∷ c ∷ d ∷ []) ≡ d
+unfolding in_order
+last_decides Pass Pass Pass d h = in_order_one d
+last_decides Pass Pass (Refuse r) d h = refused_not_passed r h
+last_decides Pass (Refuse r) c d h = refused_not_passed r h
+last_decides (Refuse r) b c d h = refused_not_passed r h
 
-first-refuse : (a b c d : Check) (r : Refusal) → inOrder (a ∷ inOrder (b ∷ c ∷ []) ∷ []) ≡ Refuse r
-    → inOrder (a ∷ b ∷ c ∷ d ∷ []) ≡ Refuse r
-unfolding inOrder
-first-refuse Pass Pass Pass d r h = refused-not-passed r (sym h)
-first-refuse Pass Pass (Refuse q) d r h = h
-first-refuse Pass (Refuse q) c d r h = h
-first-refuse (Refuse q) b c d r h = h
+first_refuse : (a b c d : Check) (r : Refusal) → in_order (a ∷ in_order (b ∷ c ∷ []) ∷ []) ≡ Refuse r
+    → in_order (a ∷ b ∷ c ∷ d ∷ []) ≡ Refuse r
+unfolding in_order
+first_refuse Pass Pass Pass d r h = refused_not_passed r (sym h)
+first_refuse Pass Pass (Refuse q) d r h = h
+first_refuse Pass (Refuse q) c d r h = h
+first_refuse (Refuse q) b c d r h = h
 
 module _ (store : List ℕ) (job : Job) where
   abbrev model : Check
-  model = checkModel store job.model
+  model = check_model store job.model
 
   abbrev box : Check
-  box = checkBox job.model.n job.model.d job.domain
+  box = check_box job.model.n job.model.d job.domain
 
   abbrev start : Check
-  start = checkStart job.domain job.start
+  start = check_start job.domain job.start
 
   abbrev stray : Check
-  stray = checkStray job.model.d (points_of store)
+  stray = check_stray job.model.d (points_of store)
 
-  pub stray-decides : inOrder (model ∷ inOrder (box ∷ start ∷ []) ∷ []) ≡ Pass → checkJob store job ≡ stray
-  unfolding checkJob
-  stray-decides = last-decides model box start stray
+  pub stray_decides : in_order (model ∷ in_order (box ∷ start ∷ []) ∷ []) ≡ Pass → check_job store job ≡ stray
+  unfolding check_job
+  stray_decides = last_decides model box start stray
 
-  pub first-refuses : (r : Refusal) → inOrder (model ∷ inOrder (box ∷ start ∷ []) ∷ []) ≡ Refuse r → checkJob store job ≡ Refuse r
-  unfolding checkJob
-  first-refuses = first-refuse model box start stray
+  pub first_refuses : (r : Refusal) → in_order (model ∷ in_order (box ∷ start ∷ []) ∷ []) ≡ Refuse r → check_job store job ≡ Refuse r
+  unfolding check_job
+  first_refuses = first_refuse model box start stray
 
   -- what a job that passes has
   pub record Runs : Type 0 where
-    pub checked : checkModel store job.model ≡ Pass
-    pub boxed : checkBox job.model.n job.model.d job.domain ≡ Pass
+    pub checked : check_model store job.model ≡ Pass
+    pub boxed : check_box job.model.n job.model.d job.domain ≡ Pass
     pub inside : InBox job.start job.domain
 
-  pub runs : checkJob store job ≡ Pass → Runs
-  unfolding checkJob
+  pub runs : check_job store job ≡ Pass → Runs
+  unfolding check_job
   runs e =
-      let e₂ = others-passed model (box ∷ start ∷ stray ∷ []) e in
-      let e₃ = others-passed box (start ∷ stray ∷ []) e₂ in
+      let e₂ = others_passed model (box ∷ start ∷ stray ∷ []) e in
+      let e₃ = others_passed box (start ∷ stray ∷ []) e₂ in
       record {
-        checked = first-passed model (box ∷ start ∷ stray ∷ []) e;
-        boxed = first-passed box (start ∷ stray ∷ []) e₂;
-        inside = start-passed job.domain job.start (first-passed start (stray ∷ []) e₃);
+        checked = first_passed model (box ∷ start ∷ stray ∷ []) e;
+        boxed = first_passed box (start ∷ stray ∷ []) e₂;
+        inside = start_passed job.domain job.start (first_passed start (stray ∷ []) e₃);
       }
 
-  module _ (numbers entries : ℕ) (e : checkSearch store job numbers entries ≡ Pass) where
+  module _ (numbers entries : ℕ) (e : check_search store job numbers entries ≡ Pass) where
     abbrev table : Check
-    table = passIf (leb 16 numbers) Refusal.Table
+    table = pass_if (leb 16 numbers) Refusal.Table
 
     abbrev bounds : Check
-    bounds = passIf (leb (numbers / 16) entries) Refusal.Bounds
+    bounds = pass_if (leb (numbers / 16) entries) Refusal.Bounds
 
-    lent : inOrder (table ∷ bounds ∷ []) ≡ Pass
-    unfolding checkSearch
-    lent = others-passed (checkJob store job) (table ∷ bounds ∷ []) e
+    lent : in_order (table ∷ bounds ∷ []) ≡ Pass
+    unfolding check_search
+    lent = others_passed (check_job store job) (table ∷ bounds ∷ []) e
 
-    pub runs-accepted : Runs
-    unfolding checkSearch
-    runs-accepted = runs (first-passed (checkJob store job) (table ∷ bounds ∷ []) e)
+    pub runs_accepted : Runs
+    unfolding check_search
+    runs_accepted = runs (first_passed (check_job store job) (table ∷ bounds ∷ []) e)
 
-    pub rows-accepted : 16 ≤ numbers
-    rows-accepted = leb→le 16 numbers (passed (leb 16 numbers) Refusal.Table (first-passed table (bounds ∷ []) lent))
+    pub rows_accepted : 16 ≤ numbers
+    rows_accepted = leb→le 16 numbers (passed (leb 16 numbers) Refusal.Table (first_passed table (bounds ∷ []) lent))
 
-    pub entries-accepted : numbers / 16 ≤ entries
-    entries-accepted =
+    pub entries_accepted : numbers / 16 ≤ entries
+    entries_accepted =
         leb→le (numbers / 16) entries (passed (leb (numbers / 16) entries) Refusal.Bounds
-        (first-passed bounds [] (others-passed table (bounds ∷ []) lent)))
+        (first_passed bounds [] (others_passed table (bounds ∷ []) lent)))

@@ -1,15 +1,15 @@
 // The checks of a search.
 ghost use Rattle.std.specs.Prelude.{◌≡◌, ◌/◌, leb};
-ghost use Rattle.codes.specs.Codes.{passIf};
+ghost use Rattle.codes.specs.Codes.{pass_if};
 ghost use Rattle.codes.specs.declared.Refusal.{Refusal};
-ghost use Rattle.search_checks.specs.Checks.{checkJob, checkSearch};
+ghost use Rattle.search_checks.specs.Checks.{check_job, check_search};
 
 use codes::{Check, Refusal, in_order};
 use jobs::Job;
 
 // Check 8, of the numbers that the table has.
 pub fn check_table(numbers: usize) -> Check
-    ensures { result ≡ passIf (leb 16 numbers) Refusal.Table }
+    ensures { result ≡ pass_if (leb 16 numbers) Refusal.Table }
 {
     if 16 <= numbers {
         Check::Pass
@@ -20,7 +20,7 @@ pub fn check_table(numbers: usize) -> Check
 
 // Check 14, of the entries beside a table of so many numbers.
 pub fn check_bounds(numbers: usize, entries: usize) -> Check
-    ensures { result ≡ passIf (leb (numbers / 16) entries) Refusal.Bounds }
+    ensures { result ≡ pass_if (leb (numbers / 16) entries) Refusal.Bounds }
 {
     if numbers / 16 <= entries {
         Check::Pass
@@ -31,7 +31,7 @@ pub fn check_bounds(numbers: usize, entries: usize) -> Check
 
 // Checks 1 to 7. Only where checks 1 to 6 pass is the store looked through for stray fields.
 pub fn check_job(store: &[u8], job: Job) -> Check
-    ensures { result ≡ checkJob store.now job }
+    ensures { result ≡ check_job store.now job }
 {
     let m = job.model;
     let domain = job.domain;
@@ -48,7 +48,7 @@ pub fn check_job(store: &[u8], job: Job) -> Check
 
 // Checks 1 to 8 and 14, with a table of so many numbers and a list of so many entries.
 pub fn check_search(store: &[u8], job: Job, numbers: usize, entries: usize) -> Check
-    ensures { result ≡ checkSearch store.now job numbers entries }
+    ensures { result ≡ check_search store.now job numbers entries }
 {
     let given = check_job(store, job);
     let table = check_table(numbers);

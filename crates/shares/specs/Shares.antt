@@ -9,15 +9,15 @@ module _ (own : ℕ → ℕ) (spent : ℕ → ℕ → ℕ) (total count : ℕ) w
   share_of i left = min (own i) (left / (count - i))
 
   -- the splits left before job i: T less the splits that the jobs before it made
-  unfoldable pub leftBefore : ℕ → ℕ
-  leftBefore zero = total
-  leftBefore (suc i) = leftBefore i - spent i (share_of i (leftBefore i))
+  unfoldable pub left_before : ℕ → ℕ
+  left_before zero = total
+  left_before (suc i) = left_before i - spent i (share_of i (left_before i))
 
   -- "In order, each job gets" this
-  abbrev pub budgetOf : ℕ → ℕ
-  budgetOf i = share_of i (leftBefore i)
+  abbrev pub budget_of : ℕ → ℕ
+  budget_of i = share_of i (left_before i)
 
   -- the splits of the first n jobs together
-  unfoldable pub splitsOf : ℕ → ℕ
-  splitsOf zero = 0
-  splitsOf (suc n) = splitsOf n + spent n (budgetOf n)
+  unfoldable pub splits_of : ℕ → ℕ
+  splits_of zero = 0
+  splits_of (suc n) = splits_of n + spent n (budget_of n)

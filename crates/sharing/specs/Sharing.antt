@@ -3,7 +3,7 @@
 -- the open count up to peak, of several searches the largest, are as free as the rows there, and those from there on keep their contents."
 use Rattle.std.specs.Prelude.{◌≡◌, List, [], ◌∷◌, map, ℕ, ◌*◌, max, ℤ, length, take, drop}
 use Rattle.codes.specs.declared.Check.{Check}
-use Rattle.codes.specs.Codes.{ifPassed}
+use Rattle.codes.specs.Codes.{if_passed}
 use Rattle.boxes.specs.declared.Box.{Box}
 use Rattle.list_rows.specs.Rows.{rows_of}
 use Rattle.certificate.specs.Search as Search
@@ -14,33 +14,33 @@ pub record Run : Type 0 where
   pub found : Search.Answer
 
 -- what a search adds to those that were run: itself, unless its check refuses it
-abbrev pub runIf : Check → Run → List Run
-runIf check r = ifPassed check (r ∷ []) []
+abbrev pub run_if : Check → Run → List Run
+run_if check r = if_passed check (r ∷ []) []
 
 -- "the largest peak"; 0 where no search was run
-unfoldable pub largestPeak : List Run → ℕ
-largestPeak [] = 0
-largestPeak (r ∷ rs) = max r.found.peak (largestPeak rs)
+unfoldable pub largest_peak : List Run → ℕ
+largest_peak [] = 0
+largest_peak (r ∷ rs) = max r.found.peak (largest_peak rs)
 
 -- "the last one's open boxes", and their bounds; none where no search was run
-unfoldable pub lastOpen : List Run → List Box
-lastOpen [] = []
-lastOpen (r ∷ []) = r.found.list
-lastOpen (r ∷ s ∷ rs) = lastOpen (s ∷ rs)
+unfoldable pub last_open : List Run → List Box
+last_open [] = []
+last_open (r ∷ []) = r.found.list
+last_open (r ∷ s ∷ rs) = last_open (s ∷ rs)
 
-unfoldable pub lastBounds : List Run → List ℕ
-lastBounds [] = []
-lastBounds (r ∷ []) = map r.bound r.found.list
-lastBounds (r ∷ s ∷ rs) = lastBounds (s ∷ rs)
+unfoldable pub last_bounds : List Run → List ℕ
+last_bounds [] = []
+last_bounds (r ∷ []) = map r.bound r.found.list
+last_bounds (r ∷ s ∷ rs) = last_bounds (s ∷ rs)
 
 -- The table after these searches, in order: what stands between the last one's open boxes and the largest peak is free.
 pub record SharedTable (runs : List Run) (table after : List ℤ) : Type 0 where
   pub long : length after ≡ length table
-  pub rows : rows_of after (length (lastOpen runs)) ≡ lastOpen runs
-  pub rest : drop (16 * largestPeak runs) after ≡ drop (16 * largestPeak runs) table
+  pub rows : rows_of after (length (last_open runs)) ≡ last_open runs
+  pub rest : drop (16 * largest_peak runs) after ≡ drop (16 * largest_peak runs) table
 
 -- the list of bounds after them, likewise
 pub record SharedBounds (runs : List Run) (bounds after : List ℕ) : Type 0 where
   pub long : length after ≡ length bounds
-  pub entries : take (length (lastBounds runs)) after ≡ lastBounds runs
-  pub rest : drop (largestPeak runs) after ≡ drop (largestPeak runs) bounds
+  pub entries : take (length (last_bounds runs)) after ≡ last_bounds runs
+  pub rest : drop (largest_peak runs) after ≡ drop (largest_peak runs) bounds

@@ -1,15 +1,15 @@
 // The checks of a pass through the windows of a store, and how many windows it has.
 ghost use Rattle.std.specs.Prelude.{◌≡◌, ◌*◌, ◌/◌, ◌≤◌, leb, length};
-ghost use Rattle.codes.specs.Codes.{passIf, unlessRefused};
+ghost use Rattle.codes.specs.Codes.{pass_if, unless_refused};
 ghost use Rattle.codes.specs.declared.Refusal.{Refusal};
-ghost use Rattle.window_checks.specs.Checks.{windowCount, checkGiven, checkWindow, checkLentFor, checkWindows};
+ghost use Rattle.window_checks.specs.Checks.{window_count, check_given, check_window, check_lent_for, check_windows};
 
 use codes::{Check, Outcome, Refusal, in_order};
 use jobs::Job;
 
 // Checks 1 to 7, with check 4 for k records. Only where checks 1 to 6 pass is the store looked through for stray fields.
 fn check_given(store: &[u8], job: Job, k: usize) -> Check
-    ensures { result ≡ checkGiven store.now job k }
+    ensures { result ≡ check_given store.now job k }
 {
     let m = job.model;
     let domain = job.domain;
@@ -34,7 +34,7 @@ fn check_given(store: &[u8], job: Job, k: usize) -> Check
 
 // Check 17.
 fn check_window(records: usize, k: usize, h: usize) -> Check
-    ensures { result ≡ checkWindow records k h }
+    ensures { result ≡ check_window records k h }
 {
     if k < 1 {
         return Check::Refuse(Refusal::Window);
@@ -52,7 +52,7 @@ fn check_window(records: usize, k: usize, h: usize) -> Check
 // How many windows lie wholly in so many records.
 fn window_count(records: usize, k: usize, h: usize) -> usize
     requires { (k ≤ records) × (1 ≤ h) × (records ≤ 4096) }
-    ensures { result ≡ windowCount records k h }
+    ensures { result ≡ window_count records k h }
 {
     (records - k) / h + 1
 }
@@ -60,7 +60,7 @@ fn window_count(records: usize, k: usize, h: usize) -> usize
 // Check 10.
 fn check_room(count: usize, room: usize) -> Check
     requires { count ≤ 4097 }
-    ensures { result ≡ passIf (leb (40 * count) room) Refusal.Short }
+    ensures { result ≡ pass_if (leb (40 * count) room) Refusal.Short }
 {
     if 40 * count <= room {
         Check::Pass
@@ -72,7 +72,7 @@ fn check_room(count: usize, room: usize) -> Check
 // So many windows, if what is lent suffices for them.
 fn unless_short(count: usize, numbers: usize, entries: usize, room: usize) -> Outcome
     requires { count ≤ 4097 }
-    ensures { result ≡ unlessRefused (checkLentFor count numbers entries room) count }
+    ensures { result ≡ unless_refused (check_lent_for count numbers entries room) count }
 {
     let lent = in_order(
         search_checks::check_table(numbers),
@@ -95,8 +95,8 @@ pub fn count_windows(
     room: usize,
 ) -> Outcome
     ensures { result
-        ≡ unlessRefused (checkWindows store.now job k h numbers entries room)
-        (windowCount (length store.now / 12) k h) }
+        ≡ unless_refused (check_windows store.now job k h numbers entries room)
+        (window_count (length store.now / 12) k h) }
 {
     let records = store.len() / 12;
     let given = check_given(store, job, k);

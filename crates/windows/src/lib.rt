@@ -1,10 +1,10 @@
 // A whole pass through the fitter: a search for each window of a store, and the record of its answer.
 ghost use Rattle.std.specs.Prelude.{◌≡◌, ◌/◌, length};
 ghost use Rattle.codes.specs.declared.Check.TheVariants.{Pass};
-ghost use Rattle.search.specs.Search.{checkLent};
+ghost use Rattle.search.specs.Search.{check_lent};
 ghost use Rattle.sharing.specs.Sharing.{SharedTable, SharedBounds};
-ghost use Rattle.window_checks.specs.Checks.{windowCount, checkWindows};
-ghost use Rattle.window_runs.specs.Windows.{windowsAnswer, windowsOut, searchesMade, WindowsCertified};
+ghost use Rattle.window_checks.specs.Checks.{window_count, check_windows};
+ghost use Rattle.window_runs.specs.Windows.{windows_answer, windows_out, searches_made, WindowsCertified};
 ghost use Rattle.window_runs.specs.Inside.{Searched, Passed};
 
 use codes::Outcome;
@@ -12,7 +12,7 @@ use jobs::Job;
 
 // One window: its search, and the record of its answer. Answers the job of the next window, which starts at the vector found.
 fn window(store: &[u8], job: Job, table: &mut [i16], bounds: &mut [u64], place: &mut [u8]) -> Job
-    requires { (checkLent store.now job table.old bounds.old ≡ Pass) × (length place.old ≡ 40) }
+    requires { (check_lent store.now job table.old bounds.old ≡ Pass) × (length place.old ≡ 40) }
     ensures { Searched store.now job table.old bounds.old result
         table.new bounds.new place.new }
 {
@@ -42,8 +42,8 @@ fn each_window(
     bounds: &mut [u64],
     out: &mut [u8],
 )
-    requires { (checkWindows store.now job k h (length table.old) (length bounds.old) (length out.old) ≡ Pass)
-        × (count ≡ windowCount (length store.now / 12) k h) }
+    requires { (check_windows store.now job k h (length table.old) (length bounds.old) (length out.old) ≡ Pass)
+        × (count ≡ window_count (length store.now / 12) k h) }
     ensures { Passed store.now job k h table.old bounds.old out.old count
         table.new bounds.new out.new }
 {
@@ -70,12 +70,12 @@ pub fn windows(
     bounds: &mut [u64],
     out: &mut [u8],
 ) -> Outcome
-    ensures answer { result ≡ windowsAnswer store.now job k h table.old bounds.old out.old }
+    ensures answer { result ≡ windows_answer store.now job k h table.old bounds.old out.old }
     ensures out { out.new
-        ≡ windowsOut store.now job k h table.old bounds.old out.old }
-    ensures table { SharedTable (searchesMade store.now job k h table.old bounds.old out.old)
+        ≡ windows_out store.now job k h table.old bounds.old out.old }
+    ensures table { SharedTable (searches_made store.now job k h table.old bounds.old out.old)
         table.old table.new }
-    ensures bounds { SharedBounds (searchesMade store.now job k h table.old bounds.old out.old)
+    ensures bounds { SharedBounds (searches_made store.now job k h table.old bounds.old out.old)
         bounds.old bounds.new }
     ensures certificate { WindowsCertified store.now job k h table.old bounds.old out.old out.new }
 {

@@ -5,13 +5,13 @@ use lib.ListN.{length}
 use borrow.Author.Rules.{rules}
 use borrow.Author.Tests.{le-leb, lt-leb}
 use Rattle.integers.specs.Lists.{over}
-use Rattle.answer_line.specs.Line.{line, lineIn}
+use Rattle.answer_line.specs.Line.{line, line_in}
 use Rattle.decimal.proofs.Putting.{at_front}
 use Rattle.answer_line.proofs.line.Statement.{statement}
 use Rattle.answer_line.proofs.line.Tie as tie
 
 returns : tie.Need-returns
-unfolding lineIn over
+unfolding line_in over
 returns c = rw (lt-leb 200 (length c.before.before.args.out.now) (omega arith)) (refl, refl)
 
 put-line-requires : tie.Need-put-line-requires
@@ -21,7 +21,7 @@ same_length : tie.Need-same-length
 same_length c = search rules
 
 returns-2 : tie.Need-returns-2
-unfolding line lineIn over
+unfolding line line_in over
 returns-2 c =
     let e = c.before.before.before.before in
     rw (le-leb 200 (length e.before.before.args.out.now) (omega arith)) (at_front c.before.before.put-line.ensures)

@@ -2,7 +2,7 @@
 use native.Mathlib.Omega.{arith}
 use borrow.Author.Rules.{rules}
 use Rattle.decimal.specs.Put.{Put}
-use Rattle.decimal.proofs.Putting.{put-more, put_in, put-behind}
+use Rattle.decimal.proofs.Putting.{put_more, put_in, put_behind}
 use Rattle.answer_line.proofs.put_answer.Statement.{statement}
 use Rattle.answer_line.proofs.put_answer.Tie as tie
 
@@ -36,8 +36,8 @@ returns c =
     let q = c.before.before in
     let rest = q.before.before.before.before.before in
     let first = rest.before.before.before.before in
-    let fields = put-more (word-put first) rest.put-fields.ensures.0 in
-    put-behind fields q.put-bytes2.ensures (omega (arith, (word-put first).place))
+    let fields = put_more (word-put first) rest.put-fields.ensures.0 in
+    put_behind fields q.put-bytes2.ensures (omega (arith, (word-put first).place))
 
 pub put-answer-spec : {M : Type 1} → statement M
 put-answer-spec =

@@ -4,7 +4,7 @@ use Prim.Native.Nat.{◌+◌}
 use native.Mathlib.Nat.{mul-le-mul, le_of_lt}
 use native.Mathlib.Omega.{arith}
 use borrow.Author.Rules.{rules}
-use Rattle.decimal.proofs.Putting.{put-more, put_in, put-behind}
+use Rattle.decimal.proofs.Putting.{put_more, put_in, put_behind}
 use Rattle.answer_line.specs.Line.{fields}
 use Rattle.answer_line.proofs.put_fields.Statement.{statement}
 use Rattle.answer_line.proofs.put_fields.Tie as tie
@@ -46,7 +46,7 @@ returns c =
     let numbers = five.put-numbers.ensures.0 in
     let word = put_in name.put-bytes.ensures (omega (arith, numbers.long)) in
     let next : name.put-bytes.result ≡ five.put-numbers.result + 3 = word.place in
-    (put-behind (put-more numbers word) w.put-joined.ensures.0 (omega (arith, next)), omega (arith, next))
+    (put_behind (put_more numbers word) w.put-joined.ensures.0 (omega (arith, next)), omega (arith, next))
 
 pub put-fields-spec : {M : Type 1} → statement M
 put-fields-spec =

@@ -1,6 +1,6 @@
 -- Each name and number behind the one before. A name has 6 to 8 bytes, and there is room for 20 digits behind each.
 use native.Mathlib.Omega.{arith}
-use Rattle.decimal.proofs.Putting.{put_in, put-behind}
+use Rattle.decimal.proofs.Putting.{put_in, put_behind}
 use borrow.Author.Rules.{rules}
 use Rattle.answer_line.proofs.put_numbers.Statement.{statement}
 use Rattle.answer_line.proofs.put_numbers.Tie as tie
@@ -46,10 +46,10 @@ returns c =
     let bound = splits.before.before.before.before.before in
     let cost = bound.before.before.before.before.before in
     let cost-put = put_in cost.put-field.ensures.0 (omega arith) in
-    let bound-put = put-behind cost-put bound.put-field2.ensures.0 (omega arith) in
-    let splits-put = put-behind bound-put splits.put-field3.ensures.0 (omega arith) in
-    let opened-put = put-behind splits-put opened.put-field4.ensures.0 (omega arith) in
-    (put-behind opened-put peak.put-field5.ensures.0 (omega arith), omega arith)
+    let bound-put = put_behind cost-put bound.put-field2.ensures.0 (omega arith) in
+    let splits-put = put_behind bound-put splits.put-field3.ensures.0 (omega arith) in
+    let opened-put = put_behind splits-put opened.put-field4.ensures.0 (omega arith) in
+    (put_behind opened-put peak.put-field5.ensures.0 (omega arith), omega arith)
 
 pub put-numbers-spec : {M : Type 1} → statement M
 put-numbers-spec =

@@ -1,7 +1,7 @@
 -- The word of 8 bytes and the number, and byte 10 behind them.
 use native.Mathlib.Omega.{arith}
 use borrow.Author.Rules.{rules}
-use Rattle.decimal.proofs.Putting.{put_in, put-behind}
+use Rattle.decimal.proofs.Putting.{put_in, put_behind}
 use Rattle.answer_line.proofs.put_refusal.Statement.{statement}
 use Rattle.answer_line.proofs.put_refusal.Tie as tie
 
@@ -31,7 +31,7 @@ returns c =
     let q = c.before.before in
     let p = q.before.before.before.before.before in
     let word = put_in (rw p.before.number.ensures at p.put-field.ensures.0) (omega arith) in
-    put-behind word q.put-bytes.ensures (omega arith)
+    put_behind word q.put-bytes.ensures (omega arith)
 
 pub put-refusal-spec : {M : Type 1} → statement M
 put-refusal-spec =

@@ -5,7 +5,7 @@ use mathlib.Core.Path.{◌≡◌, sym, ap, ◌∙◌}
 use borrow.Author.Rules.{rules}
 use borrow.Author.Tests.{le-leb, lt-leb}
 use Rattle.codes.specs.declared.Check.{Check}
-use Rattle.answer_records.specs.Answers.{checkAnswer, passing}
+use Rattle.answer_records.specs.Answers.{check_answer, passing}
 use Rattle.answer_records.proofs.check_answer.Statement.{statement}
 use Rattle.answer_records.proofs.check_answer.Tie as tie
 
@@ -29,7 +29,7 @@ told : {k l : Check} {r t : Bool} → k ≡ l → r ≡ passing k → r ≡ t �
 told e f g = ap passing (sym e) ∙ sym f ∙ g
 
 returns : tie.Need-returns
-unfolding checkAnswer
+unfolding check_answer
 returns c =
     let order = c.before.before in
     let used = order.before.before in
@@ -42,14 +42,14 @@ returns c =
       kind.if2.true,
       told shape.before.check-shape.ensures shape.passes.ensures scale.before.before.if3.true,
       told scale.before.check-scale.ensures scale.passes2.ensures unused.before.if4.true,
-      sym unused.unused-zero.ensures ∙ used.if5.true,
+      sym unused.unused_zero_lem.ensures ∙ used.if5.true,
       order.if6.true,
       c.if7.true,
     )
 
 -- one test that fails is enough
 returns-2 : tie.Need-returns-2
-unfolding checkAnswer
+unfolding check_answer
 returns-2 c =
     ⊎_elim (λ w. simp (w.14.left, and-false))
     (⊎_elim (λ w. simp (w.12.left, and-false))

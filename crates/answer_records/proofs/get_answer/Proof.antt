@@ -4,8 +4,8 @@ use native.Mathlib.Omega.{arith}
 use borrow.Author.Rules.{rules}
 use Rattle.answer_records.specs.Answers.{answer_of}
 use Rattle.fields.specs.Fields.{byte_at}
-use Rattle.fields.proofs.BigEndian.{number-inside}
-use Rattle.fields.proofs.Vectors.{vector-inside}
+use Rattle.fields.proofs.BigEndian.{number_inside}
+use Rattle.fields.proofs.Vectors.{vector_inside}
 use Rattle.answer_records.proofs.get_answer.Statement.{statement}
 use Rattle.answer_records.proofs.get_answer.Tie as tie
 
@@ -40,10 +40,10 @@ returns c =
     let vector = count.before.before.before in
     let bytes = vector.before.before.args.bytes.now in
     λ i. record {
-      vector = (vector.get-vector.ensures ∙ vector-inside bytes 0 (omega arith)) i;
-      cost = (count.before.before.get-number.ensures.0 ∙ number-inside bytes 16 8 (omega arith) (omega arith)) i;
-      bound = (count.before.get-number2.ensures.0 ∙ number-inside bytes 24 8 (omega arith) (omega arith)) i;
-      count = (count.get-number32.ensures ∙ number-inside bytes 32 4 (omega arith) (omega arith)) i;
+      vector = (vector.get-vector.ensures ∙ vector_inside bytes 0 (omega arith)) i;
+      cost = (count.before.before.get-number.ensures.0 ∙ number_inside bytes 16 8 (omega arith) (omega arith)) i;
+      bound = (count.before.get-number2.ensures.0 ∙ number_inside bytes 24 8 (omega arith) (omega arith)) i;
+      count = (count.get-number32.ensures ∙ number_inside bytes 32 4 (omega arith) (omega arith)) i;
       kind = byte_at bytes 36;
       n = byte_at bytes 37;
       d = byte_at bytes 38;

@@ -5,9 +5,9 @@ use Prim.Native.Nat.{ℕ, ◌≤◌}
 use native.Mathlib.Omega.{arith}
 use borrow.Author.Rules.{rules}
 use lib.ListN.{length, length-set}
-use Rattle.fields.specs.Fields.{bigEndian, vectorBytes}
-use Rattle.fields.proofs.Storing.{Stored, nothing_stored, bytes-then, number-then, vector-then, stored-long, all-stored}
-use Rattle.answer_records.specs.Answers.{answerBytes}
+use Rattle.fields.specs.Fields.{big_endian, vector_bytes}
+use Rattle.fields.proofs.Storing.{Stored, nothing_stored, bytes_then, number_then, vector_then, stored_long, all_stored}
+use Rattle.answer_records.specs.Answers.{answer_bytes}
 use Rattle.answer_records.specs.declared.AnswerRecord.{AnswerRecord}
 use Rattle.answer_records.proofs.put_answer.Statement.{statement}
 use Rattle.answer_records.proofs.put_answer.Tie as tie
@@ -38,7 +38,7 @@ eight c = search rules
 
 -- the vector and the numbers
 abbrev numbers : AnswerRecord → List ℕ
-numbers a = vectorBytes a.vector ++ bigEndian 8 a.cost ++ bigEndian 8 a.bound ++ bigEndian 4 a.count
+numbers a = vector_bytes a.vector ++ big_endian 8 a.cost ++ big_endian 8 a.bound ++ big_endian 4 a.count
 
 stored : (c : tie.After-put-number3) → Stored (numbers (entry c).args.a) 36 (entry c).args.bytes.now c.put-number3.new.0
 stored c =
@@ -48,15 +48,15 @@ stored c =
     let start = entry c in
     let a = start.args.a in
     let room = start.pre in
-    let vector = vector-then (nothing_stored start.args.bytes.now) a.vector (eight start) (omega arith) v.put_vector.ensures in
-    let cost = number-then vector 8 a.cost (omega arith) n1.put-number.ensures in
-    let bound = number-then cost 8 a.bound (omega arith) n2.put-number2.ensures in
-    number-then bound 4 a.count (omega arith) c.put-number3.ensures
+    let vector = vector_then (nothing_stored start.args.bytes.now) a.vector (eight start) (omega arith) v.put_vector.ensures in
+    let cost = number_then vector 8 a.cost (omega arith) n1.put-number.ensures in
+    let bound = number_then cost 8 a.bound (omega arith) n2.put-number2.ensures in
+    number_then bound 4 a.count (omega arith) c.put-number3.ensures
 
 still-40 : (c : tie.After-put-number3) → 40 ≤ length c.put-number3.new.0
 still-40 c =
     let room = (entry c).requires in
-    omega (arith, stored-long (stored c) (omega arith))
+    omega (arith, stored_long (stored c) (omega arith))
 
 slice-write-bytes : tie.Need-slice-write-bytes
 slice-write-bytes c = omega (arith, still-40 c.before.before)
@@ -74,15 +74,15 @@ same_length : tie.Need-same-length
 same_length c =
     let last = c.before.before in
     let room = (entry last).requires in
-    simp length-set (stored-long (stored last) (omega arith))
+    simp length-set (stored_long (stored last) (omega arith))
 
 returns : tie.Need-returns
-unfolding answerBytes
+unfolding answer_bytes
 returns c =
     let last = c.before.before in
     let a = (entry last).args.a in
     let room = (entry last).requires in
-    all-stored (bytes-then (stored last) (a.kind ∷ a.n ∷ a.d ∷ a.scale ∷ []) room)
+    all_stored (bytes_then (stored last) (a.kind ∷ a.n ∷ a.d ∷ a.scale ∷ []) room)
 
 pub put-answer-spec : {M : Type 1} → statement M
 put-answer-spec =

@@ -1,8 +1,8 @@
 -- Three outcomes: a length that is not 40, an answer that its check refuses, and the answer.
 use mathlib.Core.Path.{sym, ap, ◌∙◌}
 use borrow.Author.Rules.{rules}
-use Rattle.answer_records.specs.Answers.{checkAnswer}
-use Rattle.answer_records.proofs.Answers.{read-no-length, read-refused, read-accepted}
+use Rattle.answer_records.specs.Answers.{check_answer}
+use Rattle.answer_records.proofs.Answers.{read_no_length, read_refused, read_accepted}
 use Rattle.answer_records.proofs.read_answer.Statement.{statement}
 use Rattle.answer_records.proofs.read_answer.Tie as tie
 
@@ -10,7 +10,7 @@ refused-answer-requires : tie.Need-refused-answer-requires
 refused-answer-requires c κs = search rules
 
 returns : tie.Need-returns
-returns c = c.refused-answer.ensures ∙ sym (read-no-length c.before.before.before.args.bytes.now c.before.if1.true)
+returns c = c.refused-answer.ensures ∙ sym (read_no_length c.before.before.before.args.bytes.now c.before.if1.true)
 
 get-answer-requires : tie.Need-get-answer-requires
 get-answer-requires c κs = search rules
@@ -31,8 +31,8 @@ returns-2 c =
     let bytes = answer.before.before.before.args.bytes.now in
     let r = c.before.before.r.given in
     c.refused-answer2.ensures
-    ∙ sym (read-refused bytes r.0.0 answer.before.if1.false
-    (ap checkAnswer (sym answer.get-answer.ensures) ∙ sym check.check-answer.ensures ∙ r.1))
+    ∙ sym (read_refused bytes r.0.0 answer.before.if1.false
+    (ap check_answer (sym answer.get-answer.ensures) ∙ sym check.check-answer.ensures ∙ r.1))
 
 enum_told : tie.Need-enum-told
 enum_told c = search rules
@@ -43,8 +43,8 @@ returns-3 c =
     let answer = check.before in
     let bytes = answer.before.before.before.args.bytes.now in
     rw answer.get-answer.ensures
-    (sym (read-accepted bytes answer.before.if1.false
-    (ap checkAnswer (sym answer.get-answer.ensures) ∙ sym check.check-answer.ensures ∙ c.enum_told.given.1)))
+    (sym (read_accepted bytes answer.before.if1.false
+    (ap check_answer (sym answer.get-answer.ensures) ∙ sym check.check-answer.ensures ∙ c.enum_told.given.1)))
 
 pub read-answer-spec : {M : Type 1} → statement M
 read-answer-spec =

@@ -2,7 +2,7 @@
 use mathlib.Core.Path.{refl, sym, ◌∙◌}
 use native.Mathlib.Omega.{arith}
 use borrow.Author.Rules.{rules}
-use Rattle.answer_records.proofs.Answers.{write-refused, write-no-room, write-accepted}
+use Rattle.answer_records.proofs.Answers.{write_refused, write_no_room, write_accepted}
 use Rattle.answer_records.proofs.write_answer.Statement.{statement}
 use Rattle.answer_records.proofs.write_answer.Tie as tie
 
@@ -17,7 +17,7 @@ returns c =
     let check = c.before.before.before in
     let args = check.before.before.args in
     let r = c.before.r.given in
-    (sym (write-refused args.a args.out.now r.0.0 (sym check.check-answer.ensures ∙ r.1)), refl)
+    (sym (write_refused args.a args.out.now r.0.0 (sym check.check-answer.ensures ∙ r.1)), refl)
 
 enum_told : tie.Need-enum-told
 enum_told c = search rules
@@ -26,7 +26,7 @@ returns-2 : tie.Need-returns-2
 returns-2 c =
     let check = c.before.before.before in
     let args = check.before.before.args in (
-      sym (write-no-room args.a args.out.now (sym check.check-answer.ensures ∙ c.before.enum_told.given.1) (omega arith)),
+      sym (write_no_room args.a args.out.now (sym check.check-answer.ensures ∙ c.before.enum_told.given.1) (omega arith)),
       refl,
     )
 
@@ -42,7 +42,7 @@ returns-3 c =
     let room = put.before.before in
     let check = room.before.before.before in
     let args = check.before.before.args in (
-      sym (write-accepted args.a args.out.now (sym check.check-answer.ensures ∙ room.before.enum_told.given.1)
+      sym (write_accepted args.a args.out.now (sym check.check-answer.ensures ∙ room.before.enum_told.given.1)
           room.if1.false),
       put.put-answer.ensures,
     )

@@ -1,6 +1,6 @@
 -- Each field is the answer's or the model's, and the number of the kind what the call for it gave.
 use borrow.Author.Rules.{rules}
-use Rattle.answers.specs.Records.{recordOf}
+use Rattle.answers.specs.Records.{record_of}
 use Rattle.answers.proofs.record_of.Statement.{statement}
 use Rattle.answers.proofs.record_of.Tie as tie
 
@@ -8,7 +8,7 @@ kind-number-requires : tie.Need-kind-number-requires
 kind-number-requires c κs = search rules
 
 returns : tie.Need-returns
-unfolding recordOf
+unfolding record_of
 returns c = rw c.kind-number.ensures
 
 pub record-of-spec : {M : Type 1} → statement M

@@ -7,9 +7,9 @@ use Prim.Native.Nat.{ℕ, ◌+◌, ◌≤◌, ◌<◌}
 use native.Mathlib.Omega.{arith}
 use Rattle.codes.specs.declared.Check.TheVariants.{Pass, Refuse}
 use Rattle.codes.specs.declared.Refusal.TheVariants.{Short}
-use Rattle.codes.specs.Codes.{inOrder}
-use Rattle.points.specs.Points.{checkStore}
-use Rattle.beacon.specs.Beacon.{checkMark, checkSpace, checkBody, checkTakeIn}
+use Rattle.codes.specs.Codes.{in_order}
+use Rattle.points.specs.Points.{check_store}
+use Rattle.beacon.specs.Beacon.{check_mark, check_space, check_body, check_take_in}
 use Rattle.beacon.proofs.check_take_in.Statement.{statement}
 use Rattle.beacon.proofs.check_take_in.Tie as tie
 
@@ -20,33 +20,33 @@ enum-known-r : tie.Need-enum-known-r
 enum-known-r c = search rules
 
 returns : tie.Need-returns
-unfolding checkTakeIn inOrder
+unfolding check_take_in in_order
 returns c =
     let s = c.before.before.before in
-    let refused : checkStore s.before.args.size ≡ Refuse c.before.r.given.0.0 =
+    let refused : check_store s.before.args.size ≡ Refuse c.before.r.given.0.0 =
     sym s.check-store.ensures ∙ c.before.r.given.1 in
     rw refused
 
 enum_told : tie.Need-enum-told
 enum_told c = search rules
 
-good_length : (c : tie.After-enum-told) → checkStore c.before.before.before.args.size ≡ Pass
+good_length : (c : tie.After-enum-told) → check_store c.before.before.before.args.size ≡ Pass
 good_length c = sym c.before.before.check-store.ensures ∙ c.enum_told.given.1
 
 returns-2 : tie.Need-returns-2
-unfolding checkTakeIn inOrder checkMark
+unfolding check_take_in in_order check_mark
 returns-2 c = rw (good_length c.before, lt-leb _ _ c.if1.true)
 
 returns-3 : tie.Need-returns-3
-unfolding checkTakeIn inOrder checkMark
+unfolding check_take_in in_order check_mark
 returns-3 c = rw (good_length c.before.before, le-leb _ _ c.before.if1.false, ne_eqb _ _ c.if2.true)
 
-good-mark : (c : tie.Else2) → let a = c.before.before.before.before.before.args in checkMark a.room a.mark ≡ Pass
-unfolding checkMark
+good-mark : (c : tie.Else2) → let a = c.before.before.before.before.before.args in check_mark a.room a.mark ≡ Pass
+unfolding check_mark
 good-mark c = rw (le-leb _ _ c.before.if1.false, eq-eqb _ _ c.if2.false)
 
 returns-4 : tie.Need-returns-4
-unfolding checkTakeIn inOrder checkSpace
+unfolding check_take_in in_order check_space
 returns-4 c =
     let a = c.before.before.before.before.before.before.args in
     let h : a.room < a.mark + a.size = omega arith in
@@ -54,8 +54,8 @@ returns-4 c =
 
 -- there is space in the store, and within 49,152 bytes there is none
 over : (c : tie.Else3) → let a = c.before.before.before.before.before.before.args in 49152 < a.mark + a.size
-    → Refuse Short ≡ checkTakeIn a.room a.mark a.size
-unfolding checkTakeIn inOrder checkSpace
+    → Refuse Short ≡ check_take_in a.room a.mark a.size
+unfolding check_take_in in_order check_space
 over c h =
     let a = c.before.before.before.before.before.before.args in
     let k : a.mark + a.size ≤ a.room = omega arith in
@@ -68,9 +68,9 @@ returns-6 : tie.Need-returns-6
 returns-6 c = over c.before.before (omega arith)
 
 -- there is space: what is left is the beacon's own limit
-space : (c : tie.Else5) → let a = c.before.before.before.before.before.before.before.before.args in checkTakeIn a.room a.mark
-    a.size ≡ inOrder (checkBody a.size ∷ [])
-unfolding checkTakeIn inOrder checkSpace
+space : (c : tie.Else5) → let a = c.before.before.before.before.before.before.before.before.args in check_take_in a.room a.mark
+    a.size ≡ in_order (check_body a.size ∷ [])
+unfolding check_take_in in_order check_space
 space c =
     let m = c.before.before.before in
     let a = m.before.before.before.before.before.args in
@@ -82,11 +82,11 @@ abbrev size : tie.Else5 → ℕ
 size c = c.before.before.before.before.before.before.before.before.args.size
 
 returns-7 : tie.Need-returns-7
-unfolding inOrder checkBody
+unfolding in_order check_body
 returns-7 c = rw (space c.before, lt-leb (size c.before) 236 (omega (arith, c.if6.true)))
 
 returns-8 : tie.Need-returns-8
-unfolding inOrder checkBody
+unfolding in_order check_body
 returns-8 c = rw (space c.before, le-leb (size c.before) 236 (omega (arith, c.if6.false)))
 
 pub check-take-in-spec : {M : Type 1} → statement M

@@ -6,14 +6,14 @@ use native.Mathlib.Omega.{arith}
 use lib.ListN.{length}
 use Rattle.codes.specs.declared.Check.{Check}
 use Rattle.codes.specs.declared.Check.TheVariants.{Pass, Refuse}
-use Rattle.beacon.specs.Beacon.{checkTakeIn, takeInAnswer, storeAfter}
-use Rattle.beacon.proofs.Laws.{new-mark}
+use Rattle.beacon.specs.Beacon.{check_take_in, take_in_answer, store_after}
+use Rattle.beacon.proofs.Laws.{new_mark}
 use Rattle.beacon.proofs.take_in.Statement.{statement}
 use Rattle.beacon.proofs.take_in.Tie as tie
 
 -- what the checks come to
 checks : tie.Start → Check
-checks s = checkTakeIn (length s.args.store.now) s.args.mark (length s.args.beacon.now)
+checks s = check_take_in (length s.args.store.now) s.args.mark (length s.args.beacon.now)
 
 taken : (c : tie.After-enum-told) → checks c.before.before.before.before.before ≡ Pass
 unfolding checks
@@ -23,7 +23,7 @@ room : (s : tie.Start) → checks s ≡ Pass
     → (s.args.mark + length s.args.beacon.now ≤ length s.args.store.now)
     × (s.args.mark + length s.args.beacon.now ≤ 49152)
 unfolding checks
-room s passed = new-mark (length s.args.store.now) s.args.mark (length s.args.beacon.now) passed
+room s passed = new_mark (length s.args.store.now) s.args.mark (length s.args.beacon.now) passed
 
 check-take-in-requires : tie.Need-check-take-in-requires
 check-take-in-requires c κs = search rules
@@ -44,13 +44,13 @@ same_length : tie.Need-same-length
 same_length c = search rules
 
 returns : tie.Need-returns
-unfolding takeInAnswer storeAfter checks
+unfolding take_in_answer store_after checks
 returns c =
     let passed = taken c.before.before.before.before in
     (rw passed, rw passed c.before.before.copy-behind.ensures)
 
 returns-2 : tie.Need-returns-2
-unfolding takeInAnswer storeAfter checks
+unfolding take_in_answer store_after checks
 returns-2 c =
     let k = c.before.before.before in
     let refused : checks k.before.before.before ≡ Refuse c.before.r.given.0.0 =

@@ -5,9 +5,9 @@ use Prim.Native.Nat.{ℕ}
 use lib.Dec.{leb}
 use Rattle.codes.specs.declared.Check.{Check}
 use Rattle.codes.specs.declared.Refusal.TheVariants.{Short}
-use Rattle.codes.specs.Codes.{inOrder, passIf}
-use Rattle.beacon_costs.specs.BeaconCosts.{checkByBeacon}
-use Rattle.beacon_costs.proofs.Writing.{group-number}
+use Rattle.codes.specs.Codes.{in_order, pass_if}
+use Rattle.beacon_costs.specs.BeaconCosts.{check_by_beacon}
+use Rattle.beacon_costs.proofs.Writing.{group_number}
 use borrow.Author.Rules.{rules}
 use Rattle.beacon_costs.proofs.check_by_beacon.Statement.{statement}
 use Rattle.beacon_costs.proofs.check_by_beacon.Tie as tie
@@ -27,13 +27,13 @@ in-order-requires : tie.Need-in-order-requires
 in-order-requires c κs = search rules
 
 returns : tie.Need-returns
-unfolding checkByBeacon
+unfolding check_by_beacon
 returns c =
     let a = c.before.before.before.before.args in
     c.in_order.ensures
-    ∙ ap₂ (λ (first : Check) (second : Check). inOrder (first ∷ second ∷ []))
+    ∙ ap₂ (λ (first : Check) (second : Check). in_order (first ∷ second ∷ []))
     c.before.before.check-threshold.ensures
-    (c.before.check-room.ensures ∙ ap (λ (n : ℕ). passIf (leb n a.entries) Short) (sym (group-number a.store.now)))
+    (c.before.check-room.ensures ∙ ap (λ (n : ℕ). pass_if (leb n a.entries) Short) (sym (group_number a.store.now)))
 
 pub check-by-beacon-spec : {M : Type 1} → statement M
 check-by-beacon-spec =

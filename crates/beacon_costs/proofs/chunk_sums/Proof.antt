@@ -2,7 +2,7 @@
 use Prim.Native.Nat.{◌%◌, ◌≤◌}
 use native.Mathlib.Omega.{arith}
 use borrow.Author.Rules.{rules}
-use Rattle.beacon_costs.proofs.Chunks.{chunk-sums}
+use Rattle.beacon_costs.proofs.Chunks.{chunk_sums}
 use Rattle.beacon_costs.proofs.chunk_sums.Statement.{statement}
 use Rattle.beacon_costs.proofs.chunk_sums.Tie as tie
 use Rattle.beacon_costs.proofs.chunk_sums.Reads as reads
@@ -25,7 +25,7 @@ group-losses-requires c κs = search rules
 returns-2 : tie.Need-returns-2
 returns-2 c =
     let s = c.before.before.before.before.before.before in
-    chunk-sums s.args.store.now s.requires.0.0 s.requires.0.3 s.requires.0.1 c.before.before.decode-chunk.ensures.0
+    chunk_sums s.args.store.now s.requires.0.0 s.requires.0.3 s.requires.0.1 c.before.before.decode-chunk.ensures.0
     c.group-losses.ensures
 
 pub chunk-sums-spec : {M : Type 1} → statement M

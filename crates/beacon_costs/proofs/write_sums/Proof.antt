@@ -7,11 +7,11 @@ use native.Mathlib.Omega.{arith}
 use lib.IntN.{ℤ}
 use lib.ListN.{length, get_or, length-set}
 use Rattle.points.specs.Points.{points_of}
-use Rattle.residuals.proofs.Sizes.{power-of}
+use Rattle.residuals.proofs.Sizes.{power_of}
 use Rattle.eval_kernel.specs.Kernel.{Doubles}
-use Rattle.beacon_costs.specs.BeaconCosts.{groups, groupCost}
+use Rattle.beacon_costs.specs.BeaconCosts.{groups, group_cost}
 use Rattle.beacon_costs.specs.Inside.{ChunkSums}
-use Rattle.beacon_costs.proofs.Writing.{group-number, Written, none_written, one_written, all-written, all-added}
+use Rattle.beacon_costs.proofs.Writing.{group_number, Written, none_written, one_written, all_written, all_added}
 use borrow.Author.Rules.{rules}
 use Rattle.beacon_costs.proofs.write_sums.Statement.{statement}
 use Rattle.beacon_costs.proofs.write_sums.Tie as tie
@@ -50,7 +50,7 @@ chunk-sums-requires c κs =
     let three = p.before.before.before in
     let s = three.before.before.before in
     let few = s.requires.0.few in
-    let power = power-of s.args.m.scale three.power.result s.requires.0.scaled three.power.ensures in
+    let power = power_of s.args.m.scale three.power.result s.requires.0.scaled three.power.ensures in
     let i = c.before.before.loop-test.true in (
       (s.requires.0, power, omega (arith, i, p.before.group-count.ensures), s.requires.2),
       p.loop.invariant.2,
@@ -74,25 +74,25 @@ module _ (c : tie.After-chunk-sums invariant-loop decreases-loop) where
       let h = s.requires.0.few in
       omega (arith, p.before.group-count.ensures)
 
-  small : get_or c.chunk-sums.result (c.before.before.before.before.loop.g % 4) 0 < 9007199254740992
-  small = c.chunk-sums.ensures.small (c.before.before.before.before.loop.g % 4) (omega arith)
+  small : get_or c.chunk_sums.result (c.before.before.before.before.loop.g % 4) 0 < 9007199254740992
+  small = c.chunk_sums.ensures.small (c.before.before.before.before.loop.g % 4) (omega arith)
 
   room : c.before.before.before.before.loop.g < length c.before.before.before.before.loop.sums
   room =
       let p = c.before.before.before.before in
       let s = p.before.before.before.before.before.before in
       let i = c.before.before.before.loop-test.true in
-      omega (arith, i, p.before.group-count.ensures, group-number s.args.store.now, s.requires.1, p.loop.invariant.4)
+      omega (arith, i, p.before.group-count.ensures, group_number s.args.store.now, s.requires.1, p.loop.invariant.4)
 
   sum_is : (v : List ℤ) → Doubles v c.before.before.before.before.before.before.coordinates.result
       → let p = c.before.before.before.before in let a = p.before.before.before.before.before.before.args in
-      get_or c.chunk-sums.result (p.loop.g % 4) 0 ≡ groupCost a.m (points_of a.store.now) v p.loop.g
+      get_or c.chunk_sums.result (p.loop.g % 4) 0 ≡ group_cost a.m (points_of a.store.now) v p.loop.g
   sum_is v d =
       let p = c.before.before.before.before in
       let a = p.before.before.before.before.before.before.args in
       let g = p.loop.g in
       let e : g / 4 * 4 + g % 4 ≡ g = omega arith in
-      c.chunk-sums.ensures.costs v d (g % 4) (omega arith) ∙ ap (groupCost a.m (points_of a.store.now) v) e
+      c.chunk_sums.ensures.costs v d (g % 4) (omega arith) ∙ ap (group_cost a.m (points_of a.store.now) v) e
 
 slice-write-sums : tie.Need-slice-write-sums invariant-loop decreases-loop
 slice-write-sums c = room c
@@ -118,10 +118,10 @@ loop-again c =
       λ w d. one_written a.m (points_of a.store.now) w _ (sum_is c w d) (room c) (v.1 w d),
       λ h.
           let e : g / 4 ≡ (g + 1) / 4 = omega arith in
-          let sums = c.chunk-sums in
+          let sums = c.chunk_sums in
           subst (λ (t : ℕ). ChunkSums a.m a.store.now p.before.before.coordinates.result t sums.result) e sums.ensures,
       omega (arith, v.3, small c),
-      length-set p.loop.sums g (get_or c.chunk-sums.result (g % 4) 0) ∙ v.4,
+      length-set p.loop.sums g (get_or c.chunk_sums.result (g % 4) 0) ∙ v.4,
     )
 
 same_length : tie.Need-same-length invariant-loop decreases-loop
@@ -134,9 +134,9 @@ returns c =
     let a = s.args in
     let count = p.before.group-count.ensures in
     let last : p.loop.g ≡ groups (points_of a.store.now) =
-    omega (arith, p.loop.invariant.0, c.loop-test.false, count, group-number a.store.now) in
+    omega (arith, p.loop.invariant.0, c.loop-test.false, count, group_number a.store.now) in
     let w = p.loop.invariant.1 a.v p.before.before.coordinates.ensures.1 in
-    (all-added a.m (points_of a.store.now) a.v last w, all-written a.m (points_of a.store.now) a.v last w)
+    (all_added a.m (points_of a.store.now) a.v last w, all_written a.m (points_of a.store.now) a.v last w)
 
 pub write-sums-spec : {M : Type 1} → statement M
 write-sums-spec =

@@ -2,8 +2,8 @@
 use mathlib.Core.Path.{◌≡◌, sym, ◌∙◌}
 use lib.ListN.{length}
 use Rattle.codes.specs.declared.Check.TheVariants.{Pass}
-use Rattle.boards.specs.Boards.{checkJobs}
-use Rattle.boards.proofs.Boarding.{promised-pass, promised-refused}
+use Rattle.boards.specs.Boards.{check_jobs}
+use Rattle.boards.proofs.Boarding.{promised_pass, promised_refused}
 use borrow.Author.Rules.{rules}
 use Rattle.boards.proofs.boards.Statement.{statement}
 use Rattle.boards.proofs.boards.Tie as tie
@@ -17,7 +17,7 @@ enum_told c = search rules
 -- check 18 passes
 ok : (c : tie.After-enum-told) →
     let a = c.before.before.before.before.before.before.before.args in
-    checkJobs a.count (length a.jobs.now) (length a.lengths.now) ≡ Pass
+    check_jobs a.count (length a.jobs.now) (length a.lengths.now) ≡ Pass
 ok c = sym c.before.before.check-jobs.ensures ∙ c.enum_told.given.1
 
 each-board-requires : tie.Need-each-board-requires
@@ -40,7 +40,7 @@ returns c =
     let each = c.before.before.before in
     let told = each.before.before.before in
     let a = told.before.before.before.before.before.before.before.args in
-    promised-pass a.count a.total a.jobs.now a.stores.now a.lengths.now a.table.now a.bounds.now
+    promised_pass a.count a.total a.jobs.now a.stores.now a.lengths.now a.table.now a.bounds.now
     each.each-board.result each.each-board.new.1.1.1.1.1.0 each.each-board.new.1.1.1.1.1.1.0 (ok told)
     each.each-board.ensures
 
@@ -49,7 +49,7 @@ returns-2 c =
     let why = c.before.before in
     let q = why.before.before in
     let a = q.before.before.before.before.before.args in
-    promised-refused a.count a.total a.jobs.now a.stores.now a.lengths.now a.table.now a.bounds.now
+    promised_refused a.count a.total a.jobs.now a.stores.now a.lengths.now a.table.now a.bounds.now
     why.why.given.0.0 c.refusal.result (sym q.check-jobs.ensures ∙ why.why.given.1) c.refusal.ensures
 
 pub boards-spec : {M : Type 1} → statement M

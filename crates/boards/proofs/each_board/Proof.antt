@@ -5,9 +5,9 @@ use Prim.Native.Nat.{ℕ, ◌+◌, ◌-◌, ◌*◌, ◌≤◌, ◌<◌}
 use native.Mathlib.Omega.{arith}
 use lib.ListN.{length, get_or}
 use Rattle.one_board.specs.Board.{under}
-use Rattle.boards.specs.Boards.{jobAt, budgetAt}
+use Rattle.boards.specs.Boards.{job_at, budget_at}
 use Rattle.boards.specs.Inside.{Turn}
-use Rattle.boards.proofs.Boarding.{Counted, counted, begin-few, record-lent, given, affordable, next-turn, first-turn}
+use Rattle.boards.proofs.Boarding.{Counted, counted, begin_few, record_lent, given, affordable, next_turn, first_turn}
 use borrow.Author.Rules.{rules}
 use Rattle.boards.proofs.each_board.Statement.{statement}
 use Rattle.boards.proofs.each_board.Tie as tie
@@ -25,7 +25,7 @@ refusal-requires c κs = search rules
 loop-holds : tie.Need-loop-init invariant-loop decreases-loop
 loop-holds c =
     let a = c.before.before.before.before.before.args in
-    first-turn a.count a.total a.jobs.now a.stores.now a.lengths.now a.table.now a.bounds.now c.refusal.result
+    first_turn a.count a.total a.jobs.now a.stores.now a.lengths.now a.table.now a.bounds.now c.refusal.result
     c.refusal.ensures
 
 -- in a turn
@@ -50,7 +50,7 @@ module _ (c : tie.In-loop invariant-loop decreases-loop) where
       omega (
         arith,
         c.before.loop.invariant.next,
-        begin-few begun.args.lengths.now size_small c.before.loop.i,
+        begin_few begun.args.lengths.now size_small c.before.loop.i,
         size_small c.before.loop.i,
         eighth,
       )
@@ -119,14 +119,14 @@ module _ (c : tie.After-struct-known invariant-loop decreases-loop) where
 
   -- the job under its share
   its : asked.allotted.result
-      ≡ under (jobAt (begun n).args.jobs.now n.before.loop.i)
-      (budgetAt (begun n).args.count (begun n).args.total (begun n).args.jobs.now (begun n).args.stores.now
+      ≡ under (job_at (begun n).args.jobs.now n.before.loop.i)
+      (budget_at (begun n).args.count (begun n).args.total (begun n).args.jobs.now (begun n).args.stores.now
       (begun n).args.lengths.now (begun n).args.table.now (begun n).args.bounds.now n.before.loop.i)
   its =
       let a = (begun n).args in
       let l = n.before.loop in
       given a.count a.total a.jobs.now a.stores.now a.lengths.now a.table.now a.bounds.now l.i l.left
-      (a.count - l.i) _ asked.allotted.result (record-lent a.jobs.now l.i) refl l.inv.splits asked.allotted.ensures
+      (a.count - l.i) _ asked.allotted.result (record_lent a.jobs.now l.i) refl l.inv.splits asked.allotted.ensures
 
 sub-left : tie.Need-overflow-sub-left invariant-loop decreases-loop
 sub-left c =
@@ -154,7 +154,7 @@ loop-again c =
     let a = (begun n).args in
     let l = n.before.loop in
     let s = c.before.before.before.before in
-    next-turn a.count a.total a.jobs.now a.stores.now a.lengths.now a.table.now a.bounds.now l.i
+    next_turn a.count a.total a.jobs.now a.stores.now a.lengths.now a.table.now a.bounds.now l.i
     n.loop-test.taken (has n).few l.left l.from l.answers l.budgets l.table l.bounds l.inv
     s.before.before.before.allotted.result (its c) (get_or a.lengths.now l.i 0) refl s.search-part.result
     s.search-part.new.1.1.1.1.0 s.search-part.new.1.1.1.1.1.0 s.search-part.ensures

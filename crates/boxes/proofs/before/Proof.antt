@@ -11,9 +11,9 @@ use lib.ListN.{length, get_or, drop}
 use lib.Signed.{lt_z}
 use mir.Syntax.{w16}
 use mir.Val.{SFits}
-use Rattle.integers.proofs.Signed.{read-lt}
+use Rattle.integers.proofs.Signed.{read_lt}
 use Rattle.boxes.specs.Boxes.{before}
-use Rattle.boxes.proofs.Coordinates.{before-step, before-end}
+use Rattle.boxes.proofs.Coordinates.{before_step, before_end}
 use Rattle.boxes.proofs.before.Statement.{statement}
 use Rattle.boxes.proofs.before.Tie as tie
 
@@ -68,17 +68,17 @@ module _ (c : tie.After-if13 invariant-loop decreases-loop) where
   step =
       let long-a : length xs ≡ 8 = search rules in
       let long-b : length ys ≡ 8 = search rules in
-      turn.loop.inv ∙ before-step xs ys k (omega arith) (omega arith)
+      turn.loop.inv ∙ before_step xs ys k (omega arith) (omega arith)
 
 returns : tie.Need-returns invariant-loop decreases-loop
 returns c =
     let r = c.before in
-    sym (step r ∙ rw (read-lt w16 (a r) (b r) (fits-a r) (fits-b r) c.if1.true))
+    sym (step r ∙ rw (read_lt w16 (a r) (b r) (fits-a r) (fits-b r) c.if1.true))
 
 -- where the first is not smaller
 module _ (c : tie.Else1 invariant-loop decreases-loop) where
   not-less : lt_z (a c.before) (b c.before) ≡ false
-  not-less = let r = c.before in read-lt w16 (a r) (b r) (fits-a r) (fits-b r) c.if1.false
+  not-less = let r = c.before in read_lt w16 (a r) (b r) (fits-a r) (fits-b r) c.if1.false
 
 mul-if2 : tie.Need-overflow-mul-if2 invariant-loop decreases-loop
 mul-if2 c = omega arith
@@ -96,7 +96,7 @@ returns-2 : tie.Need-returns-2 invariant-loop decreases-loop
 returns-2 c =
     let else = c.before.before.before in
     let r = else.before in
-    sym (step r ∙ rw (not-less else, read-lt w16 (b r) (a r) (fits-b r) (fits-a r) c.if2.true))
+    sym (step r ∙ rw (not-less else, read_lt w16 (b r) (a r) (fits-b r) (fits-a r) c.if2.true))
 
 add-k : tie.Need-overflow-add-k invariant-loop decreases-loop
 add-k c = omega arith
@@ -108,7 +108,7 @@ loop-again : tie.Need-loop-preserved invariant-loop decreases-loop
 loop-again c =
     let else = c.before.before.before in
     let r = else.before in
-    rw add-one (step r ∙ rw (not-less else, read-lt w16 (b r) (a r) (fits-b r) (fits-a r) c.if2.false))
+    rw add-one (step r ∙ rw (not-less else, read_lt w16 (b r) (a r) (fits-b r) (fits-a r) c.if2.false))
 
 returns-3 : tie.Need-returns-3 invariant-loop decreases-loop
 returns-3 c =
@@ -117,7 +117,7 @@ returns-3 c =
     let b = args.t2 in
     let long-a : length a ≡ 8 = search rules in
     let long-b : length b ≡ 8 = search rules in
-    sym (c.before.loop.invariant ∙ before-end a b c.before.loop.k (omega arith) (omega arith))
+    sym (c.before.loop.invariant ∙ before_end a b c.before.loop.k (omega arith) (omega arith))
 
 pub before-spec : {M : Type 1} → statement M
 before-spec =

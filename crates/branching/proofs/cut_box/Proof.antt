@@ -7,17 +7,17 @@ use lib.IntN.{ℤ}
 use Rattle.codes.specs.declared.Check.TheVariants.{Pass}
 use Rattle.points.specs.Points.{points_of}
 use Rattle.residuals.specs.Cost.{cost, bound}
-use Rattle.residuals.proofs.Bounds.{bound-laws}
+use Rattle.residuals.proofs.Bounds.{bound_laws}
 use Rattle.boxes.specs.declared.Box.{Box}
 use Rattle.boxes.specs.declared.Halves.{Halves}
 use Rattle.boxes.specs.Boxes.{volume}
-use Rattle.boxes.specs.Split.{left_half, right_half, halvesUnlessRefused}
+use Rattle.boxes.specs.Split.{left_half, right_half, halves_unless_refused}
 use Rattle.boxes.specs.Laws.{Bounds}
-use Rattle.boxes.proofs.Splitting.{cut-passes}
+use Rattle.boxes.proofs.Splitting.{cut_passes}
 use Rattle.incumbent.specs.Incumbent.{Marks}
 use Rattle.branching.specs.Branching.{Evaluable, cut_in}
-use Rattle.branching.proofs.Lanes.{cut-lanes}
-use Rattle.branching.proofs.Cutting.{cut-whole}
+use Rattle.branching.proofs.Lanes.{cut_lanes}
+use Rattle.branching.proofs.Cutting.{cut_whole}
 use borrow.Author.Rules.{rules}
 use Rattle.branching.proofs.cut_box.Statement.{statement}
 use Rattle.branching.proofs.cut_box.Tie as tie
@@ -77,12 +77,12 @@ returns c =
     let a = (start q).args in
     let found = (finds q).half-bounds in
     let one = (ones q).tried in (
-      cut-lanes a.store.now a.lanes.now a.m a.b a.mark a.given _ _ _ _ _ _ _ _ _ (cuts q).cut.ensures
+      cut_lanes a.store.now a.lanes.now a.m a.b a.mark a.given _ _ _ _ _ _ _ _ _ (cuts q).cut.ensures
           (aboves q).just-above.ensures found.ensures.0 one.ensures.0 (asks q).ahead.ensures q.tried2.ensures.0
           (ap not same.ahead2.ensures) c.before.child-of.ensures c.child-of2.ensures,
       λ ok is two costed.
-          cut-whole (cost a.m (points_of a.store.now)) (bound a.m (points_of a.store.now)) (bound-laws a.m (points_of a.store.now))
-          a.b a.mark is two _ _ _ _ _ _ _ _ _ _ ((cuts q).cut.ensures ∙ cut-passes a.b two) (aboves q).just-above.ensures
+          cut_whole (cost a.m (points_of a.store.now)) (bound a.m (points_of a.store.now)) (bound_laws a.m (points_of a.store.now))
+          a.b a.mark is two _ _ _ _ _ _ _ _ _ _ ((cuts q).cut.ensures ∙ cut_passes a.b two) (aboves q).just-above.ensures
           (found.ensures.1 ok) (one.ensures.1 ok is) costed (asks q).ahead.ensures (q.tried2.ensures.1 ok)
           (ap not same.ahead2.ensures) c.before.child-of.ensures c.child-of2.ensures,
     )

@@ -6,15 +6,15 @@ use native.Mathlib.Omega.{arith}
 use borrow.Author.Tests.{lt-ltb, ltb-true, ne_eqb}
 use lib.Dec.{ltb}
 use Rattle.boxes.specs.declared.Box.{Box}
-use Rattle.boxes.specs.Split.{longestSide}
+use Rattle.boxes.specs.Split.{longest_side}
 use Rattle.jobs.specs.declared.Model.{Model}
 use Rattle.points.specs.Points.{points_of}
 use Rattle.residuals.specs.Cost.{bound}
 use Rattle.model_checks.proofs.Passed.{ready}
-use Rattle.branching.specs.Branching.{cutLine}
-use Rattle.branching.proofs.UpTo.{bound-found}
+use Rattle.branching.specs.Branching.{cut_line}
+use Rattle.branching.proofs.UpTo.{bound_found}
 use Rattle.branching.proofs.Lanes.{cut_inside, together, apart}
-use Rattle.branching.proofs.Halves.{both-are, halves_are}
+use Rattle.branching.proofs.Halves.{both_are, halves_are}
 use borrow.Author.Rules.{rules}
 use Rattle.branching.proofs.half_bounds.Statement.{statement}
 use Rattle.branching.proofs.half_bounds.Tie as tie
@@ -47,7 +47,7 @@ sums-up-to-requires : tie.Need-sums-up-to-requires
 sums-up-to-requires c κs = search rules
 
 -- the line is the longest side's, which a checked model has
-longest : (m : Model) (b : Box) → 1 ≤ m.d → cutLine m b ≡ longestSide b / m.d
+longest : (m : Model) (b : Box) → 1 ≤ m.d → cut_line m b ≡ longest_side b / m.d
 longest m b some = let other : m.d ≡ 0 → ⊥ = λ e. omega arith in rw (ne_eqb m.d 0 other)
 
 returns : tie.Need-returns
@@ -57,7 +57,7 @@ returns c =
     let line = (lines q).cut-Line.ensures in
     let sums = c.sums-up-to.ensures in (
       together a.store.now a.lanes.now a.m a.b a.left a.right a.cap (lines q).cut-Line.result _ _ _ line
-          (tests q).side_by_side.ensures q.if1.true sums.0.by-lanes sums.1.by-lanes,
+          (tests q).side_by_side.ensures q.if1.true sums.0.by_lanes sums.1.by_lanes,
       λ ok left right.
           let some = (ready a.store.now a.m ok.checked).some in
           let is = line ∙ longest a.m a.b some in
@@ -82,9 +82,9 @@ returns-2 c =
       apart a.store.now a.lanes.now a.m a.b a.left a.right a.cap line.cut-Line.result _ _ _ line.cut-Line.ensures
           test.side_by_side.ensures else.if1.false one.bound-in.ensures.0 c.bound-in2.ensures.0,
       λ ok left right.
-          both-are (bound a.m (points_of a.store.now)) a.left a.right a.cap _ _
-          (bound-found a.store.now a.m ok.checked a.left a.cap _ (one.bound-in.ensures.1 ok.decoded))
-          (bound-found a.store.now a.m ok.checked a.right a.cap _ (c.bound-in2.ensures.1 ok.decoded)),
+          both_are (bound a.m (points_of a.store.now)) a.left a.right a.cap _ _
+          (bound_found a.store.now a.m ok.checked a.left a.cap _ (one.bound-in.ensures.1 ok.decoded))
+          (bound_found a.store.now a.m ok.checked a.right a.cap _ (c.bound-in2.ensures.1 ok.decoded)),
     )
 
 pub half-bounds-spec : {M : Type 1} → statement M

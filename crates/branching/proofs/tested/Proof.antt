@@ -2,8 +2,8 @@
 use native.Mathlib.Omega.{arith}
 use Rattle.points.specs.Points.{points_of}
 use Rattle.residuals.specs.Cost.{bound}
-use Rattle.incumbent.proofs.UpTo.{found-tested}
-use Rattle.branching.proofs.UpTo.{bound-found}
+use Rattle.incumbent.proofs.UpTo.{found_tested}
+use Rattle.branching.proofs.UpTo.{bound_found}
 use borrow.Author.Rules.{rules}
 use Rattle.branching.proofs.tested.Statement.{statement}
 use Rattle.branching.proofs.tested.Tie as tie
@@ -24,9 +24,9 @@ returns c =
     let a = above.before.before.args in (
       rw (c.child-of.ensures, found.bound-in.ensures.0, above.just-above.ensures),
       λ ok fits.
-          let is = bound-found a.store.now a.m ok.checked a.half _ _ (found.bound-in.ensures.1 ok.decoded) in
+          let is = bound_found a.store.now a.m ok.checked a.half _ _ (found.bound-in.ensures.1 ok.decoded) in
           rw c.child-of.ensures
-          (found-tested (bound a.m (points_of a.store.now)) a.half a.mark _ _ is (omega (arith, above.just-above.ensures))),
+          (found_tested (bound a.m (points_of a.store.now)) a.half a.mark _ _ is (omega (arith, above.just-above.ensures))),
     )
 
 pub tested-spec : {M : Type 1} → statement M

@@ -8,9 +8,9 @@ use Rattle.points.specs.Points.{points_of}
 use Rattle.residuals.specs.Cost.{cost}
 use Rattle.certificate.specs.Search.{ahead}
 use Rattle.incumbent.specs.Incumbent.{mark_of, Marks}
-use Rattle.incumbent.proofs.UpTo.{tried-new, tried-old}
+use Rattle.incumbent.proofs.UpTo.{tried_new, tried_old}
 use Rattle.branching.specs.Branching.{Evaluable}
-use Rattle.branching.proofs.UpTo.{cost-found}
+use Rattle.branching.proofs.UpTo.{cost_found}
 use Rattle.branching.proofs.Lanes.{takes, leaves}
 use borrow.Author.Rules.{rules}
 use Rattle.branching.proofs.tried.Statement.{statement}
@@ -38,7 +38,7 @@ module _ (c : tie.After-ahead) where
 
   module _ (ok : Evaluable start.args.store.now start.args.lanes.now start.args.m) (is : Marks C start.args.mark) where
     found : costs.cost-in.result ≡ min (C start.args.v) costs.before.just-above.result
-    found = cost-found start.args.store.now start.args.m ok.checked start.args.v _ _ (costs.cost-in.ensures.1.0 ok.decoded)
+    found = cost_found start.args.store.now start.args.m ok.checked start.args.v _ _ (costs.cost-in.ensures.1.0 ok.decoded)
 
     far : C start.args.mark.best < costs.before.just-above.result
     far = omega (arith, costs.before.just-above.ensures, is.exact, is.fits)
@@ -55,7 +55,7 @@ returns c =
       takes a.store.now a.lanes.now a.m a.mark a.v a.needed _ k.cost-in.result _ k.before.before.if1.taken
           k.before.just-above.ensures k.cost-in.ensures.0 q.ahead.ensures c.if2.true,
       λ ok is costed. (
-        tried-new (C q) a.mark.t a.mark.best a.v k.cost-in.result _ (found q ok is) (far q ok is)
+        tried_new (C q) a.mark.t a.mark.best a.v k.cost-in.result _ (found q ok is) (far q ok is)
             (sym (decided q ok is) ∙ c.if2.true),
         omega (arith, k.cost-in.ensures.1.1 ok.decoded),
       ),
@@ -70,7 +70,7 @@ returns-2 c =
           k.before.just-above.ensures k.cost-in.ensures.0 q.ahead.ensures c.if2.false,
       λ ok is costed. (
         rw (← is.exact) at
-            (tried-old (C q) a.mark.t a.mark.best a.v k.cost-in.result _ (found q ok is) (far q ok is)
+            (tried_old (C q) a.mark.t a.mark.best a.v k.cost-in.result _ (found q ok is) (far q ok is)
             (sym (decided q ok is) ∙ c.if2.false)),
         is.fits,
       ),

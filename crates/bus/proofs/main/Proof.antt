@@ -3,7 +3,7 @@ use mathlib.Core.Path.{sym}
 use Prim.Native.Nat.{◌≤◌}
 use lib.ListN.{length}
 use lib.Seq.{length-take-le}
-use Rattle.integers.proofs.Lists.{over-long}
+use Rattle.integers.proofs.Lists.{over_long}
 use borrow.Author.Rules.{rules}
 use Rattle.bus.proofs.main.Statement.{statement}
 use Rattle.bus.proofs.main.Tie as tie
@@ -45,7 +45,7 @@ exchange-requires : tie.Need-exchange-requires
 exchange-requires c κs = search rules
 
 short : (c : tie.After-exchange) → c.exchange.result ≤ length c.exchange.new.1.0
-short c = rw (c.exchange.ensures.0, c.exchange.ensures.1) (over-long _ _)
+short c = rw (c.exchange.ensures.0, c.exchange.ensures.1) (over_long _ _)
 
 array-share-prefix-replies : tie.Need-array-share-prefix-replies
 array-share-prefix-replies c = short c.before

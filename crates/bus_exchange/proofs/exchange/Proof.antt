@@ -1,7 +1,7 @@
 -- By what there is behind the store, and by the room.
 use mathlib.Core.Path.{refl}
 use native.Mathlib.Omega.{arith}
-use Rattle.bus_exchange.proofs.Parts.{store-cut, no_room, all-replied}
+use Rattle.bus_exchange.proofs.Parts.{store_cut, no_room, all_replied}
 use borrow.Author.Rules.{rules}
 use Rattle.bus_exchange.proofs.exchange.Statement.{statement}
 use Rattle.bus_exchange.proofs.exchange.Tie as tie
@@ -19,7 +19,7 @@ returns : tie.Need-returns
 returns c =
     let n = c.before in
     let a = n.before.before.before.args in
-    store-cut a.input.now n.get-number.result n.get-number.ensures.0 a.out.now c.if1.true
+    store_cut a.input.now n.get-number.result n.get-number.ensures.0 a.out.now c.if1.true
 
 sub-if2 : tie.Need-overflow-sub-if2
 sub-if2 c = search rules
@@ -60,7 +60,7 @@ returns-3 c =
     let t = r.before.before.before.before in
     let n = t.before.before in
     let a = n.before.before.before.args in
-    all-replied a.input.now n.get-number.result n.get-number.ensures.0 a.out.now r.reply.result
+    all_replied a.input.now n.get-number.result n.get-number.ensures.0 a.out.now r.reply.result
     r.reply.new.1.1.0
     _ _ refl refl (omega (arith, t.if2.false)) r.reply.ensures.0 r.reply.ensures.1
 

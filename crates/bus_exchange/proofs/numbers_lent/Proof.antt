@@ -2,7 +2,7 @@
 use mathlib.Core.Path.{◌≡◌}
 use native.Mathlib.Omega.{arith}
 use lib.ListN.{length}
-use Rattle.bus_exchange.proofs.Replying.{rows-there}
+use Rattle.bus_exchange.proofs.Replying.{rows_there}
 use borrow.Author.Rules.{rules}
 use Rattle.bus_exchange.proofs.numbers_lent.Statement.{statement}
 use Rattle.bus_exchange.proofs.numbers_lent.Tie as tie
@@ -25,12 +25,12 @@ mul-result c = search rules
 returns : tie.Need-returns
 returns c =
     let s = c.before.before.before.before in
-    omega (arith, c.before.get-number32.ensures, rows-there s.args.registers.bytes (whole s), c.if1.true)
+    omega (arith, c.before.get-number32.ensures, rows_there s.args.registers.bytes (whole s), c.if1.true)
 
 returns-2 : tie.Need-returns-2
 returns-2 c =
     let s = c.before.before.before.before in
-    omega (arith, c.before.get-number32.ensures, rows-there s.args.registers.bytes (whole s), c.if1.false)
+    omega (arith, c.before.get-number32.ensures, rows_there s.args.registers.bytes (whole s), c.if1.false)
 
 pub numbers-lent-spec : {M : Type 1} → statement M
 numbers-lent-spec =

@@ -4,7 +4,7 @@ use mathlib.Core.Path.{◌≡◌, refl, sym}
 use Prim.Native.Nat.{◌+◌, ◌-◌, ◌*◌, ◌/◌, ◌≤◌, ◌<◌}
 use native.Mathlib.Omega.{arith}
 use lib.ListN.{length}
-use Rattle.bus_exchange.proofs.Replying.{Replied, none-replied, one-replied, all-replied}
+use Rattle.bus_exchange.proofs.Replying.{Replied, none_replied, one_replied, all_replied}
 use borrow.Author.Rules.{rules}
 use Rattle.bus_exchange.proofs.reply.Statement.{statement}
 use Rattle.bus_exchange.proofs.reply.Tie as tie
@@ -28,7 +28,7 @@ reset-requires c κs = search rules
 loop-holds : tie.Need-loop-init invariant-loop decreases-loop
 loop-holds c =
     let a = c.before.before.before.before.before.before.args in (
-      none-replied a.store.now a.accesses.now a.out.now (record { registers = c.reset.result; count = 0 })
+      none_replied a.store.now a.accesses.now a.out.now (record { registers = c.reset.result; count = 0 })
           c.reset.ensures refl,
       (sym c.before.before.table-space.ensures, (sym c.before.bounds-space.ensures, refl)),
     )
@@ -92,7 +92,7 @@ loop-again c =
     let l = t.before in
     let a = l.before.before.before.before.before.before.before.args in
     let done = k.access.ensures in (
-      one-replied a.store.now a.accesses.now a.out.now l.loop.i l.loop.state k.access.result l.loop.out
+      one_replied a.store.now a.accesses.now a.out.now l.loop.i l.loop.state k.access.result l.loop.out
           k.access.new.1.1.1.1.1.1.1.0 (there t) (room t) l.loop.invariant.0 (rw l.loop.invariant.1.1.0 at done),
       (search (rules, l.loop.invariant.1.0), (search (rules, l.loop.invariant.1.1.0), refl)),
     )
@@ -105,7 +105,7 @@ returns c =
     let l = c.before in
     let s = l.before.before.before.before.before.before.before in
     let a = s.args in
-    all-replied a.store.now a.accesses.now a.out.now l.loop.i l.loop.state l.loop.out
+    all_replied a.store.now a.accesses.now a.out.now l.loop.i l.loop.state l.loop.out
     (omega (arith, l.loop.invariant.1.1.1)) l.loop.invariant.0
 
 pub reply-spec : {M : Type 1} → statement M

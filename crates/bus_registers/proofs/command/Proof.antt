@@ -2,7 +2,7 @@
 use mathlib.Core.Path.{◌≡◌, ◌∙◌}
 use borrow.Author.Tests.{eq-eqb, ne_eqb}
 use Rattle.registers.specs.Registers.{commanded}
-use Rattle.bus_registers.proofs.Writing.{run-commanded, idle-commanded}
+use Rattle.bus_registers.proofs.Writing.{run_commanded, idle_commanded}
 use borrow.Author.Rules.{rules}
 use Rattle.bus_registers.proofs.command.Statement.{statement}
 use Rattle.bus_registers.proofs.command.Tie as tie
@@ -21,7 +21,7 @@ returns c =
     let r = c.before.before.before in
     let t = r.before.before.before in
     let a = t.before.before.before.args in
-    run-commanded a.store.now a.r.bytes a.table.now a.bounds.now a.value r.run.result.bytes r.run.new.1.1.0
+    run_commanded a.store.now a.r.bytes a.table.now a.bounds.now a.value r.run.result.bytes r.run.new.1.1.0
     r.run.new.1.1.1.0 t.if1.true r.run.ensures
 
 stored-requires : tie.Need-stored-requires
@@ -33,7 +33,7 @@ returns-2 c =
     let t = c.before in
     let a = t.before.before.before.before.args in
     let no_run = ne_eqb a.value 2 t.before.if1.false in
-    idle-commanded a.store.now a.r.bytes a.table.now a.bounds.now a.value c.stored.result.bytes no_run
+    idle_commanded a.store.now a.r.bytes a.table.now a.bounds.now a.value c.stored.result.bytes no_run
     (c.stored.ensures ∙ rw (no_run, eq-eqb a.value 3 t.if2.true))
 
 returns-3 : tie.Need-returns-3
@@ -41,7 +41,7 @@ unfolding commanded
 returns-3 c =
     let a = c.before.before.before.before.args in
     let no_run = ne_eqb a.value 2 c.before.if1.false in
-    idle-commanded a.store.now a.r.bytes a.table.now a.bounds.now a.value a.r.bytes no_run
+    idle_commanded a.store.now a.r.bytes a.table.now a.bounds.now a.value a.r.bytes no_run
     (rw (no_run, ne_eqb a.value 3 c.if2.false))
 
 pub command-spec : {M : Type 1} → statement M

@@ -4,7 +4,7 @@ use Prim.Native.Nat.{ℕ, ◌+◌}
 use native.Mathlib.Omega.{arith}
 use borrow.Author.Tests.{eq-eqb, ne_eqb}
 use Rattle.bus_registers.proofs.Writing.{flag_small}
-use Rattle.registers.specs.Registers.{flagsAfter}
+use Rattle.registers.specs.Registers.{flags_after}
 use borrow.Author.Rules.{rules}
 use Rattle.bus_registers.proofs.flags_after.Statement.{statement}
 use Rattle.bus_registers.proofs.flags_after.Tie as tie
@@ -17,7 +17,7 @@ add-result c =
     omega (arith, c.before.flag.ensures, flag_small c.before.before.args.check)
 
 returns : tie.Need-returns
-unfolding flagsAfter
+unfolding flags_after
 returns c =
     rw (eq-eqb _ 1 c.if1.true) (ap (λ (k : ℕ). k + 4) c.before.flag.ensures)
 
@@ -26,12 +26,12 @@ add-result-2 c =
     omega (arith, c.before.before.flag.ensures, flag_small c.before.before.before.args.check)
 
 returns-2 : tie.Need-returns-2
-unfolding flagsAfter
+unfolding flags_after
 returns-2 c =
     rw (ne_eqb _ 1 c.before.if1.false, eq-eqb _ 1 c.if2.true) (ap (λ (k : ℕ). k + 4) c.before.before.flag.ensures)
 
 returns-3 : tie.Need-returns-3
-unfolding flagsAfter
+unfolding flags_after
 returns-3 c =
     rw (ne_eqb _ 1 c.before.if1.false, ne_eqb _ 1 c.if2.false) (omega (arith, c.before.before.flag.ensures))
 

@@ -2,7 +2,7 @@
 use native.Mathlib.Omega.{arith}
 use borrow.Author.Tests.{eq-eqb, ne_eqb, le-leb, lt-leb}
 use Prim.Native.Nat.{◌<◌}
-use Rattle.registers.specs.Registers.{readAt}
+use Rattle.registers.specs.Registers.{read_at}
 use borrow.Author.Rules.{rules}
 use Rattle.bus_registers.proofs.read.Statement.{statement}
 use Rattle.bus_registers.proofs.read.Tie as tie
@@ -11,7 +11,7 @@ element-copy-out-result : tie.Need-element-copy-out-result
 element-copy-out-result c = search rules
 
 returns : tie.Need-returns
-unfolding readAt
+unfolding read_at
 returns c =
     let o = c.before.before.args.offset in
     rw (eq-eqb o 1 c.before.if1.true)
@@ -20,7 +20,7 @@ element-copy-out-result-2 : tie.Need-element-copy-out-result-2
 element-copy-out-result-2 c = search rules
 
 returns-2 : tie.Need-returns-2
-unfolding readAt
+unfolding read_at
 returns-2 c =
     let o = c.before.before.before.args.offset in
     rw (ne_eqb o 1 c.before.before.if1.false, eq-eqb o 2 c.before.if2.true)
@@ -29,13 +29,13 @@ element-copy-out-result-3 : tie.Need-element-copy-out-result-3
 element-copy-out-result-3 c = search rules
 
 returns-3 : tie.Need-returns-3
-unfolding readAt
+unfolding read_at
 returns-3 c =
     let o = c.before.before.before.before.args.offset in
     rw (ne_eqb o 1 c.before.before.before.if1.false, ne_eqb o 2 c.before.before.if2.false, eq-eqb o 3 c.before.if3.true)
 
 returns-4 : tie.Need-returns-4
-unfolding readAt
+unfolding read_at
 returns-4 c =
     let o = c.before.before.before.before.args.offset in
     let t = c.before in
@@ -52,7 +52,7 @@ element-copy-out-result-4 : tie.Need-element-copy-out-result-4
 element-copy-out-result-4 c = search rules
 
 returns-5 : tie.Need-returns-5
-unfolding readAt
+unfolding read_at
 returns-5 c =
     let o = c.before.before.before.before.before.before.args.offset in
     let f = c.before in
@@ -66,7 +66,7 @@ returns-5 c =
     )
 
 returns-6 : tie.Need-returns-6
-unfolding readAt
+unfolding read_at
 returns-6 c =
     let o = c.before.before.before.before.before.before.args.offset in
     let f = c.before in
@@ -84,7 +84,7 @@ element-copy-out-result-5 : tie.Need-element-copy-out-result-5
 element-copy-out-result-5 c = search rules
 
 returns-7 : tie.Need-returns-7
-unfolding readAt
+unfolding read_at
 returns-7 c =
     let o = c.before.before.before.before.before.before.before.before.args.offset in
     let x = c.before.before in
@@ -101,7 +101,7 @@ returns-7 c =
     )
 
 returns-8 : tie.Need-returns-8
-unfolding readAt
+unfolding read_at
 returns-8 c =
     let o = c.before.before.before.before.before.before.before.args.offset in
     let x = c.before in

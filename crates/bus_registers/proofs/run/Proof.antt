@@ -2,7 +2,7 @@
 use mathlib.Core.Path.{◌≡◌, refl}
 use native.Mathlib.Omega.{arith}
 use lib.ListN.{length}
-use Rattle.bus_registers.proofs.Writing.{job-there, run_ran}
+use Rattle.bus_registers.proofs.Writing.{job_there, run_ran}
 use borrow.Author.Rules.{rules}
 use Rattle.bus_registers.proofs.run.Statement.{statement}
 use Rattle.bus_registers.proofs.run.Tie as tie
@@ -37,8 +37,8 @@ returns c =
     let q = c.before.before.before.before in
     let s = q.before.before.before.before.before.before.before.before in
     let a = s.args in
-    run_ran a.store.now a.r.bytes a.table.now a.bounds.now q.run.result c.with-run.result.bytes
-    q.run.new.1.1.0 q.run.new.1.1.1.0 (whole s) c.with-run.ensures _ (job-there a.r.bytes _ (whole s) refl)
+    run_ran a.store.now a.r.bytes a.table.now a.bounds.now q.run.result c.with_run_lem.result.bytes
+    q.run.new.1.1.0 q.run.new.1.1.1.0 (whole s) c.with_run_lem.ensures _ (job_there a.r.bytes _ (whole s) refl)
     q.run.ensures
 
 pub run_spec : {M : Type 1} → statement M

@@ -2,7 +2,7 @@
 use mathlib.Core.Path.{◌≡◌, ◌∙◌}
 use borrow.Author.Tests.{eq-eqb, ne_eqb, le-leb, lt-leb}
 use Rattle.registers.specs.Registers.{written}
-use Rattle.bus_registers.proofs.Writing.{command-written, idle-written}
+use Rattle.bus_registers.proofs.Writing.{command_written, idle_written}
 use borrow.Author.Rules.{rules}
 use Rattle.bus_registers.proofs.write.Statement.{statement}
 use Rattle.bus_registers.proofs.write.Tie as tie
@@ -21,7 +21,7 @@ returns c =
     let r = c.before.before.before in
     let t = r.before.before.before in
     let a = t.before.before.before.args in
-    command-written a.store.now a.r.bytes a.table.now a.bounds.now a.value a.offset r.command.result.bytes
+    command_written a.store.now a.r.bytes a.table.now a.bounds.now a.value a.offset r.command.result.bytes
     r.command.new.1.1.1.0 r.command.new.1.1.1.1.0 t.if1.true
     r.command.ensures
 
@@ -33,7 +33,7 @@ unfolding written
 returns-2 c =
     let a = c.before.before.before.before.before.args in
     let other = c.before.before.if1.false in
-    idle-written a.store.now a.r.bytes a.table.now a.bounds.now a.value a.offset c.stored.result.bytes other
+    idle_written a.store.now a.r.bytes a.table.now a.bounds.now a.value a.offset c.stored.result.bytes other
     (c.stored.ensures ∙ rw (ne_eqb a.offset 0 other, eq-eqb a.offset 2 c.before.if2.true))
 
 returns-3 : tie.Need-returns-3
@@ -41,7 +41,7 @@ unfolding written
 returns-3 c =
     let a = c.before.before.before.before.before.args in
     let other = c.before.before.if1.false in
-    idle-written a.store.now a.r.bytes a.table.now a.bounds.now a.value a.offset a.r.bytes other
+    idle_written a.store.now a.r.bytes a.table.now a.bounds.now a.value a.offset a.r.bytes other
     (rw (ne_eqb a.offset 0 other, ne_eqb a.offset 2 c.before.if2.false, lt-leb 64 a.offset c.if3.true))
 
 stored-requires-2 : tie.Need-stored-requires-2
@@ -54,7 +54,7 @@ returns-4 c =
     let f = c.before in
     let t = f.before in
     let other = t.before.before.if1.false in
-    idle-written a.store.now a.r.bytes a.table.now a.bounds.now a.value a.offset c.stored2.result.bytes other
+    idle_written a.store.now a.r.bytes a.table.now a.bounds.now a.value a.offset c.stored2.result.bytes other
     (c.stored2.ensures
     ∙ rw (
       ne_eqb a.offset 0 other,
@@ -69,7 +69,7 @@ returns-5 c =
     let a = c.before.before.before.before.before.before.args in
     let t = c.before in
     let other = t.before.before.if1.false in
-    idle-written a.store.now a.r.bytes a.table.now a.bounds.now a.value a.offset a.r.bytes other
+    idle_written a.store.now a.r.bytes a.table.now a.bounds.now a.value a.offset a.r.bytes other
     (rw (
       ne_eqb a.offset 0 other,
       ne_eqb a.offset 2 t.before.if2.false,

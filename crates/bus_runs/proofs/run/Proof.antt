@@ -1,7 +1,7 @@
 -- The job of the bytes, its search, and what is shown of the answer.
 use mathlib.Core.Path.{ap}
 use native.Mathlib.Omega.{arith}
-use Rattle.job_records.specs.Jobs.{readJob}
+use Rattle.job_records.specs.Jobs.{read_job}
 use Rattle.job_records.specs.declared.JobRead.{JobRead}
 use Rattle.bus_runs.proofs.Showing.{read_fits, run_ran}
 use borrow.Author.Rules.{rules}
@@ -33,7 +33,7 @@ returns c =
     let known = j.before.before.before in
     let a = known.before.args in
     let bytes = a.bytes.now in
-    run_ran a.store.now (readJob bytes).job j.read-job.result.job a.table.now a.bounds.now q.search-rows.result
+    run_ran a.store.now (read_job bytes).job j.read-job.result.job a.table.now a.bounds.now q.search-rows.result
     q.search-rows.new.1.1.0 q.search-rows.new.1.1.1.0 c.before.check-for.result c.shown-for.result
     (ap (λ (x : JobRead). x.job) j.read-job.ensures)
     (read_fits bytes (λ i. omega (arith, known.shared-slice-known.given i)))

@@ -4,7 +4,7 @@ use Prim.Native.Nat.{◌≤◌}
 use native.Mathlib.Omega.{arith}
 use lib.ListN.{length}
 use lib.Seq.{length-take-le}
-use Rattle.bus_runs.proofs.Lending.{numbers-few, lent_rows}
+use Rattle.bus_runs.proofs.Lending.{numbers_few, lent_rows}
 use borrow.Author.Rules.{rules}
 use Rattle.bus_runs.proofs.search_rows.Statement.{statement}
 use Rattle.bus_runs.proofs.search_rows.Tie as tie
@@ -15,7 +15,7 @@ numbers-for-requires c κs = search rules
 few : (c : tie.After-numbers-for) → c.numbers-for.result ≤ length c.before.before.before.args.table.now
 few c =
     let s = c.before.before.before in
-    omega (arith, numbers-few s.args.job.rows (length s.args.table.now), c.numbers-for.ensures)
+    omega (arith, numbers_few s.args.job.rows (length s.args.table.now), c.numbers-for.ensures)
 
 slice-relend-prefix-search : tie.Need-slice-relend-prefix-search
 slice-relend-prefix-search c =

@@ -1,6 +1,6 @@
 -- What the writer leaves of 40 zeros.
 use mathlib.Core.Path.{◌∙◌}
-use Rattle.bus_runs.specs.Inside.{shownFor}
+use Rattle.bus_runs.specs.Inside.{shown_for}
 use borrow.Author.Rules.{rules}
 use Rattle.bus_runs.proofs.shown_for.Statement.{statement}
 use Rattle.bus_runs.proofs.shown_for.Tie as tie
@@ -15,7 +15,7 @@ write-answer-requires : tie.Need-write-answer-requires
 write-answer-requires c κs = search rules
 
 returns : tie.Need-returns
-unfolding shownFor
+unfolding shown_for
 returns c =
     let w = c.before in
     w.write-answer.ensures.1 ∙ rw (w.write-answer.ensures.0, w.before.before.record_of.ensures)

@@ -4,9 +4,9 @@ use mathlib.Core.Path.{◌≡◌, refl, sym, ◌∙◌}
 use mathlib.Core.Bool.{true}
 use borrow.Author.Tests.{not-true, not-false}
 use lib.ListN.{length}
-use Rattle.c_buffers.proofs.Buffers.{filled-whole}
-use Rattle.c_answers.specs.Calls.{answerNumbers, answerLengths}
-use Rattle.c_answers.proofs.Lengths.{answer-lengths}
+use Rattle.c_buffers.proofs.Buffers.{filled_whole}
+use Rattle.c_answers.specs.Calls.{answer_numbers, answer_lengths}
+use Rattle.c_answers.proofs.Lengths.{answer_lengths_lem}
 use Rattle.c_answers.proofs.read_answer.Statement.{statement}
 use Rattle.c_answers.proofs.read_answer.Tie as tie
 
@@ -18,7 +18,7 @@ module _ (c : tie.After-read-answer) where
   abbrev start : tie.Start
   start = c.before.before.before.before.before
 
-  lengths-right : answerLengths (length start.args.vector.now) (length start.args.numbers.now) ≡ true
+  lengths-right : answer_lengths (length start.args.vector.now) (length start.args.numbers.now) ≡ true
   lengths-right = sym c.before.before.lengths-right.ensures ∙ not-false _ c.before.if1.false
 
 returns : tie.Need-returns
@@ -54,11 +54,11 @@ returns-2 c =
     let r = told.before.before.before in
     let a = (start r).args in
     let right = lengths-right r in
-    let room = answer-lengths (length a.vector.now) (length a.numbers.now) right in
+    let room = answer_lengths_lem (length a.vector.now) (length a.numbers.now) right in
     let out = lay.lay-answer.ensures in
     let answer = r.read_answer.result.answer in
-    let vector = filled-whole a.vector.now answer.vector (room.0 ∙ sym out.1.1) in
-    let numbers = filled-whole a.numbers.now (answerNumbers answer) room.1 in
+    let vector = filled_whole a.vector.now answer.vector (room.0 ∙ sym out.1.1) in
+    let numbers = filled_whole a.numbers.now (answer_numbers answer) room.1 in
     rw (right, ← r.read_answer.ensures, told.enum_told.given.1) (refl, (rw vector at out.0, rw numbers at out.1.0))
 
 returns-3 : tie.Need-returns-3

@@ -3,7 +3,7 @@ use borrow.Author.Rules.{rules}
 use mathlib.Core.Path.{refl, ◌∙◌}
 use borrow.Author.Tests.{eq-eqb, ne_eqb}
 use lib.ListN.{length}
-use Rattle.c_buffers.proofs.Buffers.{vector-from}
+use Rattle.c_buffers.proofs.Buffers.{vector_from_lem}
 use Rattle.c_answers.proofs.write_answer.Statement.{statement}
 use Rattle.c_answers.proofs.write_answer.Tie as tie
 
@@ -27,7 +27,7 @@ returns-2 c =
     let w = c.before.before.before in
     let v = w.before.before in
     let vector = v.before.before.before.args.vector.now in
-    let is-vector = v.vector-of.ensures ∙ vector-from vector v.before.if1.false in
+    let is-vector = v.vector-of.ensures ∙ vector_from_lem vector v.before.if1.false in
     rw (eq-eqb (length vector) 8 v.before.if1.false, ← is-vector, ← w.write-answer.ensures.0)
     (c.check-code.ensures, w.write-answer.ensures.1)
 

@@ -7,9 +7,9 @@ use lib.IntN.{ℤ}
 use lib.ListN.{length}
 use Rattle.codes.specs.declared.Outcome.{Outcome}
 use Rattle.jobs.specs.declared.Model.{Model}
-use Rattle.beacon_costs.specs.BeaconCosts.{costByBeacon, sumsAfter}
-use Rattle.c_boundary.specs.Boundary.{modelOf, answered, code_of, valueAfter}
-use Rattle.c_buffers.proofs.Buffers.{vector-from}
+use Rattle.beacon_costs.specs.BeaconCosts.{cost_by_beacon, sums_after}
+use Rattle.c_boundary.specs.Boundary.{model_of, answered, code_of, value_after}
+use Rattle.c_buffers.proofs.Buffers.{vector_from_lem}
 use Rattle.c_beacon_costs.proofs.cost_by_beacon.Statement.{statement}
 use Rattle.c_beacon_costs.proofs.cost_by_beacon.Tie as tie
 
@@ -37,16 +37,16 @@ returns-2 c =
     let test = k.before.before.before.before in
     let a = test.before.before.before.args in
     let v = a.vector.now in
-    let m = modelOf a.n a.d a.scale a.p a.eps in
-    let is-vector = k.before.before.vector-of.ensures ∙ vector-from v test.if1.false in
+    let m = model_of a.n a.d a.scale a.p a.eps in
+    let is-vector = k.before.before.vector-of.ensures ∙ vector_from_lem v test.if1.false in
     let is-model = k.before.before.before.model_of.ensures in
-    let answer : k.cost-by-beacon.result ≡ costByBeacon a.store.now m v a.sums.now =
-    k.cost-by-beacon.ensures.0 ∙ ap₂ (λ (o : Model) (w : List ℤ). costByBeacon a.store.now o w a.sums.now) is-model is-vector in
+    let answer : k.cost-by-beacon.result ≡ cost_by_beacon a.store.now m v a.sums.now =
+    k.cost-by-beacon.ensures.0 ∙ ap₂ (λ (o : Model) (w : List ℤ). cost_by_beacon a.store.now o w a.sums.now) is-model is-vector in
     rw (eq-eqb (length v) 8 test.if1.false) (
       c.settle.ensures.0 ∙ ap (λ (o : Outcome). code_of (answered o)) answer,
       (
-        c.settle.ensures.1 ∙ ap (λ (o : Outcome). valueAfter (answered o) a.value.now) answer,
-        k.cost-by-beacon.ensures.1 ∙ ap₂ (λ (o : Model) (w : List ℤ). sumsAfter a.store.now o w a.sums.now) is-model is-vector,
+        c.settle.ensures.1 ∙ ap (λ (o : Outcome). value_after (answered o) a.value.now) answer,
+        k.cost-by-beacon.ensures.1 ∙ ap₂ (λ (o : Model) (w : List ℤ). sums_after a.store.now o w a.sums.now) is-model is-vector,
       ),
     )
 

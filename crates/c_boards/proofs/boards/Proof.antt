@@ -4,7 +4,7 @@ use mathlib.Core.Bool.{true, true≢false}
 use native.Mathlib.Omega.{arith}
 use lib.ListN.{length}
 use borrow.Author.Tests.{not-true, not-false}
-use Rattle.c_boards.specs.Calls.{boardsLengths}
+use Rattle.c_boards.specs.Calls.{boards_lengths}
 use Rattle.c_boards.proofs.Certifying.{promised}
 use borrow.Author.Rules.{rules}
 use Rattle.c_boards.proofs.boards.Statement.{statement}
@@ -42,7 +42,7 @@ boards-requires c κs = search rules
 -- the lengths are right
 right : (c : tie.Else1) →
     let a = c.before.before.before.before.before.before.before.before.before.args in
-    boardsLengths (length a.codes.now) (length a.budgets.now) (length a.vectors.now) (length a.numbers.now) ≡ true
+    boards_lengths (length a.codes.now) (length a.budgets.now) (length a.vectors.now) (length a.numbers.now) ≡ true
 right c = sym c.before.lengths-right.ensures ∙ not-false _ c.if1.false
 
 hand-over-requires : tie.Need-hand-over-requires

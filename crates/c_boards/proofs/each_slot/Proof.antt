@@ -4,7 +4,7 @@ use Prim.Native.Nat.{◌+◌, ◌-◌, ◌*◌, ◌≤◌, ◌<◌}
 use native.Mathlib.Omega.{arith}
 use lib.ListN.{length}
 use Rattle.c_boards.specs.Inside.{Handed}
-use Rattle.c_boards.proofs.Handing.{element-there, none-handed, codes-size, vectors-size, numbers-size, next-slot, all-handed}
+use Rattle.c_boards.proofs.Handing.{element_there, none_handed, codes_size, vectors_size, numbers_size, next_slot, all_handed}
 use borrow.Author.Rules.{rules}
 use Rattle.c_boards.proofs.each_slot.Statement.{statement}
 use Rattle.c_boards.proofs.each_slot.Tie as tie
@@ -19,7 +19,7 @@ decreases-loop count codes₀ vectors₀ numbers₀ answers i₀ codes vectors n
 loop-holds : tie.Need-loop-init invariant-loop decreases-loop
 loop-holds c =
     let s = c.before.before in
-    none-handed s.args.count s.args.t2 s.args.codes.now s.args.vectors.now s.args.numbers.now s.requires
+    none_handed s.args.count s.args.t2 s.args.codes.now s.args.vectors.now s.args.numbers.now s.requires
 
 -- at the loop's test
 module _ (c : tie.At-loop invariant-loop decreases-loop) where
@@ -30,21 +30,21 @@ module _ (c : tie.At-loop invariant-loop decreases-loop) where
   codes-kept =
       let a = begun.args in
       let l = c.loop in
-      codes-size a.count a.t2 a.codes.now a.vectors.now a.numbers.now begun.pre l.i l.codes l.vectors
+      codes_size a.count a.t2 a.codes.now a.vectors.now a.numbers.now begun.pre l.i l.codes l.vectors
       l.numbers l.invariant
 
   vectors-kept : length c.loop.vectors ≡ length begun.args.vectors.now
   vectors-kept =
       let a = begun.args in
       let l = c.loop in
-      vectors-size a.count a.t2 a.codes.now a.vectors.now a.numbers.now begun.pre l.i l.codes l.vectors
+      vectors_size a.count a.t2 a.codes.now a.vectors.now a.numbers.now begun.pre l.i l.codes l.vectors
       l.numbers l.invariant
 
   numbers-kept : length c.loop.numbers ≡ length begun.args.numbers.now
   numbers-kept =
       let a = begun.args in
       let l = c.loop in
-      numbers-size a.count a.t2 a.codes.now a.vectors.now a.numbers.now begun.pre l.i l.codes l.vectors
+      numbers_size a.count a.t2 a.codes.now a.vectors.now a.numbers.now begun.pre l.i l.codes l.vectors
       l.numbers l.invariant
 
 -- in a turn
@@ -131,9 +131,9 @@ loop-again c =
     let s = begun n.before in
     let a = s.args in
     let l = n.before.loop in
-    next-slot a.count a.t2 a.codes.now a.vectors.now a.numbers.now s.pre l.i l.codes l.vectors l.numbers
+    next_slot a.count a.t2 a.codes.now a.vectors.now a.numbers.now s.pre l.i l.codes l.vectors l.numbers
     l.inv (below n) _ _ h.hand-slot.result h.hand-slot.new.1.1.0 h.hand-slot.new.1.1.1.0
-    (element-there a.t2 l.i _ _ (omega (arith, below n, all_there s))) refl h.hand-slot.ensures
+    (element_there a.t2 l.i _ _ (omega (arith, below n, all_there s))) refl h.hand-slot.ensures
 
 same_length : tie.Need-same-length invariant-loop decreases-loop
 same_length c = codes-kept c.before
@@ -150,7 +150,7 @@ returns c =
     let a = s.args in
     let l = c.before.loop in
     let done : l.i ≡ 8 = omega (arith, l.invariant.few, c.loop-test.false) in
-    all-handed a.count a.t2 a.codes.now a.vectors.now a.numbers.now s.pre l.codes l.vectors l.numbers
+    all_handed a.count a.t2 a.codes.now a.vectors.now a.numbers.now s.pre l.codes l.vectors l.numbers
     (rw done at l.invariant)
 
 pub each-slot-spec : {M : Type 1} → statement M

@@ -2,7 +2,7 @@
 use mathlib.Core.Path.{◌≡◌}
 use native.Mathlib.Omega.{arith}
 use lib.ListN.{length}
-use Rattle.c_boards.proofs.Certifying.{boards-lengths, handed-pass, handed-refused}
+use Rattle.c_boards.proofs.Certifying.{boards_lengths_lem, handed_pass, handed_refused}
 use borrow.Author.Rules.{rules}
 use Rattle.c_boards.proofs.hand_over.Statement.{statement}
 use Rattle.c_boards.proofs.hand_over.Tie as tie
@@ -13,7 +13,7 @@ module _ (s : tie.Start) where
       × ((length s.args.budgets.now ≡ 8) × ((length s.args.vectors.now ≡ 64) × (length s.args.numbers.now ≡ 48)))
   sizes =
       let a = s.args in
-      boards-lengths (length a.codes.now) (length a.budgets.now) (length a.vectors.now) (length a.numbers.now) s.requires
+      boards_lengths_lem (length a.codes.now) (length a.budgets.now) (length a.vectors.now) (length a.numbers.now) s.requires
 
   eight : length s.args.b.budgets ≡ 8
   eight = search rules
@@ -60,7 +60,7 @@ returns c =
     let t = f.before.before.before in
     let s = begun t in
     let a = s.args in
-    handed-pass a.count a.b a.codes.now a.budgets.now a.vectors.now a.numbers.now e.each-slot.new.1.1.0
+    handed_pass a.count a.b a.codes.now a.budgets.now a.vectors.now a.numbers.now e.each-slot.new.1.1.0
     f.fill-patterns.new.0 e.each-slot.new.1.1.1.0 e.each-slot.new.1.1.1.1.0 t.enum_told.given.1
     (omega (arith, (sizes s).1.0, eight s)) f.fill-patterns.ensures e.each-slot.ensures
 
@@ -68,7 +68,7 @@ returns-2 : tie.Need-returns-2
 returns-2 c =
     let why = c.before.before in
     let a = why.before.before.before.before.before.before.before.args in
-    handed-refused a.count a.b a.codes.now a.budgets.now a.vectors.now a.numbers.now c.refusal-code.result
+    handed_refused a.count a.b a.codes.now a.budgets.now a.vectors.now a.numbers.now c.refusal-code.result
     why.check.given.0.0 why.check.given.1 c.refusal-code.ensures
 
 pub hand-over-spec : {M : Type 1} → statement M

@@ -4,7 +4,7 @@ use mathlib.Core.List.{◌∷◌}
 use Prim.Native.Nat.{ℕ}
 use lib.ListN.{length}
 use Rattle.c_buffers.specs.Buffers.{filled}
-use Rattle.c_search.specs.Calls.{searchNumbers}
+use Rattle.c_search.specs.Calls.{search_numbers}
 use borrow.Author.Rules.{rules}
 use Rattle.c_boards.proofs.hand_slot.Statement.{statement}
 use Rattle.c_boards.proofs.hand_slot.Tie as tie
@@ -50,7 +50,7 @@ returns c =
       (
         lay.fill-coordinates.ensures,
         (
-          fill.fill-numbers.ensures ∙ ap (λ (k : ℕ). filled a.numbers.now (k ∷ searchNumbers a.a)) kind.kind-number.ensures,
+          fill.fill-numbers.ensures ∙ ap (λ (k : ℕ). filled a.numbers.now (k ∷ search_numbers a.a)) kind.kind-number.ensures,
           long kind,
         ),
       ),
@@ -72,7 +72,7 @@ returns-2 c =
       (
         lay.fill-coordinates.ensures,
         (
-          fill.fill-numbers.ensures ∙ ap (λ (k : ℕ). filled a.numbers.now (k ∷ searchNumbers a.a)) kind.kind-number.ensures,
+          fill.fill-numbers.ensures ∙ ap (λ (k : ℕ). filled a.numbers.now (k ∷ search_numbers a.a)) kind.kind-number.ensures,
           long kind,
         ),
       ),

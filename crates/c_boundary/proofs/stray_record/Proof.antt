@@ -9,7 +9,7 @@ use Rattle.codes.specs.declared.Refusal.{Refusal}
 use Rattle.codes.specs.declared.Refusal.TheVariants.{Length, Shape, Scale, Loss, Box, Start, Stray, Table, Answer, Short, Beacon, OffGrid}
 use Rattle.codes.specs.declared.Refusal.TheVariants.{Rounds, Bounds, Order, Clash, Window, Jobs}
 use Rattle.codes.specs.contracts.Refusal as declared
-use Rattle.c_boundary.specs.Boundary.{strayRecord}
+use Rattle.c_boundary.specs.Boundary.{stray_record}
 use Rattle.c_boundary.proofs.stray_record.Statement.{statement}
 use Rattle.c_boundary.proofs.stray_record.Tie as tie
 
@@ -17,7 +17,7 @@ use Rattle.c_boundary.proofs.stray_record.Tie as tie
 abbrev others : List ℕ
 others = 0 ∷ 1 ∷ 2 ∷ 3 ∷ 4 ∷ 5 ∷ 7 ∷ 8 ∷ 9 ∷ 10 ∷ 11 ∷ 12 ∷ 13 ∷ 14 ∷ 15 ∷ 16 ∷ 17 ∷ []
 
-not-stray : (r : Refusal) → OneOf others (Declared.tag_of declared.the_type r) → strayRecord r ≡ 0
+not-stray : (r : Refusal) → OneOf others (Declared.tag_of declared.the_type r) → stray_record r ≡ 0
 not-stray Length k = refl
 not-stray Shape k = refl
 not-stray Scale k = refl

@@ -7,7 +7,7 @@ use lib.ListN.{length, get_or}
 use mir.Syntax.{w16}
 use mir.Val.{SFits}
 use mir.Facts.{to_z-of_z}
-use Rattle.c_buffers.proofs.Listed.{elements-rest}
+use Rattle.c_buffers.proofs.Listed.{elements_rest}
 use borrow.Author.Rules.{rules}
 use Rattle.c_buffers.proofs.coordinates_of.Statement.{statement}
 use Rattle.c_buffers.proofs.coordinates_of.Tie as tie
@@ -35,7 +35,7 @@ returns-2 c =
     let f₂ : SFits w16 (get_or w 2 (pos 0)) = record { sfits = c.before.t9.given } in
     let f₁ : SFits w16 (get_or w 1 (pos 0)) = record { sfits = c.before.before.t7.given } in
     let f₀ : SFits w16 (get_or w 0 (pos 0)) = record { sfits = c.before.before.before.t5.given } in
-    rw (eq-eqb (length w) 4 test.if1.false) (simp to_z-of_z (elements-rest (pos 0) w 0 4 (omega arith)))
+    rw (eq-eqb (length w) 4 test.if1.false) (simp to_z-of_z (elements_rest (pos 0) w 0 4 (omega arith)))
 
 pub coordinates-of-spec : {M : Type 1} → statement M
 coordinates-of-spec =

@@ -6,7 +6,7 @@ use Prim.Native.Nat.{◌-◌, ◌≤◌, ◌<◌}
 use native.Mathlib.Numerals.{add-one}
 use native.Mathlib.Omega.{arith}
 use lib.ListN.{length, length-set}
-use Rattle.c_buffers.proofs.Filling.{laid, laid_more, laid-whole}
+use Rattle.c_buffers.proofs.Filling.{laid, laid_more, laid_whole}
 use Rattle.c_buffers.proofs.fill_bytes.Statement.{statement}
 use Rattle.c_buffers.proofs.fill_bytes.Tie as tie
 
@@ -60,7 +60,7 @@ returns-2 c =
     rw (
       c.before.loop.invariant.1,
       e,
-      laid-whole a.out.now a.bytes.now same,
+      laid_whole a.out.now a.bytes.now same,
       eq-eqb (length a.out.now) (length a.bytes.now)
           same,
     )

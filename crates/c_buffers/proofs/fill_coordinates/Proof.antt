@@ -10,7 +10,7 @@ use lib.IntN.{pos}
 use lib.ListN.{get_or}
 use mir.Syntax.{w16}
 use mir.ValLaws.{to_z-of_z}
-use Rattle.c_buffers.proofs.Filling.{laid, laid_more, laid-whole}
+use Rattle.c_buffers.proofs.Filling.{laid, laid_more, laid_whole}
 use Rattle.c_buffers.proofs.fill_coordinates.Statement.{statement}
 use Rattle.c_buffers.proofs.fill_coordinates.Tie as tie
 
@@ -68,7 +68,7 @@ returns-2 c =
     let a = c.before.before.before.args in
     let same = c.before.loop.invariant.3 in
     let e : c.before.loop.k ≡ length a.w.now = omega arith in
-    rw (c.before.loop.invariant.1, e, laid-whole a.out.now a.w.now same, eq-eqb (length a.out.now) (length a.w.now) same)
+    rw (c.before.loop.invariant.1, e, laid_whole a.out.now a.w.now same, eq-eqb (length a.out.now) (length a.w.now) same)
 
 pub fill-coordinates-spec : {M : Type 1} → statement M
 fill-coordinates-spec =

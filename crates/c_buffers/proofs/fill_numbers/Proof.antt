@@ -6,7 +6,7 @@ use Prim.Native.Nat.{◌-◌, ◌≤◌, ◌<◌}
 use native.Mathlib.Numerals.{add-one}
 use native.Mathlib.Omega.{arith}
 use lib.ListN.{length, length-set}
-use Rattle.c_buffers.proofs.Filling.{laid, laid_more, laid-whole}
+use Rattle.c_buffers.proofs.Filling.{laid, laid_more, laid_whole}
 use Rattle.c_buffers.proofs.fill_numbers.Statement.{statement}
 use Rattle.c_buffers.proofs.fill_numbers.Tie as tie
 
@@ -66,7 +66,7 @@ returns-2 c =
     rw (
       c.before.loop.invariant.1,
       e,
-      laid-whole a.out.now a.told.now same,
+      laid_whole a.out.now a.told.now same,
       eq-eqb (length a.out.now) (length a.told.now)
           same,
     )

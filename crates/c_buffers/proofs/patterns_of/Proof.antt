@@ -3,7 +3,7 @@ use mathlib.Core.Path.{refl}
 use borrow.Author.Tests.{eq-eqb, ne_eqb}
 use native.Mathlib.Omega.{arith}
 use lib.ListN.{length}
-use Rattle.c_buffers.proofs.Listed.{elements-rest}
+use Rattle.c_buffers.proofs.Listed.{elements_rest}
 use borrow.Author.Rules.{rules}
 use Rattle.c_buffers.proofs.patterns_of.Statement.{statement}
 use Rattle.c_buffers.proofs.patterns_of.Tie as tie
@@ -27,7 +27,7 @@ returns-2 : tie.Need-returns-2
 returns-2 c =
     let test = c.before.before.before.before in
     let bits = test.before.args.bits.now in
-    rw (eq-eqb (length bits) 4 test.if1.false) (elements-rest 0 bits 0 4 (omega arith))
+    rw (eq-eqb (length bits) 4 test.if1.false) (elements_rest 0 bits 0 4 (omega arith))
 
 pub patterns-of-spec : {M : Type 1} → statement M
 patterns-of-spec =

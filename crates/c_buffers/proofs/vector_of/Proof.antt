@@ -7,7 +7,7 @@ use lib.ListN.{length, get_or}
 use mir.Syntax.{w16}
 use mir.Val.{SFits}
 use mir.Facts.{to_z-of_z}
-use Rattle.c_buffers.proofs.Listed.{elements-rest}
+use Rattle.c_buffers.proofs.Listed.{elements_rest}
 use borrow.Author.Rules.{rules}
 use Rattle.c_buffers.proofs.vector_of.Statement.{statement}
 use Rattle.c_buffers.proofs.vector_of.Tie as tie
@@ -51,7 +51,7 @@ returns-2 c =
     let f₂ : SFits w16 (get_or v 2 (pos 0)) = record { sfits = c.before.before.before.before.before.t9.given } in
     let f₁ : SFits w16 (get_or v 1 (pos 0)) = record { sfits = c.before.before.before.before.before.before.t7.given } in
     let f₀ : SFits w16 (get_or v 0 (pos 0)) = record { sfits = c.before.before.before.before.before.before.before.t5.given } in
-    rw (eq-eqb (length v) 8 test.if1.false) (simp to_z-of_z (elements-rest (pos 0) v 0 8 (omega arith)))
+    rw (eq-eqb (length v) 8 test.if1.false) (simp to_z-of_z (elements_rest (pos 0) v 0 8 (omega arith)))
 
 pub vector-of-spec : {M : Type 1} → statement M
 vector-of-spec =

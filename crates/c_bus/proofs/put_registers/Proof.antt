@@ -2,7 +2,7 @@
 use mathlib.Core.Path.{◌≡◌, sym, ◌∙◌}
 use native.Mathlib.Omega.{arith}
 use lib.ListN.{length}
-use Rattle.c_bus.proofs.Copying.{all-copied}
+use Rattle.c_bus.proofs.Copying.{all_copied}
 use borrow.Author.Rules.{rules}
 use Rattle.c_bus.proofs.put_registers.Statement.{statement}
 use Rattle.c_bus.proofs.put_registers.Tie as tie
@@ -25,7 +25,7 @@ returns : tie.Need-returns
 returns c =
     let k = c.before.before in
     let s = k.before.before.before.before.before in
-    all-copied s.args.r.bytes s.args.buffer.now k.copy.new.1.0 (whole s ∙ sym s.requires) k.copy.ensures.1
+    all_copied s.args.r.bytes s.args.buffer.now k.copy.new.1.0 (whole s ∙ sym s.requires) k.copy.ensures.1
 
 pub put-registers-spec : {M : Type 1} → statement M
 put-registers-spec = tie.close (tie.spec slice-aggregate-copy copy-requires same_length returns)

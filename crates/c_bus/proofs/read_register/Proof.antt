@@ -4,7 +4,7 @@ use mathlib.Core.Path.{refl, ap, ◌∙◌}
 use borrow.Author.Tests.{eq-eqb, ne_eqb}
 use Prim.Native.Nat.{ℕ}
 use lib.ListN.{length}
-use Rattle.registers.specs.Registers.{readAt}
+use Rattle.registers.specs.Registers.{read_at}
 use borrow.Author.Rules.{rules}
 use Rattle.c_bus.proofs.read_register.Statement.{statement}
 use Rattle.c_bus.proofs.read_register.Tie as tie
@@ -27,7 +27,7 @@ returns-2 c =
     let t = r.before in
     let a = t.before.before.args in
     rw (eq-eqb (length a.registers.now) 136 t.if1.false)
-    (refl, c.read.ensures ∙ ap (λ (s : List ℕ). readAt s a.offset) r.registers-in.ensures)
+    (refl, c.read.ensures ∙ ap (λ (s : List ℕ). read_at s a.offset) r.registers-in.ensures)
 
 pub read-register-spec : {M : Type 1} → statement M
 read-register-spec =

@@ -1,6 +1,6 @@
 -- A copy of the whole buffer.
 use mathlib.Core.Path.{refl, ◌∙◌}
-use Rattle.c_bus.proofs.Copying.{all-copied}
+use Rattle.c_bus.proofs.Copying.{all_copied}
 use borrow.Author.Rules.{rules}
 use Rattle.c_bus.proofs.registers_in.Statement.{statement}
 use Rattle.c_bus.proofs.registers_in.Tie as tie
@@ -15,7 +15,7 @@ returns : tie.Need-returns
 returns c =
     let k = c.before in
     let s = k.before.before.before in
-    all-copied s.args.buffer.now _ _ s.requires k.copy.ensures.1
+    all_copied s.args.buffer.now _ _ s.requires k.copy.ensures.1
 
 pub registers-in-spec : {M : Type 1} → statement M
 registers-in-spec = tie.close (tie.spec slice-aggregate-copy copy-requires returns)

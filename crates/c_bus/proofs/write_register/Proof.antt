@@ -1,5 +1,5 @@
 -- By the length of the buffer.
-use Rattle.c_bus.proofs.Writing.{wrong-length, right-length}
+use Rattle.c_bus.proofs.Writing.{wrong_length_lem, right_length}
 use borrow.Author.Rules.{rules}
 use Rattle.c_bus.proofs.write_register.Statement.{statement}
 use Rattle.c_bus.proofs.write_register.Tie as tie
@@ -7,7 +7,7 @@ use Rattle.c_bus.proofs.write_register.Tie as tie
 returns : tie.Need-returns
 returns c =
     let a = c.before.before.before.before.args in
-    wrong-length a.registers.now a.offset a.value a.store.now a.table.now a.bounds.now c.if1.true
+    wrong_length_lem a.registers.now a.offset a.value a.store.now a.table.now a.bounds.now c.if1.true
 
 registers-in-requires : tie.Need-registers-in-requires
 registers-in-requires c κs = search rules
@@ -34,7 +34,7 @@ returns-2 c =
     let r = w.before.before.before in
     let t = r.before.before in
     let a = t.before.before.before.before.args in
-    right-length a.registers.now a.offset a.value a.store.now a.table.now a.bounds.now
+    right_length a.registers.now a.offset a.value a.store.now a.table.now a.bounds.now
     r.registers-in.result.bytes
     w.write.result.bytes p.put-registers.new.0 w.write.new.1.1.1.1.0 w.write.new.1.1.1.1.1.0 t.if1.false
     r.registers-in.ensures p.put-registers.ensures w.write.ensures

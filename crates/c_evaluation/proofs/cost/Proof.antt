@@ -3,7 +3,7 @@ use borrow.Author.Rules.{rules}
 use mathlib.Core.Path.{refl, ◌∙◌}
 use borrow.Author.Tests.{eq-eqb, ne_eqb}
 use lib.ListN.{length}
-use Rattle.c_buffers.proofs.Buffers.{vector-from}
+use Rattle.c_buffers.proofs.Buffers.{vector_from_lem}
 use Rattle.c_evaluation.proofs.cost.Statement.{statement}
 use Rattle.c_evaluation.proofs.cost.Tie as tie
 
@@ -27,7 +27,7 @@ returns-2 c =
     let k = c.before.before in
     let test = k.before.before.before in
     let v = test.before.before.args.vector.now in
-    let is-vector = k.before.vector-of.ensures ∙ vector-from v test.if1.false in
+    let is-vector = k.before.vector-of.ensures ∙ vector_from_lem v test.if1.false in
     let is-model = k.before.before.model_of.ensures in
     rw (eq-eqb (length v) 8 test.if1.false, ← is-vector, ← is-model, ← k.cost.ensures) c.settle.ensures
 

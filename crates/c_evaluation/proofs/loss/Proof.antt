@@ -2,7 +2,7 @@
 use borrow.Author.Rules.{rules}
 use mathlib.Core.Path.{◌≡◌, ◌∙◌}
 use mir.Facts.{to_z-of_z}
-use Rattle.loss.specs.Loss.{lossAnswer}
+use Rattle.loss.specs.Loss.{loss_answer}
 use Rattle.c_evaluation.proofs.loss.Statement.{statement}
 use Rattle.c_evaluation.proofs.loss.Tie as tie
 
@@ -17,7 +17,7 @@ returns c =
     let l = c.before.before in
     let s = l.before in
     let f = s.ranges.e in
-    let e : l.loss.result ≡ lossAnswer s.args.p s.args.eps s.args.e = l.loss.ensures ∙ simp to_z-of_z in
+    let e : l.loss.result ≡ loss_answer s.args.p s.args.eps s.args.e = l.loss.ensures ∙ simp to_z-of_z in
     rw (← e) c.settle.ensures
 
 pub loss-spec : {M : Type 1} → statement M

@@ -4,9 +4,9 @@ use mathlib.Core.Path.{◌≡◌, refl, sym, ◌∙◌}
 use mathlib.Core.Bool.{true}
 use borrow.Author.Tests.{not-true, not-false}
 use lib.ListN.{length}
-use Rattle.c_buffers.proofs.Buffers.{filled-whole}
-use Rattle.c_jobs.specs.Calls.{jobNumbers, jobLengths}
-use Rattle.c_jobs.proofs.Lengths.{job-lengths}
+use Rattle.c_buffers.proofs.Buffers.{filled_whole}
+use Rattle.c_jobs.specs.Calls.{job_numbers, job_lengths}
+use Rattle.c_jobs.proofs.Lengths.{job_lengths_lem}
 use Rattle.c_jobs.proofs.read_job.Statement.{statement}
 use Rattle.c_jobs.proofs.read_job.Tie as tie
 
@@ -18,7 +18,7 @@ module _ (c : tie.After-read-job) where
   abbrev start : tie.Start
   start = c.before.before.before.before.before
 
-  lengths-right : jobLengths (length start.args.numbers.now) (length start.args.corners.now) (length start.args.start.now)
+  lengths-right : job_lengths (length start.args.numbers.now) (length start.args.corners.now) (length start.args.start.now)
       ≡ true
   lengths-right = sym c.before.before.job-lengths-right.ensures ∙ not-false _ c.before.if1.false
 
@@ -58,11 +58,11 @@ returns-2 c =
     let r = told.before.before.before in
     let a = (start r).args in
     let right = lengths-right r in
-    let room = job-lengths (length a.numbers.now) (length a.corners.now) (length a.start.now) right in
+    let room = job_lengths_lem (length a.numbers.now) (length a.corners.now) (length a.start.now) right in
     let out = lay.lay-job.ensures in
     let job = r.read-job.result.job in
-    let numbers = filled-whole a.numbers.now (jobNumbers job) room.0 in
-    let first = filled-whole a.start.now job.start (room.1 ∙ sym out.1.1.1) in
+    let numbers = filled_whole a.numbers.now (job_numbers job) room.0 in
+    let first = filled_whole a.start.now job.start (room.1 ∙ sym out.1.1.1) in
     rw (right, ← r.read-job.ensures, told.enum_told.given.1) (
       refl,
       (rw numbers at out.0, (out.1.0, rw first at out.1.1.0)),

@@ -4,10 +4,10 @@ use mathlib.Core.Path.{◌≡◌, refl, sym, ap, ◌∙◌}
 use mathlib.Core.Bool.{true}
 use borrow.Author.Tests.{not-true, not-false}
 use lib.ListN.{length}
-use Rattle.coefficients.specs.Lines.{coordinatesOf}
-use Rattle.c_buffers.proofs.Buffers.{exactly-all, filled-whole}
-use Rattle.c_lines.specs.Calls.{lineLengths}
-use Rattle.c_lines.proofs.Lengths.{line-lengths}
+use Rattle.coefficients.specs.Lines.{coordinates_of}
+use Rattle.c_buffers.proofs.Buffers.{exactly_all, filled_whole}
+use Rattle.c_lines.specs.Calls.{line_lengths}
+use Rattle.c_lines.proofs.Lengths.{line_lengths_lem}
 use Rattle.c_lines.proofs.read_line.Statement.{statement}
 use Rattle.c_lines.proofs.read_line.Tie as tie
 
@@ -19,14 +19,14 @@ module _ (c : tie.After-read-patterns) where
   abbrev start : tie.Start
   start = c.before.before.before.before.before
 
-  lengths-right : lineLengths (length start.args.coordinates.now) (length start.args.patterns.now) ≡ true
+  lengths-right : line_lengths (length start.args.coordinates.now) (length start.args.patterns.now) ≡ true
   lengths-right = sym c.before.before.before.lengths-right.ensures ∙ not-false _ c.before.before.if1.false
 
-  is_read : c.read-patterns.result ≡ coordinatesOf start.args.d start.args.scale start.args.patterns.now
+  is_read : c.read-patterns.result ≡ coordinates_of start.args.d start.args.scale start.args.patterns.now
   is_read =
-      let four = (line-lengths (length start.args.coordinates.now) (length start.args.patterns.now) lengths-right).1 in
-      c.read-patterns.ensures ∙ ap (coordinatesOf start.args.d start.args.scale)
-      (c.before.patterns-of.ensures ∙ exactly-all 4 0 start.args.patterns.now four)
+      let four = (line_lengths_lem (length start.args.coordinates.now) (length start.args.patterns.now) lengths-right).1 in
+      c.read-patterns.ensures ∙ ap (coordinates_of start.args.d start.args.scale)
+      (c.before.patterns-of.ensures ∙ exactly_all 4 0 start.args.patterns.now four)
 
 -- a line has four coordinates
 long : (c : tie.After-w) → length c.before.read-patterns.result.w ≡ 4
@@ -67,9 +67,9 @@ returns-2 c =
     let told = fill.before.before.before in
     let r = told.before.before.before in
     let a = (start r).args in
-    let room = line-lengths (length a.coordinates.now) (length a.patterns.now) (lengths-right r) in
+    let room = line_lengths_lem (length a.coordinates.now) (length a.patterns.now) (lengths-right r) in
     let four = long told.before.before in
-    let whole = filled-whole a.coordinates.now r.read-patterns.result.w (room.0 ∙ sym four) in
+    let whole = filled_whole a.coordinates.now r.read-patterns.result.w (room.0 ∙ sym four) in
     rw (lengths-right r, ← is_read r, told.enum_told.given.1) (refl, fill.fill-coordinates.ensures ∙ whole)
 
 returns-3 : tie.Need-returns-3

@@ -5,11 +5,11 @@ use mathlib.Core.Bool.{true}
 use borrow.Author.Tests.{not-true, not-false}
 use lib.IntN.{pos}
 use lib.ListN.{length}
-use Rattle.coefficients.specs.Lines.{written_of, patternsOf}
+use Rattle.coefficients.specs.Lines.{written_of, patterns_of}
 use Rattle.c_buffers.specs.Buffers.{filled}
-use Rattle.c_buffers.proofs.Buffers.{exactly-all, filled-whole}
-use Rattle.c_lines.specs.Calls.{lineLengths}
-use Rattle.c_lines.proofs.Lengths.{line-lengths}
+use Rattle.c_buffers.proofs.Buffers.{exactly_all, filled_whole}
+use Rattle.c_lines.specs.Calls.{line_lengths}
+use Rattle.c_lines.proofs.Lengths.{line_lengths_lem}
 use Rattle.c_lines.proofs.write_line.Statement.{statement}
 use Rattle.c_lines.proofs.write_line.Tie as tie
 
@@ -21,14 +21,14 @@ module _ (c : tie.After-write-line) where
   abbrev start : tie.Start
   start = c.before.before.before.before.before
 
-  lengths-right : lineLengths (length start.args.coordinates.now) (length start.args.patterns.now) ≡ true
+  lengths-right : line_lengths (length start.args.coordinates.now) (length start.args.patterns.now) ≡ true
   lengths-right = sym c.before.before.before.lengths-right.ensures ∙ not-false _ c.before.before.if1.false
 
   is-written : c.write-line.result ≡ written_of start.args.d start.args.scale start.args.coordinates.now
   is-written =
-      let four = (line-lengths (length start.args.coordinates.now) (length start.args.patterns.now) lengths-right).0 in
+      let four = (line_lengths_lem (length start.args.coordinates.now) (length start.args.patterns.now) lengths-right).0 in
       c.write-line.ensures ∙ ap (written_of start.args.d start.args.scale)
-      (c.before.coordinates-of.ensures ∙ exactly-all 4 (pos 0) start.args.coordinates.now four)
+      (c.before.coordinates-of.ensures ∙ exactly_all 4 (pos 0) start.args.coordinates.now four)
 
 returns : tie.Need-returns
 returns c =
@@ -63,15 +63,15 @@ same_length : tie.Need-same-length
 same_length c = search rules
 
 returns-2 : tie.Need-returns-2
-unfolding patternsOf
+unfolding patterns_of
 returns-2 c =
     let fill = c.before.before in
     let bits = fill.before.before.before in
     let told = bits.before in
     let w = told.before.before.before in
     let a = (start w).args in
-    let room = line-lengths (length a.coordinates.now) (length a.patterns.now) (lengths-right w) in
-    let whole = filled-whole a.patterns.now (patternsOf w.write-line.result.line) room.1 in
+    let room = line_lengths_lem (length a.coordinates.now) (length a.patterns.now) (lengths-right w) in
+    let whole = filled_whole a.patterns.now (patterns_of w.write-line.result.line) room.1 in
     rw (lengths-right w, ← is-written w, told.enum_told.given.1)
     (refl, fill.fill-patterns.ensures ∙ ap (filled a.patterns.now) bits.patterns.ensures ∙ whole)
 

@@ -8,8 +8,8 @@ use Rattle.codes.specs.declared.Check.TheVariants.{Pass, Refuse}
 use Rattle.codes.specs.declared.Refusal.{Refusal}
 use Rattle.codes.specs.declared.Outcome.TheVariants.{Refused}
 use Rattle.peel.specs.declared.Peeled.{Peeled}
-use Rattle.c_boundary.specs.Boundary.{answered, code_of, valueAfter, ifAccepted}
-use Rattle.c_peel.specs.Calls.{outcomeOf, vectors_of, numbersOf}
+use Rattle.c_boundary.specs.Boundary.{answered, code_of, value_after, if_accepted}
+use Rattle.c_peel.specs.Calls.{outcome_of, vectors_of, numbers_of}
 use Rattle.c_peel.proofs.hand_over.Statement.{statement}
 use Rattle.c_peel.proofs.hand_over.Tie as tie
 
@@ -35,18 +35,18 @@ same-length-2 c = search rules
 module _ (r : Peeled) (held : ℕ) (vectors : List ℤ) (numbers : List ℕ) where
   abbrev Handed : ℕ → ℕ → List ℤ → List ℕ → Type 0
   Handed code value v n =
-      (code ≡ code_of (answered (outcomeOf r)))
-      × ((value ≡ valueAfter (answered (outcomeOf r)) held)
-      × ((v ≡ ifAccepted (answered (outcomeOf r)) (vectors_of r.answers) vectors)
-      × (n ≡ ifAccepted (answered (outcomeOf r)) (numbersOf r.answers) numbers)))
+      (code ≡ code_of (answered (outcome_of r)))
+      × ((value ≡ value_after (answered (outcome_of r)) held)
+      × ((v ≡ if_accepted (answered (outcome_of r)) (vectors_of r.answers) vectors)
+      × (n ≡ if_accepted (answered (outcome_of r)) (numbers_of r.answers) numbers)))
 
-  where-passed : (v : List ℤ) (n : List ℕ) → r.check ≡ Pass → v ≡ vectors_of r.answers → n ≡ numbersOf r.answers →
+  where-passed : (v : List ℤ) (n : List ℕ) → r.check ≡ Pass → v ≡ vectors_of r.answers → n ≡ numbers_of r.answers →
       Handed 0 r.rounds v n
   where-passed v n e p q = rw e (refl, (refl, (p, q)))
 
-  where-refused : (why : Refusal) (code : ℕ) → r.check ≡ Refuse why → code ≡ code_of (answered (Refused why)) →
+  where_refused : (why : Refusal) (code : ℕ) → r.check ≡ Refuse why → code ≡ code_of (answered (Refused why)) →
       Handed code held vectors numbers
-  where-refused why code e w = rw e (w, (refl, (refl, refl)))
+  where_refused why code e w = rw e (w, (refl, (refl, refl)))
 
 returns : tie.Need-returns
 returns c =
@@ -59,7 +59,7 @@ returns-2 : tie.Need-returns-2
 returns-2 c =
     let w = c.before.before.check in
     let a = c.before.before.before.before.before.args in
-    where-refused a.r a.value.now a.vectors.now a.numbers.now w.given.0.0 c.refusal-code.result w.given.1
+    where_refused a.r a.value.now a.vectors.now a.numbers.now w.given.0.0 c.refusal-code.result w.given.1
     c.refusal-code.ensures
 
 pub hand-over-spec : {M : Type 1} → statement M

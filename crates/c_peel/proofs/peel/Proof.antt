@@ -6,11 +6,11 @@ use mathlib.Core.Bool.{true, true≢false}
 use native.Mathlib.Omega.{arith}
 use lib.ListN.{length}
 use Rattle.jobs.specs.declared.Job.{Job}
-use Rattle.peel.specs.Peel.{peelAnswer, labelsAfter, TablePeeled, BoundsPeeled, PeelingLent}
-use Rattle.c_boundary.specs.Boundary.{modelOf, jobFrom}
-use Rattle.c_peel.specs.Calls.{peelLengths}
-use Rattle.c_peel.proofs.Lengths.{peel-lengths}
-use Rattle.c_peel.proofs.Handed.{peeling-call}
+use Rattle.peel.specs.Peel.{peel_answer, labels_after, TablePeeled, BoundsPeeled, PeelingLent}
+use Rattle.c_boundary.specs.Boundary.{model_of, job_from}
+use Rattle.c_peel.specs.Calls.{peel_lengths}
+use Rattle.c_peel.proofs.Lengths.{peel_lengths_lem}
+use Rattle.c_peel.proofs.Handed.{peeling_call}
 use Rattle.c_peel.proofs.peel.Statement.{statement}
 use Rattle.c_peel.proofs.peel.Tie as tie
 
@@ -53,14 +53,14 @@ peel-requires c κs = search rules
 -- the lengths are right
 right : (e : tie.Else1) →
     let a = e.before.before.before.before.before.before.args in
-    peelLengths (length a.corners.now) (length a.start.now) (length a.vectors.now) (length a.numbers.now) ≡ true
+    peel_lengths (length a.corners.now) (length a.start.now) (length a.vectors.now) (length a.numbers.now) ≡ true
 right e = sym e.before.lengths-right.ensures ∙ not-false _ e.if1.false
 
 hand-over-requires : tie.Need-hand-over-requires
 hand-over-requires c κs =
     let e = c.before.before.before.before.before.before.before.before.before.before.before.before.before.before in
     let a = e.before.before.before.before.before.before.args in
-    peel-lengths (length a.corners.now) (length a.start.now) (length a.vectors.now) (length a.numbers.now) (right e)
+    peel_lengths_lem (length a.corners.now) (length a.start.now) (length a.vectors.now) (length a.numbers.now) (right e)
 
 same_length : tie.Need-same-length
 same_length c = search rules
@@ -84,18 +84,18 @@ returns-2 c =
     let j = c.before.before.before.before.before.before.before.before.before.before.before.before.before.before.before.before in
     let e = c.before.before.before.before.before.before.before.before.before.before.before.before.before.before.before.before.before.before in
     let a = e.before.before.before.before.before.before.args in
-    let m = modelOf a.n a.d a.scale a.p a.eps in
-    let job = jobFrom m a.t a.budget 0 a.corners.now a.start.now in
-    let is-job : j.Job-of.result ≡ job =
-    j.Job-of.ensures ∙ ap (λ m. jobFrom m a.t a.budget 0 a.corners.now a.start.now) j.before.model_of.ensures in
-    let found : s.peel.result ≡ peelAnswer a.store.now job a.limit a.table.now a.bounds.now a.labels.now =
+    let m = model_of a.n a.d a.scale a.p a.eps in
+    let job = job_from m a.t a.budget 0 a.corners.now a.start.now in
+    let is_job : j.Job-of.result ≡ job =
+    j.Job-of.ensures ∙ ap (λ m. job_from m a.t a.budget 0 a.corners.now a.start.now) j.before.model_of.ensures in
+    let found : s.peel.result ≡ peel_answer a.store.now job a.limit a.table.now a.bounds.now a.labels.now =
     s.peel.ensures.0
-    ∙ ap (λ (x : Job). peelAnswer a.store.now x a.limit a.table.now a.bounds.now a.labels.now) is-job in
+    ∙ ap (λ (x : Job). peel_answer a.store.now x a.limit a.table.now a.bounds.now a.labels.now) is_job in
     let labelled =
     s.peel.ensures.1.0
-    ∙ ap (λ (x : Job). labelsAfter a.store.now x a.limit a.table.now a.bounds.now a.labels.now) is-job in
+    ∙ ap (λ (x : Job). labels_after a.store.now x a.limit a.table.now a.bounds.now a.labels.now) is_job in
     let shown =
-    subst (λ (x : Job). PeelingLent a.store.now x a.limit a.table.now a.bounds.now a.labels.now) is-job
+    subst (λ (x : Job). PeelingLent a.store.now x a.limit a.table.now a.bounds.now a.labels.now) is_job
     s.peel.ensures.1.1.1.1 in
     let out = h.hand-over.ensures in
     rw (right e, ← found) (
@@ -114,7 +114,7 @@ returns-2 c =
                       subst
                       (λ (x : Job). TablePeeled a.store.now x a.limit a.table.now a.bounds.now a.labels.now
                       s.peel.new.1.1.1.0)
-                      is-job s.peel.ensures.1.1.0;
+                      is_job s.peel.ensures.1.1.0;
                   kept = λ wrong. absurd (true≢false (sym (right e) ∙ wrong));
                 },
                 (
@@ -123,11 +123,11 @@ returns-2 c =
                         subst
                         (λ (x : Job). BoundsPeeled a.store.now x a.limit a.table.now a.bounds.now a.labels.now
                         s.peel.new.1.1.1.1.0)
-                        is-job s.peel.ensures.1.1.1.0;
+                        is_job s.peel.ensures.1.1.1.0;
                     kept = λ wrong. absurd (true≢false (sym (right e) ∙ wrong));
                   },
                   λ zero.
-                      peeling-call a.store.now m a.t a.budget a.corners.now a.start.now a.limit a.table.now
+                      peeling_call a.store.now m a.t a.budget a.corners.now a.start.now a.limit a.table.now
                       a.bounds.now a.labels.now a.vectors.now a.numbers.now s.peel.result a.value.now _ _ _ _ found
                       shown (sym out.0 ∙ zero) out.1.0 out.1.1.0 out.1.1.1 labelled,
                 ),

@@ -4,12 +4,12 @@ use mathlib.Core.Bool.{true, true≢false}
 use lib.ListN.{length}
 use borrow.Author.Tests.{not-true, not-false}
 use Rattle.jobs.specs.declared.Job.{Job}
-use Rattle.ranges.specs.Ranges.{rangesAnswer, TableRanged, RangesCertified}
-use Rattle.c_boundary.specs.Boundary.{modelOf, jobFrom}
-use Rattle.c_buffers.proofs.Buffers.{filled-whole}
-use Rattle.c_ranges.specs.Calls.{rangesLengths, patternsOf, cases_of, rangesNumbers}
-use Rattle.c_ranges.proofs.Lengths.{ranges-lengths}
-use Rattle.c_ranges.proofs.Certifying.{certified-call}
+use Rattle.ranges.specs.Ranges.{ranges_answer, TableRanged, RangesCertified}
+use Rattle.c_boundary.specs.Boundary.{model_of, job_from}
+use Rattle.c_buffers.proofs.Buffers.{filled_whole}
+use Rattle.c_ranges.specs.Calls.{ranges_lengths, patterns_of, cases_of, ranges_numbers}
+use Rattle.c_ranges.proofs.Lengths.{ranges_lengths_lem}
+use Rattle.c_ranges.proofs.Certifying.{certified_call}
 use native.Mathlib.Omega.{arith}
 use borrow.Author.Rules.{rules}
 use Rattle.c_ranges.proofs.ranges.Statement.{statement}
@@ -70,26 +70,26 @@ returns-2 c =
     let j = s.before.before in
     let test = j.before.before in
     let a = test.before.before.before.before.before.before.args in
-    let m = modelOf a.n a.d a.scale a.p a.eps in
-    let job = jobFrom m 0 a.budget 0 a.corners.now a.start.now in
-    let is-job : j.Job-of.result ≡ job =
-    j.Job-of.ensures ∙ ap (λ m. jobFrom m 0 a.budget 0 a.corners.now a.start.now) j.before.model_of.ensures in
-    let found : s.ranges.result ≡ rangesAnswer a.store.now job a.ceiling a.table.now =
-    s.ranges.ensures.0 ∙ ap (λ (x : Job). rangesAnswer a.store.now x a.ceiling a.table.now) is-job in
-    let right : rangesLengths (length a.corners.now) (length a.start.now) (length a.patterns.now) (length a.cases.now)
+    let m = model_of a.n a.d a.scale a.p a.eps in
+    let job = job_from m 0 a.budget 0 a.corners.now a.start.now in
+    let is_job : j.Job-of.result ≡ job =
+    j.Job-of.ensures ∙ ap (λ m. job_from m 0 a.budget 0 a.corners.now a.start.now) j.before.model_of.ensures in
+    let found : s.ranges.result ≡ ranges_answer a.store.now job a.ceiling a.table.now =
+    s.ranges.ensures.0 ∙ ap (λ (x : Job). ranges_answer a.store.now x a.ceiling a.table.now) is_job in
+    let right : ranges_lengths (length a.corners.now) (length a.start.now) (length a.patterns.now) (length a.cases.now)
     (length a.numbers.now) ≡ true = sym test.before.lengths-right.ensures ∙ not-false _ test.if1.left in
     let room =
-    ranges-lengths (length a.corners.now) (length a.start.now) (length a.patterns.now) (length a.cases.now)
+    ranges_lengths_lem (length a.corners.now) (length a.start.now) (length a.patterns.now) (length a.cases.now)
     (length a.numbers.now) right in
     let out = h.hand-over.ensures in
-    let bits = filled-whole a.patterns.now (patternsOf s.ranges.result.slots) room.0 in
-    let which = filled-whole a.cases.now (cases_of s.ranges.result.slots) room.1 in
-    let told = filled-whole a.numbers.now (rangesNumbers s.ranges.result) room.2 in
+    let bits = filled_whole a.patterns.now (patterns_of s.ranges.result.slots) room.0 in
+    let which = filled_whole a.cases.now (cases_of s.ranges.result.slots) room.1 in
+    let told = filled_whole a.numbers.now (ranges_numbers s.ranges.result) room.2 in
     let handed-patterns = rw bits at out.1.1.0 in
     let handed-cases = rw which at out.1.1.1.0 in
     let handed-numbers = rw told at out.1.1.1.1 in
     let certificate =
-    subst (λ (x : Job). RangesCertified a.store.now x a.ceiling a.table.now s.ranges.result) is-job
+    subst (λ (x : Job). RangesCertified a.store.now x a.ceiling a.table.now s.ranges.result) is_job
     s.ranges.ensures.1.1 in
     rw (right, ← found) (
       out.0,
@@ -104,12 +104,12 @@ returns-2 c =
               (
                 record {
                   searched = λ _.
-                      subst (λ (x : Job). TableRanged a.store.now x a.ceiling a.table.now s.ranges.last.1.1.1.0) is-job
+                      subst (λ (x : Job). TableRanged a.store.now x a.ceiling a.table.now s.ranges.last.1.1.1.0) is_job
                       s.ranges.ensures.1.0;
                   kept = λ wrong. absurd (true≢false (sym right ∙ wrong));
                 },
                 λ e.
-                    certified-call a.store.now m a.budget a.ceiling a.corners.now a.start.now a.table.now
+                    certified_call a.store.now m a.budget a.ceiling a.corners.now a.start.now a.table.now
                     a.patterns.now a.cases.now a.numbers.now s.ranges.result a.value.now _ _ _ _ found certificate
                     (sym out.0 ∙ e) out.1.0 handed-patterns handed-cases handed-numbers,
               ),

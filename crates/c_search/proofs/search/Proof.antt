@@ -5,12 +5,12 @@ use native.Mathlib.Omega.{arith}
 use lib.ListN.{length}
 use borrow.Author.Tests.{not-true, not-false}
 use Rattle.jobs.specs.declared.Job.{Job}
-use Rattle.search.specs.Search.{searchAnswer, TableSearched, BoundsSearched, Certified}
-use Rattle.c_boundary.specs.Boundary.{modelOf, jobFrom}
-use Rattle.c_buffers.proofs.Buffers.{filled-whole}
-use Rattle.c_search.specs.Calls.{searchLengths, searchNumbers}
-use Rattle.c_search.proofs.Lengths.{search-lengths}
-use Rattle.c_search.proofs.Certifying.{certified-call}
+use Rattle.search.specs.Search.{search_answer, TableSearched, BoundsSearched, Certified}
+use Rattle.c_boundary.specs.Boundary.{model_of, job_from}
+use Rattle.c_buffers.proofs.Buffers.{filled_whole}
+use Rattle.c_search.specs.Calls.{search_lengths, search_numbers}
+use Rattle.c_search.proofs.Lengths.{search_lengths_lem}
+use Rattle.c_search.proofs.Certifying.{certified_call}
 use borrow.Author.Rules.{rules}
 use Rattle.c_search.proofs.search.Statement.{statement}
 use Rattle.c_search.proofs.search.Tie as tie
@@ -70,23 +70,23 @@ returns-2 c =
     let j = s.before.before.before in
     let test = j.before.before in
     let a = test.before.before.before.before.before.args in
-    let m = modelOf a.n a.d a.scale a.p a.eps in
-    let job = jobFrom m a.t a.budget 0 a.corners.now a.start.now in
-    let is-job : j.Job-of.result ≡ job =
-    j.Job-of.ensures ∙ ap (λ m. jobFrom m a.t a.budget 0 a.corners.now a.start.now) j.before.model_of.ensures in
-    let found : s.search.result ≡ searchAnswer a.store.now job a.table.now a.bounds.now =
-    s.search.ensures.0 ∙ ap (λ (x : Job). searchAnswer a.store.now x a.table.now a.bounds.now) is-job in
-    let right : searchLengths (length a.corners.now) (length a.start.now) (length a.vector.now) (length a.numbers.now)
+    let m = model_of a.n a.d a.scale a.p a.eps in
+    let job = job_from m a.t a.budget 0 a.corners.now a.start.now in
+    let is_job : j.Job-of.result ≡ job =
+    j.Job-of.ensures ∙ ap (λ m. job_from m a.t a.budget 0 a.corners.now a.start.now) j.before.model_of.ensures in
+    let found : s.search.result ≡ search_answer a.store.now job a.table.now a.bounds.now =
+    s.search.ensures.0 ∙ ap (λ (x : Job). search_answer a.store.now x a.table.now a.bounds.now) is_job in
+    let right : search_lengths (length a.corners.now) (length a.start.now) (length a.vector.now) (length a.numbers.now)
     ≡ true = sym test.before.lengths-right.ensures ∙ not-false _ test.if1.false in
     let room =
-    search-lengths (length a.corners.now) (length a.start.now) (length a.vector.now) (length a.numbers.now) right in
+    search_lengths_lem (length a.corners.now) (length a.start.now) (length a.vector.now) (length a.numbers.now) right in
     let out = h.hand-over.ensures in
-    let laid = filled-whole a.vector.now s.search.result.vector (room.0 ∙ sym out.1.1.1.1) in
-    let told = filled-whole a.numbers.now (searchNumbers s.search.result) room.1 in
+    let laid = filled_whole a.vector.now s.search.result.vector (room.0 ∙ sym out.1.1.1.1) in
+    let told = filled_whole a.numbers.now (search_numbers s.search.result) room.1 in
     let handed-vector = rw laid at out.1.1.0 in
     let handed-numbers = rw told at out.1.1.1.0 in
     let certificate =
-    subst (λ (x : Job). Certified a.store.now x a.table.now a.bounds.now s.search.result) is-job
+    subst (λ (x : Job). Certified a.store.now x a.table.now a.bounds.now s.search.result) is_job
     s.search.ensures.1.1.1 in
     rw (right, ← found) (
       out.0,
@@ -99,7 +99,7 @@ returns-2 c =
             (
               record {
                 searched = λ _.
-                    subst (λ (x : Job). TableSearched a.store.now x a.table.now a.bounds.now s.search.new.1.1.0) is-job
+                    subst (λ (x : Job). TableSearched a.store.now x a.table.now a.bounds.now s.search.new.1.1.0) is_job
                     s.search.ensures.1.0;
                 kept = λ wrong. absurd (true≢false (sym right ∙ wrong));
               },
@@ -107,12 +107,12 @@ returns-2 c =
                 record {
                   searched = λ _.
                       subst (λ (x : Job). BoundsSearched a.store.now x a.table.now a.bounds.now s.search.new.1.1.1.0)
-                      is-job
+                      is_job
                       s.search.ensures.1.1.0;
                   kept = λ wrong. absurd (true≢false (sym right ∙ wrong));
                 },
                 λ e.
-                    certified-call a.store.now m a.t a.budget a.corners.now a.start.now a.table.now a.bounds.now
+                    certified_call a.store.now m a.t a.budget a.corners.now a.start.now a.table.now a.bounds.now
                     a.vector.now
                     a.numbers.now s.search.result a.value.now _ _ _ found certificate (sym out.0 ∙ e) out.1.0
                     handed-vector handed-numbers,

@@ -4,9 +4,9 @@ use mathlib.Core.Path.{◌≡◌, refl, sym, ap, ◌∙◌}
 use mathlib.Core.Bool.{true}
 use borrow.Author.Tests.{not-true, not-false}
 use lib.ListN.{length}
-use Rattle.boxes.specs.Split.{splitAnswer}
+use Rattle.boxes.specs.Split.{split_answer}
 use Rattle.list_rows.specs.Rows.{row_at, with_row}
-use Rattle.c_split.specs.Calls.{splitLengths, splitCall, halvesAfter}
+use Rattle.c_split.specs.Calls.{split_lengths, split_call, halves_after}
 use Rattle.c_split.proofs.split.Statement.{statement}
 use Rattle.c_split.proofs.split.Tie as tie
 
@@ -18,14 +18,14 @@ module _ (c : tie.After-split) where
   abbrev start : tie.Start
   start = c.before.before.before.before
 
-  lengths-right : splitLengths (length start.args.corners.now) (length start.args.halves.now) ≡ true
+  lengths-right : split_lengths (length start.args.corners.now) (length start.args.halves.now) ≡ true
   lengths-right = sym c.before.before.before.lengths-right.ensures ∙ not-false _ c.before.before.if1.false
 
-  split-is : c.split.result ≡ splitAnswer start.args.n start.args.d (row_at start.args.corners.now 0)
-  split-is = c.split.ensures ∙ ap (splitAnswer start.args.n start.args.d) c.before.read-row.ensures
+  split_is : c.split.result ≡ split_answer start.args.n start.args.d (row_at start.args.corners.now 0)
+  split_is = c.split.ensures ∙ ap (split_answer start.args.n start.args.d) c.before.read-row.ensures
 
 returns : tie.Need-returns
-unfolding splitCall halvesAfter
+unfolding split_call halves_after
 returns c =
     let wrong = sym c.before.lengths-right.ensures ∙ not-true _ c.if1.true in
     rw wrong (refl, refl)
@@ -55,19 +55,19 @@ same_length : tie.Need-same-length
 same_length c = search rules
 
 returns-2 : tie.Need-returns-2
-unfolding splitCall halvesAfter
+unfolding split_call halves_after
 returns-2 c =
     let told = c.before.before.before.before.before.before.before.before in
     let s = told.before.before in
     let first = c.before.before.before.before.write-row.ensures in
-    rw (lengths-right s, ← split-is s, told.enum_told.given.1)
+    rw (lengths-right s, ← split_is s, told.enum_told.given.1)
     (refl, c.before.write-row2.ensures ∙ ap (λ t. with_row t 1 s.split.result.right) first)
 
 returns-3 : tie.Need-returns-3
-unfolding splitCall halvesAfter
+unfolding split_call halves_after
 returns-3 c =
     let s = c.before.before.before.before in
-    rw (lengths-right s, ← split-is s, c.before.before.check.given.1) (c.refusal-code.ensures, refl)
+    rw (lengths-right s, ← split_is s, c.before.before.check.given.1) (c.refusal-code.ensures, refl)
 
 pub split-spec : {M : Type 1} → statement M
 split-spec =

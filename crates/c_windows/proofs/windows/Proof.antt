@@ -4,7 +4,7 @@ use borrow.Author.Tests.{not-true, not-false}
 use Rattle.jobs.specs.declared.Job.{Job}
 use Rattle.jobs.specs.declared.Model.{Model}
 use Rattle.window_runs.proofs.Passing.{Promised}
-use Rattle.c_boundary.specs.Boundary.{modelOf, jobFrom}
+use Rattle.c_boundary.specs.Boundary.{model_of, job_from}
 use Rattle.c_windows.proofs.Handing.{kept, handed}
 use borrow.Author.Rules.{rules}
 use Rattle.c_windows.proofs.windows.Statement.{statement}
@@ -17,7 +17,7 @@ returns : tie.Need-returns
 returns c =
     let l = c.before in
     let a = l.before.before.before.before.args in
-    kept a.store.now (modelOf a.n a.d a.scale a.p a.eps) a.t a.budget a.corners.now a.start.now a.k
+    kept a.store.now (model_of a.n a.d a.scale a.p a.eps) a.t a.budget a.corners.now a.start.now a.k
     a.h a.table.now a.bounds.now a.out.now a.value.now (sym l.lengths-right.ensures ∙ not-true _ c.if1.true)
 
 model-of-requires : tie.Need-model-of-requires
@@ -47,10 +47,10 @@ returns-2 c =
     let j = w.before.before.before.before in
     let test = j.before.before in
     let a = test.before.before.before.before.before.args in
-    let m = modelOf a.n a.d a.scale a.p a.eps in
-    let is-job : j.Job-of.result ≡ jobFrom m a.t a.budget 0 a.corners.now a.start.now =
+    let m = model_of a.n a.d a.scale a.p a.eps in
+    let is_job : j.Job-of.result ≡ job_from m a.t a.budget 0 a.corners.now a.start.now =
     j.Job-of.ensures
-    ∙ ap (λ (x : Model). jobFrom x a.t a.budget 0 a.corners.now a.start.now) j.before.model_of.ensures in
+    ∙ ap (λ (x : Model). job_from x a.t a.budget 0 a.corners.now a.start.now) j.before.model_of.ensures in
     handed a.store.now m a.t a.budget a.corners.now a.start.now a.k a.h a.table.now a.bounds.now
     a.out.now
     (sym test.before.lengths-right.ensures ∙ not-false _ test.if1.false)
@@ -59,7 +59,7 @@ returns-2 c =
     (λ (x : Job).
     Promised a.store.now x a.k a.h a.table.now a.bounds.now a.out.now w.windows.result
     w.windows.new.1.1.1.1.0 w.windows.new.1.1.1.1.1.0 w.windows.new.1.1.1.1.1.1.0)
-    is-job w.windows.ensures)
+    is_job w.windows.ensures)
     c.settle.result a.value.now c.settle.new.1.0 c.settle.ensures.0 c.settle.ensures.1
 
 pub windows-spec : {M : Type 1} → statement M

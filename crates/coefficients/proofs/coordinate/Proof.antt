@@ -5,10 +5,10 @@ use lib.Arith.{le→nltb}
 use lib.Ieee.{Float, binary32, mul, of_int, of_bits, neg, le, to_bits, to_signed, nan_bits}
 use lib.Ieee.Bits.{nan_bits_above}
 use mir.ValLaws.{to_z-of_z}
-use Rattle.coefficients.specs.Coefficient.{patternOf, coefficientOf}
-use Rattle.coefficients.proofs.Exact.{coefficient-bits}
-use Rattle.coefficients.proofs.Range.{Cuttable, lowest, highest, ranged, int-low, int-high, int_cut}
-use Rattle.coefficients.proofs.Grid.{found, missed, scaled-back, coefficient-no-nan, nan-missed}
+use Rattle.coefficients.specs.Coefficient.{pattern_of, coefficient_of}
+use Rattle.coefficients.proofs.Exact.{coefficient_bits}
+use Rattle.coefficients.proofs.Range.{Cuttable, lowest, highest, ranged, int_low, int_high, int_cut}
+use Rattle.coefficients.proofs.Grid.{found, missed, scaled_back, coefficient_no_nan, nan_missed}
 use Rattle.coefficients.proofs.coordinate.Statement.{statement}
 use Rattle.coefficients.proofs.coordinate.Tie as tie
 
@@ -16,12 +16,12 @@ use Rattle.coefficients.proofs.coordinate.Tie as tie
 abbrev value : (c : tie.After-power) → Float
 value c = mul binary32 (of_bits binary32 c.before.before.args.p) (of_int binary32 (pos c.power.result))
 
-value-back : (c : tie.After-power) (w : ℤ) → SFits w16 w → patternOf c.before.before.args.s w ≡ c.before.before.args.p
+value-back : (c : tie.After-power) (w : ℤ) → SFits w16 w → pattern_of c.before.before.args.s w ≡ c.before.before.args.p
     → value c ≡ of_int binary32 w
 value-back c w f e =
     let start = c.before.before in
     let q : c.power.result ≡ 2 ^ start.args.s = c.power.ensures ∙ ap (λ (k : ℕ). 2 ^ k) (mod-eq_of_lt (omega arith)) in
-    rw q (scaled-back start.args.s start.requires start.args.p w f e)
+    rw q (scaled_back start.args.s start.requires start.args.p w f e)
 
 -- v lies in the range
 cuttable : (c : tie.Then3) → Cuttable (value c.before.before.before)
@@ -43,15 +43,15 @@ cast-read c = ap (λ (z : ℤ). to_z w16 (of_z w16 z)) (whole-read c) ∙ to_z-o
 
 -- ---- the coefficient of w
 made : (c : tie.After-coefficient)
-    → c.coefficient.result ≡ coefficientOf c.before.before.before.before.before.before.before.args.s (whole c.before)
-made c = c.coefficient.ensures ∙ ap (coefficientOf _) (cast-read c.before)
+    → c.coefficient.result ≡ coefficient_of c.before.before.before.before.before.before.before.args.s (whole c.before)
+made c = c.coefficient.ensures ∙ ap (coefficient_of _) (cast-read c.before)
 
 made_bits : (c : tie.After-coefficient)
     → to_bits binary32 c.coefficient.result
-    ≡ patternOf c.before.before.before.before.before.before.before.args.s (whole c.before)
+    ≡ pattern_of c.before.before.before.before.before.before.before.args.s (whole c.before)
 made_bits c =
     let start = c.before.before.before.before.before.before.before in
-    ap (to_bits binary32) (made c) ∙ coefficient-bits start.args.s start.requires (whole c.before) (whole-fits c.before)
+    ap (to_bits binary32) (made c) ∙ coefficient_bits start.args.s start.requires (whole c.before) (whole-fits c.before)
 
 nan : (p : ℕ) → 2139095040 < p % 2147483648 → T (nan_bits binary32 p)
 nan p h = subst T (sym (nan_bits_above binary32 p)) (lt→ltb 2139095040 (p % 2147483648) h)
@@ -60,7 +60,7 @@ returns : tie.Need-returns
 returns c =
     let start = c.before in
     missed start.args.s start.args.p
-    (nan-missed start.args.s start.requires start.args.p (nan start.args.p c.if1.true))
+    (nan_missed start.args.s start.requires start.args.p (nan start.args.p c.if1.true))
 
 float-from-bits-v : tie.Need-float-from-bits-v
 float-from-bits-v c =
@@ -85,7 +85,7 @@ coefficient-requires c κs = search rules
 float-to-bits-if4 : tie.Need-float-to-bits-if4
 float-to-bits-if4 c =
     let start = c.before.before.before.before.before.before.before in
-    rw (made c) (coefficient-no-nan start.args.s start.requires (whole c.before) (whole-fits c.before))
+    rw (made c) (coefficient_no_nan start.args.s start.requires (whole c.before) (whole-fits c.before))
 
 returns-2 : tie.Need-returns-2
 returns-2 c =
@@ -103,7 +103,7 @@ returns-3 c =
     let same : whole c.before.before ≡ w =
     c.before.before.truncating-f32-to-i64.ensures
     ∙ ap (to_signed 63) (value-back c.before.before.before.before.before.before w f e) ∙ int_cut w f in
-    c.if4.false (made_bits c.before ∙ ap (patternOf start.args.s) same ∙ e))
+    c.if4.false (made_bits c.before ∙ ap (pattern_of start.args.s) same ∙ e))
 
 -- a test that fails of v, though it holds of every w's cast
 refuted : (test : Float → Bool) (x y : Float) → test x ≡ false → x ≡ y → T (test y) → ⊥
@@ -114,14 +114,14 @@ unfolding of_bits neg
 returns-4 c =
     let at = c.before.before.before in
     missed at.before.before.args.s at.before.before.args.p
-    (λ w f e. refuted (λ (x : Float). le x highest) (value at) (of_int binary32 w) c.if3.false (value-back at w f e) (int-high w f))
+    (λ w f e. refuted (λ (x : Float). le x highest) (value at) (of_int binary32 w) c.if3.false (value-back at w f e) (int_high w f))
 
 returns-5 : tie.Need-returns-5
 unfolding of_bits neg
 returns-5 c =
     let at = c.before.before in
     missed at.before.before.args.s at.before.before.args.p
-    (λ w f e. refuted (le lowest) (value at) (of_int binary32 w) c.if2.false (value-back at w f e) (int-low w f))
+    (λ w f e. refuted (le lowest) (value at) (of_int binary32 w) c.if2.false (value-back at w f e) (int_low w f))
 
 pub coordinate-spec : {M : Type 1} → statement M
 coordinate-spec =

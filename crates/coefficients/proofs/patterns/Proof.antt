@@ -1,6 +1,6 @@
 -- Each pattern is that of the number at its place.
 use Rattle.std.proofs.Common.{[], ◌∷◌, rules}
-use Rattle.coefficients.specs.Lines.{patternsOf}
+use Rattle.coefficients.specs.Lines.{patterns_of}
 use Rattle.coefficients.proofs.patterns.Statement.{statement}
 use Rattle.coefficients.proofs.patterns.Tie as tie
 
@@ -17,7 +17,7 @@ pattern-requires-4 : tie.Need-pattern-requires-4
 pattern-requires-4 c κs = search rules
 
 returns : tie.Need-returns
-unfolding patternsOf
+unfolding patterns_of
 returns c =
     let p3 = c.before in
     let p2 = p3.before in

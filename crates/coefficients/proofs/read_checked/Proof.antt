@@ -1,15 +1,15 @@
 -- The four readings are the coordinates of the four patterns, and what the code tests is check 12.
 use Rattle.std.proofs.Common.{◌≡◌, ℕ, Bool, ◌&&◌, List, [], ◌∷◌, map, length, get_or, drop, ℤ, sym, ap, ◌∙◌, subst, w16, SFits, to_z, of_z, rules}
 use mir.ValLaws.{to_z-of_z}
-use Rattle.integers.specs.Integers.{allZero}
+use Rattle.integers.specs.Integers.{all_zero}
 use Rattle.codes.specs.declared.Check.{Check}
 use Rattle.codes.specs.declared.Check.TheVariants.{Pass}
 use Rattle.codes.specs.declared.Refusal.TheVariants.{OffGrid}
-use Rattle.codes.specs.Codes.{passIf}
-use Rattle.coefficients.specs.Grid.{coordinateOf}
-use Rattle.coefficients.specs.Lines.{checkGrid, coordinatesIf}
-use Rattle.coefficients.proofs.Grid.{coordinate-fits}
-use Rattle.coefficients.proofs.Lines.{four-mapped, grid-check}
+use Rattle.codes.specs.Codes.{pass_if}
+use Rattle.coefficients.specs.Grid.{coordinate_of}
+use Rattle.coefficients.specs.Lines.{check_grid, coordinates_if}
+use Rattle.coefficients.proofs.Grid.{coordinate_fits}
+use Rattle.coefficients.proofs.Lines.{four_mapped, grid_check}
 use Rattle.coefficients.proofs.read_checked.Statement.{statement}
 use Rattle.coefficients.proofs.read_checked.Tie as tie
 
@@ -47,8 +47,8 @@ not-read-requires c κs = search rules
 abbrev stored : ℤ → ℤ
 stored z = to_z w16 (of_z w16 z)
 
-coordinate-stored : (S p : ℕ) (z : ℤ) → z ≡ coordinateOf S p → stored z ≡ coordinateOf S p
-coordinate-stored S p z e = to_z-of_z w16 z (subst (SFits w16) (sym e) (coordinate-fits S p)) ∙ e
+coordinate-stored : (S p : ℕ) (z : ℤ) → z ≡ coordinate_of S p → stored z ≡ coordinate_of S p
+coordinate-stored S p z e = to_z-of_z w16 z (subst (SFits w16) (sym e) (coordinate_fits S p)) ∙ e
 
 module _ (c : tie.After-rest-zero) where
   abbrev r4 : tie.After-coordinate4
@@ -76,28 +76,28 @@ module _ (c : tie.After-rest-zero) where
   long = search rules
 
   read : stored r1.coordinate.result.w ∷ stored r2.coordinate2.result.w ∷ stored r3.coordinate3.result.w
-      ∷ stored r4.coordinate4.result.w ∷ [] ≡ map (coordinateOf S) ps
+      ∷ stored r4.coordinate4.result.w ∷ [] ≡ map (coordinate_of S) ps
   read =
       let e1 = coordinate-stored S (get_or ps 0 0) _ r1.coordinate.ensures.1 in
       let e2 = coordinate-stored S (get_or ps 1 0) _ r2.coordinate2.ensures.1 in
       let e3 = coordinate-stored S (get_or ps 2 0) _ r3.coordinate3.ensures.1 in
       let e4 = coordinate-stored S (get_or ps 3 0) _ r4.coordinate4.ensures.1 in
-      (λ i. e1 i ∷ e2 i ∷ e3 i ∷ e4 i ∷ []) ∙ four-mapped (coordinateOf S) 0 ps long
+      (λ i. e1 i ∷ e2 i ∷ e3 i ∷ e4 i ∷ []) ∙ four_mapped (coordinate_of S) 0 ps long
 
   -- check 12 is what the code tests
   checked : {t : Bool}
       → r1.coordinate.result.found && r2.coordinate2.result.found && r3.coordinate3.result.found && r4.coordinate4.result.found
       && c.rest-zero.result ≡ t
-      → coordinatesIf (passIf t OffGrid) (map (coordinateOf S) ps) ≡ coordinatesIf (checkGrid d S ps) (map (coordinateOf S) ps)
+      → coordinates_if (pass_if t OffGrid) (map (coordinate_of S) ps) ≡ coordinates_if (check_grid d S ps) (map (coordinate_of S) ps)
   checked e =
-      let z = c.rest-zero.ensures ∙ ap (λ (l : List ℤ). allZero (drop d l)) read in
-      ap (λ (t : Bool). coordinatesIf (passIf t OffGrid) (map (coordinateOf S) ps))
+      let z = c.rest-zero.ensures ∙ ap (λ (l : List ℤ). all_zero (drop d l)) read in
+      ap (λ (t : Bool). coordinates_if (pass_if t OffGrid) (map (coordinate_of S) ps))
       (sym e ∙ (λ i. r1.coordinate.ensures.0 i && r2.coordinate2.ensures.0 i && r3.coordinate3.ensures.0 i
       && r4.coordinate4.ensures.0 i && z i))
-      ∙ ap (λ (k : Check). coordinatesIf k (map (coordinateOf S) ps)) (sym (grid-check S r1.before.pre d ps long))
+      ∙ ap (λ (k : Check). coordinates_if k (map (coordinate_of S) ps)) (sym (grid_check S r1.before.pre d ps long))
 
 returns : tie.Need-returns
-returns c = ap (coordinatesIf Pass) (read c.before) ∙ checked c.before c.if1.true
+returns c = ap (coordinates_if Pass) (read c.before) ∙ checked c.before c.if1.true
 
 returns-2 : tie.Need-returns-2
 returns-2 c = c.not-read.ensures ∙ checked c.before.before c.before.if1.false

@@ -1,6 +1,6 @@
 -- The patterns handed on are the line's.
 use Rattle.std.proofs.Common.{ap, ◌∙◌, rules}
-use Rattle.coefficients.specs.Lines.{coordinatesOf}
+use Rattle.coefficients.specs.Lines.{coordinates_of}
 use Rattle.coefficients.proofs.read_line.Statement.{statement}
 use Rattle.coefficients.proofs.read_line.Tie as tie
 
@@ -13,7 +13,7 @@ read-patterns-requires c κs = search rules
 returns : tie.Need-returns
 returns c =
     let a = c.before.before.args in
-    c.read-patterns.ensures ∙ ap (coordinatesOf a.d a.s) c.before.patterns.ensures
+    c.read-patterns.ensures ∙ ap (coordinates_of a.d a.s) c.before.patterns.ensures
 
 pub read-line-spec : {M : Type 1} → statement M
 read-line-spec = tie.close (tie.spec patterns-requires read-patterns-requires returns)

@@ -2,12 +2,12 @@
 use Rattle.std.proofs.Common.{◌≡◌, [], ◌∷◌, map, sym, ap, ◌∙◌, rules}
 use Rattle.codes.specs.declared.Check.{Check}
 use Rattle.codes.specs.declared.Check.TheVariants.{Pass}
-use Rattle.codes.specs.Codes.{inOrder}
-use Rattle.codes.proofs.Laws.{after-pass, after-refusal}
-use Rattle.scale.specs.Scale.{checkScale}
-use Rattle.coefficients.specs.Grid.{coordinateOf}
-use Rattle.coefficients.specs.Lines.{checkUsed, checkGrid, readingChecks, coordinatesIf, coordinatesOf}
-use Rattle.coefficients.proofs.Checks.{scale-checked}
+use Rattle.codes.specs.Codes.{in_order}
+use Rattle.codes.proofs.Laws.{after_pass, after_refusal}
+use Rattle.scale.specs.Scale.{check_scale}
+use Rattle.coefficients.specs.Grid.{coordinate_of}
+use Rattle.coefficients.specs.Lines.{check_used, check_grid, reading_checks, coordinates_if, coordinates_of}
+use Rattle.coefficients.proofs.Checks.{scale_checked}
 use Rattle.coefficients.proofs.read_patterns.Statement.{statement}
 use Rattle.coefficients.proofs.read_patterns.Tie as tie
 
@@ -21,32 +21,32 @@ not-read-requires : tie.Need-not-read-requires
 not-read-requires c κs = search rules
 
 returns : tie.Need-returns
-unfolding coordinatesOf readingChecks
+unfolding coordinates_of reading_checks
 returns c =
     let a = c.before.before.before.before.before.args in
     let r = c.before.before.r.given in
     let e = sym c.before.before.before.before.check-line.ensures ∙ r.1 in
     c.not-read.ensures
-    ∙ ap (λ (k : Check). coordinatesIf k (map (coordinateOf a.s) a.bits))
-    (sym (after-refusal (checkUsed a.d ∷ checkScale a.s ∷ []) (checkGrid a.d a.s a.bits ∷ []) r.0.0 e))
+    ∙ ap (λ (k : Check). coordinates_if k (map (coordinate_of a.s) a.bits))
+    (sym (after_refusal (check_used a.d ∷ check_scale a.s ∷ []) (check_grid a.d a.s a.bits ∷ []) r.0.0 e))
 
 enum_told : tie.Need-enum-told
 enum_told c = search rules
 
 passed : (c : tie.After-enum-told)
-    → inOrder (checkUsed c.before.before.before.args.d ∷ checkScale c.before.before.before.args.s ∷ []) ≡ Pass
+    → in_order (check_used c.before.before.before.args.d ∷ check_scale c.before.before.before.args.s ∷ []) ≡ Pass
 passed c = sym c.before.before.check-line.ensures ∙ c.enum_told.given.1
 
 read-checked-requires : tie.Need-read-checked-requires
-read-checked-requires c κs = let a = c.before.before.before.args in scale-checked (checkUsed a.d) a.s (passed c)
+read-checked-requires c κs = let a = c.before.before.before.args in scale_checked (check_used a.d) a.s (passed c)
 
 returns-2 : tie.Need-returns-2
-unfolding coordinatesOf readingChecks
+unfolding coordinates_of reading_checks
 returns-2 c =
     let a = c.before.before.before.before.args in
     c.read-checked.ensures
-    ∙ ap (λ (k : Check). coordinatesIf k (map (coordinateOf a.s) a.bits))
-    (sym (after-pass (checkUsed a.d ∷ checkScale a.s ∷ []) (checkGrid a.d a.s a.bits) (passed c.before)))
+    ∙ ap (λ (k : Check). coordinates_if k (map (coordinate_of a.s) a.bits))
+    (sym (after_pass (check_used a.d ∷ check_scale a.s ∷ []) (check_grid a.d a.s a.bits) (passed c.before)))
 
 pub read-patterns-spec : {M : Type 1} → statement M
 read-patterns-spec =

@@ -5,11 +5,11 @@ use lib.Ieee.{Float}
 use mir.ValLaws.{to_z-of_z}
 use Rattle.codes.specs.declared.Check.TheVariants.{Pass}
 use Rattle.codes.specs.declared.Refusal.TheVariants.{Start}
-use Rattle.codes.specs.Codes.{passIf}
-use Rattle.boxes.specs.Shape.{checkVector}
-use Rattle.coefficients.specs.Coefficient.{coefficientOf}
-use Rattle.coefficients.specs.Lines.{line_of, writtenIf}
-use Rattle.coefficients.proofs.Checks.{unused-check}
+use Rattle.codes.specs.Codes.{pass_if}
+use Rattle.boxes.specs.Shape.{check_vector}
+use Rattle.coefficients.specs.Coefficient.{coefficient_of}
+use Rattle.coefficients.specs.Lines.{line_of, written_if}
+use Rattle.coefficients.proofs.Checks.{unused_check}
 use Rattle.coefficients.proofs.write_checked.Statement.{statement}
 use Rattle.coefficients.proofs.write_checked.Tie as tie
 
@@ -52,12 +52,12 @@ module _ (c : tie.After-rest-zero) where
 
   -- check 6 is what `rest_zero` answered
   checked : {t : Bool} → c.rest-zero.result ≡ t
-      → writtenIf (passIf t Start) (line_of S w) ≡ writtenIf (checkVector 1 c.before.args.d w) (line_of S w)
-  checked e = rw unused-check (ap (λ (t : Bool). writtenIf (passIf t Start) (line_of S w)) (sym e ∙ c.rest-zero.ensures))
+      → written_if (pass_if t Start) (line_of S w) ≡ written_if (check_vector 1 c.before.args.d w) (line_of S w)
+  checked e = rw unused_check (ap (λ (t : Bool). written_if (pass_if t Start) (line_of S w)) (sym e ∙ c.rest-zero.ensures))
 
 -- a field, from the bits of the coordinate that were handed to `coefficient`
-field : (f : Float) (S : ℕ) (z : ℤ) → f ≡ coefficientOf S (to_z w16 (of_z w16 z)) → mag z < 32768 → f ≡ coefficientOf S z
-field f S z e h = e ∙ ap (coefficientOf S) (to_z-of_z w16 z (record { sfits = h }))
+field : (f : Float) (S : ℕ) (z : ℤ) → f ≡ coefficient_of S (to_z w16 (of_z w16 z)) → mag z < 32768 → f ≡ coefficient_of S z
+field f S z e h = e ∙ ap (coefficient_of S) (to_z-of_z w16 z (record { sfits = h }))
 
 returns : tie.Need-returns
 unfolding line_of
@@ -70,7 +70,7 @@ returns c =
     let e2 = field _ (S at) (get_or (w at) 1 (pos 0)) r2.coefficient2.ensures r2.before.coefficient-arg2.given in
     let e3 = field _ (S at) (get_or (w at) 2 (pos 0)) r3.coefficient3.ensures r3.before.coefficient-arg3.given in
     let e4 = field _ (S at) (get_or (w at) 3 (pos 0)) c.coefficient4.ensures c.before.coefficient-arg4.given in
-    ap (writtenIf Pass) (λ i. record { c1 = e1 i; c2 = e2 i; c3 = e3 i; c4 = e4 i }) ∙ checked at r1.before.before.if1.true
+    ap (written_if Pass) (λ i. record { c1 = e1 i; c2 = e2 i; c3 = e3 i; c4 = e4 i }) ∙ checked at r1.before.before.if1.true
 
 returns-2 : tie.Need-returns-2
 returns-2 c = c.not_written.ensures ∙ checked c.before.before c.before.if1.false

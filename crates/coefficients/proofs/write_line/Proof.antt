@@ -2,12 +2,12 @@
 use Rattle.std.proofs.Common.{◌≡◌, [], ◌∷◌, sym, ap, ◌∙◌, rules}
 use Rattle.codes.specs.declared.Check.{Check}
 use Rattle.codes.specs.declared.Check.TheVariants.{Pass}
-use Rattle.codes.specs.Codes.{inOrder}
-use Rattle.codes.proofs.Laws.{after-pass, after-refusal}
-use Rattle.scale.specs.Scale.{checkScale}
-use Rattle.boxes.specs.Shape.{checkVector}
-use Rattle.coefficients.specs.Lines.{checkUsed, writingChecks, line_of, writtenIf, written_of}
-use Rattle.coefficients.proofs.Checks.{scale-checked}
+use Rattle.codes.specs.Codes.{in_order}
+use Rattle.codes.proofs.Laws.{after_pass, after_refusal}
+use Rattle.scale.specs.Scale.{check_scale}
+use Rattle.boxes.specs.Shape.{check_vector}
+use Rattle.coefficients.specs.Lines.{check_used, writing_checks, line_of, written_if, written_of}
+use Rattle.coefficients.proofs.Checks.{scale_checked}
 use Rattle.coefficients.proofs.write_line.Statement.{statement}
 use Rattle.coefficients.proofs.write_line.Tie as tie
 
@@ -21,32 +21,32 @@ not-written-requires : tie.Need-not-written-requires
 not-written-requires c κs = search rules
 
 returns : tie.Need-returns
-unfolding written_of writingChecks
+unfolding written_of writing_checks
 returns c =
     let a = c.before.before.before.before.before.args in
     let r = c.before.before.r.given in
     let e = sym c.before.before.before.before.check-line.ensures ∙ r.1 in
     c.not_written.ensures
-    ∙ ap (λ (k : Check). writtenIf k (line_of a.s a.w))
-    (sym (after-refusal (checkUsed a.d ∷ checkScale a.s ∷ []) (checkVector 1 a.d a.w ∷ []) r.0.0 e))
+    ∙ ap (λ (k : Check). written_if k (line_of a.s a.w))
+    (sym (after_refusal (check_used a.d ∷ check_scale a.s ∷ []) (check_vector 1 a.d a.w ∷ []) r.0.0 e))
 
 enum_told : tie.Need-enum-told
 enum_told c = search rules
 
 passed : (c : tie.After-enum-told)
-    → inOrder (checkUsed c.before.before.before.args.d ∷ checkScale c.before.before.before.args.s ∷ []) ≡ Pass
+    → in_order (check_used c.before.before.before.args.d ∷ check_scale c.before.before.before.args.s ∷ []) ≡ Pass
 passed c = sym c.before.before.check-line.ensures ∙ c.enum_told.given.1
 
 write-checked-requires : tie.Need-write-checked-requires
-write-checked-requires c κs = let a = c.before.before.before.args in scale-checked (checkUsed a.d) a.s (passed c)
+write-checked-requires c κs = let a = c.before.before.before.args in scale_checked (check_used a.d) a.s (passed c)
 
 returns-2 : tie.Need-returns-2
-unfolding written_of writingChecks
+unfolding written_of writing_checks
 returns-2 c =
     let a = c.before.before.before.before.args in
     c.write_checked.ensures
-    ∙ ap (λ (k : Check). writtenIf k (line_of a.s a.w))
-    (sym (after-pass (checkUsed a.d ∷ checkScale a.s ∷ []) (checkVector 1 a.d a.w) (passed c.before)))
+    ∙ ap (λ (k : Check). written_if k (line_of a.s a.w))
+    (sym (after_pass (check_used a.d ∷ check_scale a.s ∷ []) (check_vector 1 a.d a.w) (passed c.before)))
 
 pub write-line-spec : {M : Type 1} → statement M
 write-line-spec =

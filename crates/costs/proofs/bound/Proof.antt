@@ -5,20 +5,20 @@ use lib.ListN.{length}
 use Rattle.codes.specs.declared.Check.TheVariants.{Pass, Refuse}
 use Rattle.codes.specs.declared.Outcome.TheVariants.{Value}
 use Rattle.residuals.specs.Inside.{Ready}
-use Rattle.model_checks.specs.Checks.{checkBound}
-use Rattle.costs.specs.Answers.{boundAnswer}
-use Rattle.model_checks.proofs.Passed.{ready, bound-model}
+use Rattle.model_checks.specs.Checks.{check_bound}
+use Rattle.costs.specs.Answers.{bound_answer}
+use Rattle.model_checks.proofs.Passed.{ready, bound_model}
 use Rattle.costs.proofs.bound.Statement.{statement}
 use Rattle.costs.proofs.bound.Tie as tie
 
 module _ (c : tie.After-enum-told) where
-  pass : checkBound c.before.before.before.before.args.store.now c.before.before.before.before.args.m
+  pass : check_bound c.before.before.before.before.args.store.now c.before.before.before.before.args.m
       c.before.before.before.before.args.b ≡ Pass
   pass = sym c.before.before.check-bound.ensures ∙ c.enum_told.given.1
 
   was-ready : Ready (length c.before.before.before.before.args.store.now) c.before.before.before.before.args.m
   was-ready =
-      ready c.before.before.before.before.args.store.now c.before.before.before.before.args.m (bound-model _ _ _ pass)
+      ready c.before.before.before.before.args.store.now c.before.before.before.before.args.m (bound_model _ _ _ pass)
 
 check-bound-requires : tie.Need-check-bound-requires
 check-bound-requires c κs = search rules
@@ -33,16 +33,16 @@ enum-known-r : tie.Need-enum-known-r
 enum-known-r c = search rules
 
 returns : tie.Need-returns
-unfolding boundAnswer
+unfolding bound_answer
 returns c =
     let e = c.before.before.before in
     rw (pass e) (ap Value c.whole.ensures)
 
 returns-2 : tie.Need-returns-2
-unfolding boundAnswer
+unfolding bound_answer
 returns-2 c =
     let e = c.before.before.before in
-    let refuse : checkBound e.before.before.args.store.now e.before.before.args.m e.before.before.args.b
+    let refuse : check_bound e.before.before.args.store.now e.before.before.args.m e.before.before.args.b
     ≡ Refuse c.before.r.given.0.0 = sym e.check-bound.ensures ∙ c.before.r.given.1 in
     rw refuse refl
 

@@ -5,20 +5,20 @@ use lib.ListN.{length}
 use Rattle.codes.specs.declared.Check.TheVariants.{Pass, Refuse}
 use Rattle.codes.specs.declared.Outcome.TheVariants.{Value}
 use Rattle.residuals.specs.Inside.{Ready}
-use Rattle.model_checks.specs.Checks.{checkCost}
-use Rattle.costs.specs.Answers.{costAnswer}
-use Rattle.model_checks.proofs.Passed.{ready, cost-model}
+use Rattle.model_checks.specs.Checks.{check_cost}
+use Rattle.costs.specs.Answers.{cost_answer}
+use Rattle.model_checks.proofs.Passed.{ready, cost_model}
 use Rattle.costs.proofs.cost.Statement.{statement}
 use Rattle.costs.proofs.cost.Tie as tie
 
 module _ (c : tie.After-enum-told) where
-  pass : checkCost c.before.before.before.before.args.store.now c.before.before.before.before.args.m
+  pass : check_cost c.before.before.before.before.args.store.now c.before.before.before.before.args.m
       c.before.before.before.before.args.v ≡ Pass
   pass = sym c.before.before.check-cost.ensures ∙ c.enum_told.given.1
 
   was-ready : Ready (length c.before.before.before.before.args.store.now) c.before.before.before.before.args.m
   was-ready =
-      ready c.before.before.before.before.args.store.now c.before.before.before.before.args.m (cost-model _ _ _ pass)
+      ready c.before.before.before.before.args.store.now c.before.before.before.before.args.m (cost_model _ _ _ pass)
 
 check-cost-requires : tie.Need-check-cost-requires
 check-cost-requires c κs = search rules
@@ -33,16 +33,16 @@ enum-known-r : tie.Need-enum-known-r
 enum-known-r c = search rules
 
 returns : tie.Need-returns
-unfolding costAnswer
+unfolding cost_answer
 returns c =
     let e = c.before in
     rw (pass e) (ap Value c.whole.ensures)
 
 returns-2 : tie.Need-returns-2
-unfolding costAnswer
+unfolding cost_answer
 returns-2 c =
     let e = c.before.before.before in
-    let refuse : checkCost e.before.before.args.store.now e.before.before.args.m e.before.before.args.v
+    let refuse : check_cost e.before.before.args.store.now e.before.before.args.m e.before.before.args.v
     ≡ Refuse c.before.r.given.0.0 = sym e.check-cost.ensures ∙ c.before.r.given.1 in
     rw refuse refl
 

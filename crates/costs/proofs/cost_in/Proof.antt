@@ -3,14 +3,14 @@ use borrow.Author.Rules.{rules}
 use native.Mathlib.Omega.{arith}
 use mathlib.Core.Path.{◌≡◌, refl, sym, ◌∙◌}
 use Rattle.codes.specs.declared.Check.TheVariants.{Pass, Refuse}
-use Rattle.model_checks.specs.Checks.{checkModel}
-use Rattle.costs.specs.Calls.{costUpTo, costIn}
+use Rattle.model_checks.specs.Checks.{check_model}
+use Rattle.costs.specs.Calls.{cost_up_to, cost_in}
 use Rattle.model_checks.proofs.Passed.{ready}
 use Rattle.costs.proofs.cost_in.Statement.{statement}
 use Rattle.costs.proofs.cost_in.Tie as tie
 
 pass : (c : tie.After-enum-told)
-    → checkModel c.before.before.before.before.args.store.now c.before.before.before.before.args.m ≡ Pass
+    → check_model c.before.before.before.before.args.store.now c.before.before.before.before.args.m ≡ Pass
 pass c = sym c.before.before.check-model.ensures ∙ c.enum_told.given.1
 
 check-model-requires : tie.Need-check-model-requires
@@ -26,16 +26,16 @@ enum-told-2 : tie.Need-enum-told-2
 enum-told-2 c = search rules
 
 returns : tie.Need-returns
-unfolding costIn costUpTo
+unfolding cost_in cost_up_to
 returns c =
     rw (pass c.before) (let e = c.up_to_lem.ensures in
-    (e.by-lanes, (e.by-points, λ decoded. omega (arith, e.by-points decoded, e.small decoded))))
+    (e.by_lanes, (e.by_points, λ decoded. omega (arith, e.by_points decoded, e.small decoded))))
 
 returns-2 : tie.Need-returns-2
-unfolding costIn costUpTo
+unfolding cost_in cost_up_to
 returns-2 c =
     let e = c.before.before in
-    let refuse : checkModel e.before.before.args.store.now e.before.before.args.m ≡ Refuse c.enum-told2.given.0.0 =
+    let refuse : check_model e.before.before.args.store.now e.before.before.args.m ≡ Refuse c.enum-told2.given.0.0 =
     sym e.check-model.ensures ∙ c.enum-told2.given.1 in
     rw refuse (refl, (λ decoded. refl, λ decoded. omega arith))
 

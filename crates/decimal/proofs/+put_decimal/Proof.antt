@@ -7,8 +7,8 @@ use borrow.Fn.Kinds.{In}
 use borrow.Fn.PlainCycle.{Measures, is, falls, and}
 use lib.ListN.{length, length-append}
 use Rattle.decimal.specs.Text.{byte, decimal}
-use Rattle.decimal.proofs.Decimal.{decimal-one, decimal-more}
-use Rattle.decimal.proofs.Putting.{put-more}
+use Rattle.decimal.proofs.Decimal.{decimal_one, decimal_more}
+use Rattle.decimal.proofs.Putting.{put_more}
 use Rattle.decimal.proofs.put_decimal.Reads as put-decimal
 use Rattle.decimal.proofs.put_decimal.Kinds as put-decimal-kinds
 use Rattle.decimal.proofs.+put_decimal.Lts-put_decimal as put-decimal-lts
@@ -28,7 +28,7 @@ put-decimal-below t = and 1 put-decimal-kinds.ps (falls 1 put-decimal-kinds.ps �
 
 -- one digit less in front
 front_length : (n : ℕ) → 10 ≤ n → length (decimal n) ≡ length (decimal (n / 10)) + 1
-front_length n wide = ap length (decimal-more n wide) ∙ length-append (decimal (n / 10)) (byte (48 + n % 10))
+front_length n wide = ap length (decimal_more n wide) ∙ length-append (decimal (n / 10)) (byte (48 + n % 10))
 
 put-decimal-cast-put-byte : (t : ℕ)
     → put-decimal-lts.Need-overflow-cast-put-byte (put-byte-reads.Asked, put-byte-reads.Learnt, put-decimal-below t, put-decimal.Post)
@@ -45,7 +45,7 @@ put-decimal-put-byte-requires : (t : ℕ)
     (put-decimal-at t) put-decimal.Post
 put-decimal-put-byte-requires t c κs =
     let s = c.before.before.before in
-    omega (arith, ap length (decimal-one s.args.n (omega arith)), s.requires.1)
+    omega (arith, ap length (decimal_one s.args.n (omega arith)), s.requires.1)
 
 put-decimal-same-length : (t : ℕ)
     → put-decimal-lts.Need-same-length (put-byte-reads.Asked, put-byte-reads.Learnt, put-decimal-below t, put-decimal.Post)
@@ -57,7 +57,7 @@ put-decimal-returns : (t : ℕ) → put-decimal-lts.Need-returns
 put-decimal-returns t c =
     let p = c.before.before in
     let s = p.before.before.before.before in
-    rw (decimal-one s.args.n (omega arith)) p.put_byte.ensures
+    rw (decimal_one s.args.n (omega arith)) p.put_byte.ensures
 
 put-decimal-put-decimal-requires : (t : ℕ)
     → put-decimal-lts.Need-put-decimal-requires (put-byte-reads.Asked, put-byte-reads.Learnt, put-decimal-below t, put-decimal.Post)
@@ -99,7 +99,7 @@ put-decimal-returns-2 t c =
     let q = c.before.before in
     let p = q.before.before.before.before in
     let s = p.before.before.before.before in
-    rw (decimal-more s.args.n (omega arith)) (put-more p.put-decimal.ensures q.put-byte2.ensures)
+    rw (decimal_more s.args.n (omega arith)) (put_more p.put-decimal.ensures q.put-byte2.ensures)
 
 pub +put-decimal-spec : {M : Type 1} → statement M
 +put-decimal-spec =

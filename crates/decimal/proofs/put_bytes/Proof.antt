@@ -9,7 +9,7 @@ use borrow.Author.Rules.{rules}
 use lib.ListN.{length, take, get_or}
 use lib.Seq.{take-suc, take-length}
 use Rattle.decimal.specs.Put.{Put}
-use Rattle.decimal.proofs.Putting.{put-nothing, put_one, put-more, not-put, is-put}
+use Rattle.decimal.proofs.Putting.{put_nothing, put_one, put_more, not_put, is_put}
 use Rattle.decimal.proofs.put_bytes.Statement.{statement}
 use Rattle.decimal.proofs.put_bytes.Tie as tie
 
@@ -25,7 +25,7 @@ room-requires c κs = search rules
 returns : tie.Need-returns invariant-loop decreases-loop
 returns c =
     let a = c.before.before.before.before.args in
-    not-put (length a.word.now) a.out.now a.at a.word.now (omega (arith, c.before.room.ensures))
+    not_put (length a.word.now) a.out.now a.at a.word.now (omega (arith, c.before.room.ensures))
 
 -- past the test: what is lent, and that it has room for the word
 module _ (c : tie.Else1 invariant-loop decreases-loop) where
@@ -42,7 +42,7 @@ module _ (c : tie.Else1 invariant-loop decreases-loop) where
   roomy = omega (arith, c.before.room.ensures)
 
 loop-holds : tie.Need-loop-init invariant-loop decreases-loop
-loop-holds c = (omega arith, rw add-zero (put-nothing (buffer c) (start c).args.at), refl)
+loop-holds c = (omega arith, rw add-zero (put_nothing (buffer c) (start c).args.at), refl)
 
 shared-slice-read-out : tie.Need-shared-slice-read-out invariant-loop decreases-loop
 shared-slice-read-out c = search rules
@@ -68,7 +68,7 @@ loop-again c =
     let more : k < length (word e) = omega arith in
     let one = put_one l.loop.out (at + k) (get_or (word e) k 0) (omega (arith, roomy e)) in
     let next : at + (k + 1) ≡ at + k + 1 = omega arith in
-    (omega arith, rw (next, add-one, take-suc (word e) k 0 more) (put-more l.loop.invariant.1 one), omega (arith, one.long))
+    (omega arith, rw (next, add-one, take-suc (word e) k 0 more) (put_more l.loop.invariant.1 one), omega (arith, one.long))
 
 add-result : tie.Need-overflow-add-result invariant-loop decreases-loop
 add-result c = omega (arith, roomy c.before.before)
@@ -80,7 +80,7 @@ returns-2 : tie.Need-returns-2 invariant-loop decreases-loop
 returns-2 c =
     let e = c.before.before in
     let all : c.before.loop.k ≡ length (word e) = omega arith in
-    is-put (roomy e) (rw (all, take-length) at c.before.loop.invariant.1)
+    is_put (roomy e) (rw (all, take-length) at c.before.loop.invariant.1)
 
 pub put-bytes-spec : {M : Type 1} → statement M
 put-bytes-spec =

@@ -4,8 +4,8 @@ use native.Mathlib.Omega.{arith}
 use borrow.Author.Rules.{rules}
 use lib.ListN.{length}
 use Rattle.decimal.specs.Put.{Put}
-use Rattle.decimal.proofs.Decimal.{decimal-short}
-use Rattle.decimal.proofs.Putting.{put-more, not-put, is-put, put_in}
+use Rattle.decimal.proofs.Decimal.{decimal_short}
+use Rattle.decimal.proofs.Putting.{put_more, not_put, is_put, put_in}
 use Rattle.decimal.proofs.put_field.Statement.{statement}
 use Rattle.decimal.proofs.put_field.Tie as tie
 
@@ -16,13 +16,13 @@ returns : tie.Need-returns
 returns c =
     let r = c.before in
     let a = r.before.before.before.args in
-    (not-put (length a.name.now + 20) a.out.now a.at _ (omega (arith, r.room.ensures)), omega arith)
+    (not_put (length a.name.now + 20) a.out.now a.at _ (omega (arith, r.room.ensures)), omega arith)
 
 returns-2 : tie.Need-returns-2
 returns-2 c =
     let r = c.before.before in
     let a = r.before.before.before.args in
-    (not-put (length a.name.now + 20) a.out.now a.at _ (omega (arith, r.room.ensures)), omega arith)
+    (not_put (length a.name.now + 20) a.out.now a.at _ (omega (arith, r.room.ensures)), omega arith)
 
 put-bytes-requires : tie.Need-put-bytes-requires
 put-bytes-requires c κs = search rules
@@ -41,7 +41,7 @@ module _ (c : tie.After-put-bytes) where
 put-decimal-requires : tie.Need-put-decimal-requires
 put-decimal-requires c κs =
     let p = c.before.before.before in
-    omega (arith, decimal-short (start p).ranges.n, roomy p, (name-put p).place, (name-put p).long)
+    omega (arith, decimal_short (start p).ranges.n, roomy p, (name-put p).place, (name-put p).long)
 
 same_length : tie.Need-same-length
 same_length c = search rules
@@ -51,8 +51,8 @@ returns-3 c =
     let q = c.before.before in
     let p = q.before.before.before.before in
     let s = start p in (
-      is-put (roomy p) (put-more (name-put p) q.put-decimal.ensures),
-      omega (arith, decimal-short s.fits.n, (name-put p).place, q.put-decimal.ensures.place),
+      is_put (roomy p) (put_more (name-put p) q.put-decimal.ensures),
+      omega (arith, decimal_short s.fits.n, (name-put p).place, q.put-decimal.ensures.place),
     )
 
 pub put-field-spec : {M : Type 1} → statement M

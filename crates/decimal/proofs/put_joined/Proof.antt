@@ -11,8 +11,8 @@ use mir.Facts.{to_z-of_z}
 use mir.Syntax.{w16}
 use Rattle.decimal.specs.Put.{Put}
 use Rattle.decimal.specs.Text.{joined}
-use Rattle.decimal.proofs.Joining.{others, others-none, others-more, joined-none, joined-others}
-use Rattle.decimal.proofs.Putting.{put-nothing, put-more, not-put, is-put}
+use Rattle.decimal.proofs.Joining.{others, others_none, others_more, joined_none, joined_others}
+use Rattle.decimal.proofs.Putting.{put_nothing, put_more, not_put, is_put}
 use Rattle.decimal.proofs.put_joined.Statement.{statement}
 use Rattle.decimal.proofs.put_joined.Tie as tie
 
@@ -30,14 +30,14 @@ returns : tie.Need-returns invariant-loop decreases-loop
 returns c =
     let r = c.before in
     let a = r.before.before.args in
-    (not-put 56 a.out.now a.at (joined (take a.used a.t3)) (omega (arith, r.room.ensures)), omega arith)
+    (not_put 56 a.out.now a.at (joined (take a.used a.t3)) (omega (arith, r.room.ensures)), omega arith)
 
 returns-2 : tie.Need-returns-2 invariant-loop decreases-loop
 returns-2 c =
     let r = c.before.before in
     let a = r.before.before.args in
     let roomy : 56 ≤ length a.out.now - a.at = omega (arith, r.room.ensures) in
-    (is-put roomy (rw (c.if2.true, joined-none a.t3) (put-nothing a.out.now a.at)), omega arith)
+    (is_put roomy (rw (c.if2.true, joined_none a.t3) (put_nothing a.out.now a.at)), omega arith)
 
 array-copy-out-put-signed : tie.Need-array-copy-out-put-signed invariant-loop decreases-loop
 array-copy-out-put-signed c = search rules
@@ -68,8 +68,8 @@ loop-holds c =
       omega arith,
       omega arith,
       refl,
-      rw (others-none (v e))
-          (put-nothing p.put-signed.new.0 p.put-signed.result),
+      rw (others_none (v e))
+          (put_nothing p.put-signed.new.0 p.put-signed.result),
     )
 
 -- the first coordinate and those that the loop has put behind it
@@ -87,7 +87,7 @@ module _ (c : tie.At-loop invariant-loop decreases-loop) where
   all-put n all =
       let read = to_z-of_z {w = w16} {z = get_or (v tests) 0 (pos 0)} (record { sfits = first.before.put-signed-arg2.given }) in
       let one = rw read at first.put-signed.ensures.0 in
-      rw (sym all, joined-others (v tests) c.loop.k c.loop.invariant.0 (omega (arith, eight tests))) (put-more one c.loop.invariant.5)
+      rw (sym all, joined_others (v tests) c.loop.k c.loop.invariant.0 (omega (arith, eight tests))) (put_more one c.loop.invariant.5)
 
 same_length : tie.Need-same-length invariant-loop decreases-loop
 same_length c = omega arith
@@ -97,7 +97,7 @@ returns-3 c =
     let l = c.before.before in
     let used = (start (tests l)).args.used in
     let all : l.loop.k ≡ used = omega arith in
-    (is-put (roomy (tests l)) (all-put l used (ap (λ (n : ℕ). take n (v (tests l))) all)), omega arith)
+    (is_put (roomy (tests l)) (all-put l used (ap (λ (n : ℕ). take n (v (tests l))) all)), omega arith)
 
 put-byte-requires : tie.Need-put-byte-requires invariant-loop decreases-loop
 put-byte-requires c κs = omega (arith, roomy (tests c.before.before.before))
@@ -126,13 +126,13 @@ loop-again c =
     let k = l.loop.k in
     let read = to_z-of_z {w = w16} {z = get_or (v e) k (pos 0)} (record { sfits = q.before.put-signed-arg4.given }) in
     let coordinate = rw read at q.put-signed2.ensures.0 in
-    let text = put-more l.loop.invariant.5 (put-more p.put_byte.ensures coordinate) in (
+    let text = put_more l.loop.invariant.5 (put_more p.put_byte.ensures coordinate) in (
       omega arith,
       omega arith,
       omega arith,
       omega arith,
       omega arith,
-      rw (others-more (v e) k l.loop.invariant.0 (omega (arith, eight e)))
+      rw (others_more (v e) k l.loop.invariant.0 (omega (arith, eight e)))
           text,
     )
 
@@ -145,7 +145,7 @@ returns-4 c =
     let e = tests l in
     let used = (start e).args.used in
     let all = take_all l.loop.k (v e) (omega (arith, eight e)) ∙ sym (take_all used (v e) (omega (arith, eight e))) in
-    (is-put (roomy e) (all-put l used all), omega arith)
+    (is_put (roomy e) (all-put l used all), omega arith)
 
 pub put-joined-spec : {M : Type 1} → statement M
 put-joined-spec =

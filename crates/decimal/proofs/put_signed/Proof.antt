@@ -7,8 +7,8 @@ use mir.Facts.{to_z-of_z, sfits_widen}
 use mir.Syntax.{w64}
 use mir.Val.{to_z, of_z}
 use Rattle.integers.proofs.Parts.{not_negative}
-use Rattle.decimal.proofs.Decimal.{size-short, signed-negative, signed-other}
-use Rattle.decimal.proofs.Putting.{put-more}
+use Rattle.decimal.proofs.Decimal.{size_short, signed_negative, signed_other}
+use Rattle.decimal.proofs.Putting.{put_more}
 use Rattle.decimal.proofs.put_signed.Statement.{statement}
 use Rattle.decimal.proofs.put_signed.Tie as tie
 
@@ -37,13 +37,13 @@ put-decimal-requires c κs =
     let p = c.before.before.before in
     let z = p.before.before.before in
     let s = begun z in
-    rw (is-size z) (omega (arith, size-short s.args.w s.fits.w, p.put_byte.ensures.place, p.put_byte.ensures.long, s.pre))
+    rw (is-size z) (omega (arith, size_short s.args.w s.fits.w, p.put_byte.ensures.place, p.put_byte.ensures.long, s.pre))
 
 put-decimal-requires-2 : tie.Need-put-decimal-requires-2
 put-decimal-requires-2 c κs =
     let z = c.before.before in
     let s = begun z in
-    rw (is-size z) (omega (arith, size-short s.args.w s.fits.w, s.pre))
+    rw (is-size z) (omega (arith, size_short s.args.w s.fits.w, s.pre))
 
 same_length : tie.Need-same-length
 same_length c = search rules
@@ -56,8 +56,8 @@ returns c =
     let s = begun z in
     let size = rw (is-size z) at q.put-decimal.ensures in
     let negative = rw (to_z-of_z s.fits.w) at p.before.before.if1.true in (
-      rw (signed-negative s.args.w negative) (put-more p.put_byte.ensures size),
-      omega (arith, size-short s.args.w s.fits.w, p.put_byte.ensures.place, size.place),
+      rw (signed_negative s.args.w negative) (put_more p.put_byte.ensures size),
+      omega (arith, size_short s.args.w s.fits.w, p.put_byte.ensures.place, size.place),
     )
 
 same-length-2 : tie.Need-same-length-2
@@ -70,7 +70,7 @@ returns-2 c =
     let s = begun z in
     let size = rw (is-size z) at q.put-decimal2.ensures in
     let other = not_negative s.args.w (rw (to_z-of_z s.fits.w) at q.before.before.if1.false) in
-    (rw (signed-other s.args.w other) size, omega (arith, size-short s.args.w s.fits.w, size.place))
+    (rw (signed_other s.args.w other) size, omega (arith, size_short s.args.w s.fits.w, size.place))
 
 pub put-signed-spec : {M : Type 1} → statement M
 put-signed-spec =

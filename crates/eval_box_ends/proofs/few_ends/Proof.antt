@@ -4,7 +4,7 @@ use Prim.Native.Nat.{min}
 use native.Mathlib.Omega.{arith}
 use borrow.Author.Rules.{rules}
 use Rattle.eval_lanes.specs.Lanes.{taken, lessened}
-use Rattle.eval_box_ends.specs.Ends.{oppositeEnd}
+use Rattle.eval_box_ends.specs.Ends.{opposite_end}
 use Rattle.eval_box_ends.proofs.few_ends.Statement.{statement}
 use Rattle.eval_box_ends.proofs.few_ends.Tie as tie
 
@@ -12,14 +12,14 @@ narrowed-requires : tie.Need-narrowed-requires
 narrowed-requires c κs = search rules
 
 returns : tie.Need-returns
-unfolding lessened oppositeEnd
+unfolding lessened opposite_end
 returns c = let n : min (taken c.before.before.args.d) 2 ≡ 1 = omega arith in rw n c.before.narrowed.ensures
 
 narrowed-requires-2 : tie.Need-narrowed-requires-2
 narrowed-requires-2 c κs = search rules
 
 returns-2 : tie.Need-returns-2
-unfolding lessened oppositeEnd
+unfolding lessened opposite_end
 returns-2 c =
     let n : min (taken c.before.before.before.args.d) 2 ≡ 2 = omega arith in
     let e = c.before.before.narrowed.ensures in

@@ -1,7 +1,7 @@
 -- The choices one after the other.
 use mathlib.Core.Path.{ap, ◌∙◌}
 use borrow.Author.Rules.{rules}
-use Rattle.eval_whole.specs.Whole.{largerOf, smallerOf, zeroth}
+use Rattle.eval_whole.specs.Whole.{larger_of, smaller_of, zeroth}
 use Rattle.eval_box_ends.proofs.least_of.Statement.{statement}
 use Rattle.eval_box_ends.proofs.least_of.Tie as tie
 
@@ -17,8 +17,8 @@ smaller-requires c κs = search rules
 returns : tie.Need-returns
 returns c =
     c.smaller.ensures
-    ∙ ap (smallerOf c.before.before.before.args.m)
-    (c.before.larger2.ensures ∙ ap (largerOf zeroth) c.before.before.larger.ensures)
+    ∙ ap (smaller_of c.before.before.before.args.m)
+    (c.before.larger2.ensures ∙ ap (larger_of zeroth) c.before.before.larger.ensures)
 
 pub least-of-spec : {M : Type 1} → statement M
 least-of-spec = tie.close (tie.spec larger-requires larger-requires-2 smaller-requires returns)

@@ -1,7 +1,7 @@
 -- One pair of products more.
 use borrow.Author.Rules.{rules}
 use Rattle.eval_lanes.specs.Lanes.{lessened}
-use Rattle.eval_box_ends.specs.Ends.{oppositeEnd}
+use Rattle.eval_box_ends.specs.Ends.{opposite_end}
 use Rattle.eval_box_ends.proofs.three_ends.Statement.{statement}
 use Rattle.eval_box_ends.proofs.three_ends.Tie as tie
 
@@ -12,7 +12,7 @@ narrowed-requires : tie.Need-narrowed-requires
 narrowed-requires c κs = search rules
 
 returns : tie.Need-returns
-unfolding lessened oppositeEnd
+unfolding lessened opposite_end
 returns c = let e = c.before.few-ends.ensures in (rw (← e.0) c.narrowed.ensures.0, rw (← e.1) c.narrowed.ensures.1)
 
 pub three-ends-spec : {M : Type 1} → statement M

@@ -21,7 +21,7 @@ returns c =
 returns-2 : tie.Need-returns-2
 returns-2 c =
     let n : max (taken c.before.before.before.args.d) 3 ≡ taken c.before.before.before.args.d = omega arith in
-    λ k h. rw n at (c.over-long.ensures k h)
+    λ k h. rw n at (c.over_long.ensures k h)
 
 pub over-line-spec : {M : Type 1} → statement M
 over-line-spec = tie.close (tie.spec over-few-requires over-long-requires returns returns-2)

@@ -5,7 +5,7 @@ use native.Mathlib.Omega.{arith}
 use lib.ListN.{length}
 use Rattle.eval_whole.specs.Whole.{zeroth}
 use Rattle.eval_lanes.specs.Inside.{Filled}
-use Rattle.eval_lanes.proofs.Filling.{none_filled, one-filled, until-filled}
+use Rattle.eval_lanes.proofs.Filling.{none_filled, one_filled, until_filled}
 use borrow.Author.Rules.{rules}
 use Rattle.eval_columns.proofs.clear.Statement.{statement}
 use Rattle.eval_columns.proofs.clear.Tie as tie
@@ -35,7 +35,7 @@ returns : tie.Need-returns invariant-loop decreases-loop
 returns c =
     let s = c.before.before.before in
     let n : length s.args.out.now ≡ 80 = c.before.known.ensures in
-    until-filled c.if1.true (one-filled _ (none_filled _ _ _) (omega (arith, s.requires.1)) refl)
+    until_filled c.if1.true (one_filled _ (none_filled _ _ _) (omega (arith, s.requires.1)) refl)
 
 loop-holds : tie.Need-loop-init invariant-loop decreases-loop
 loop-holds c = (none_filled _ _ _, c.before.before.before.requires.0)
@@ -58,13 +58,13 @@ loop-again c =
     let k = p.before.before in
     let s = k.before.before in
     let n : length s.args.out.now ≡ 80 = k.known.ensures in
-    (one-filled _ p.loop.invariant.0 (omega (arith, c.loop-test.true, s.requires.1)) refl, omega (arith, c.loop-test.true))
+    (one_filled _ p.loop.invariant.0 (omega (arith, c.loop-test.true, s.requires.1)) refl, omega (arith, c.loop-test.true))
 
 returns-2 : tie.Need-returns-2 invariant-loop decreases-loop
 returns-2 c =
     let p = c.before in
     let e : p.loop.k ≡ p.before.before.before.before.args.end = omega (arith, c.loop-test.false, p.loop.invariant.1) in
-    until-filled e p.loop.invariant.0
+    until_filled e p.loop.invariant.0
 
 pub clear_spec : {M : Type 1} → statement M
 clear_spec =

@@ -4,9 +4,9 @@ use mathlib.Core.List.{[]}
 use Prim.Native.Nat.{◌<◌}
 use native.Mathlib.Omega.{arith}
 use lib.Seq.{get_or-set_other}
-use Rattle.eval_whole.proofs.Laws.{cast-whole}
-use Rattle.eval_gaps.proofs.Above.{each-above}
-use Rattle.eval_columns.proofs.Marks.{mark, scaled, all-samples}
+use Rattle.eval_whole.proofs.Laws.{cast_whole}
+use Rattle.eval_gaps.proofs.Above.{each_above}
+use Rattle.eval_columns.proofs.Marks.{mark, scaled, all_samples}
 use borrow.Author.Rules.{rules}
 use Rattle.eval_columns.proofs.decode_chunk.Statement.{statement}
 use Rattle.eval_columns.proofs.decode_chunk.Tie as tie
@@ -39,8 +39,8 @@ returns c =
     let e = b.scale-above.ensures in
     let ys = b.scale-above.new.0 in
     let all =
-    all-samples d.0 s.args.power s.ranges.power.fits ys k.known-columns.ensures e.1 (cast-whole mark (omega arith))
-    (each-above _ _ 80 (sym e.0 ∙ c.if1.true)) in
+    all_samples d.0 s.args.power s.ranges.power.fits ys k.known-columns.ensures e.1 (cast_whole mark (omega arith))
+    (each_above _ _ 80 (sym e.0 ∙ c.if1.true)) in
     (all, λ n l h. get_or-set_other r.new.0 4 n ys [] (λ q. omega arith) ∙ d.1 n l h)
 
 empty-gaps-requires : tie.Need-empty-gaps-requires

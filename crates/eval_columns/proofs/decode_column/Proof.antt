@@ -3,7 +3,7 @@ use mathlib.Core.Path.{◌≡◌}
 use Prim.Native.Nat.{◌+◌, ◌*◌, ◌-◌, ◌≤◌}
 use native.Mathlib.Omega.{arith}
 use Rattle.eval_lanes.specs.Inside.{Filled}
-use Rattle.eval_lanes.proofs.Filling.{none_filled, also-filled, until-filled, all-filled}
+use Rattle.eval_lanes.proofs.Filling.{none_filled, also_filled, until_filled, all_filled}
 use Rattle.eval_columns.specs.Inside.{FieldOfSlots}
 use borrow.Author.Rules.{rules}
 use Rattle.eval_columns.proofs.decode_column.Statement.{statement}
@@ -34,10 +34,10 @@ loop-again : tie.Need-loop-preserved invariant-loop decreases-loop
 loop-again c =
     let p = c.before.before.before in
     let next : p.loop.g * 20 + 20 ≡ (p.loop.g + 1) * 20 = omega arith in
-    (until-filled next (also-filled p.loop.invariant.0 c.decode-group.ensures), omega (arith, c.before.before.loop-test.true))
+    (until_filled next (also_filled p.loop.invariant.0 c.decode-group.ensures), omega (arith, c.before.before.loop-test.true))
 
 returns : tie.Need-returns invariant-loop decreases-loop
-returns c = all-filled c.before.loop.invariant.0 (omega (arith, c.loop-test.false))
+returns c = all_filled c.before.loop.invariant.0 (omega (arith, c.loop-test.false))
 
 pub decode-column-spec : {M : Type 1} → statement M
 decode-column-spec =

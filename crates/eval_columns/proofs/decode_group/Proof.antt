@@ -1,5 +1,5 @@
 -- Records and zeros behind them.
-use Rattle.eval_columns.proofs.Decoding.{group-filled}
+use Rattle.eval_columns.proofs.Decoding.{group_filled}
 use borrow.Author.Rules.{rules}
 use Rattle.eval_columns.proofs.decode_group.Statement.{statement}
 use Rattle.eval_columns.proofs.decode_group.Tie as tie
@@ -49,7 +49,7 @@ returns : tie.Need-returns
 returns c =
     let s = c.before.before.before.before.before.before in
     let a = s.args in
-    group-filled a.store.now a.t a.g a.c _ s.requires.0 s.requires.2 c.before.before.before.before.Group-of.ensures
+    group_filled a.store.now a.t a.g a.c _ s.requires.0 s.requires.2 c.before.before.before.before.Group-of.ensures
     c.before.before.read-fields.ensures c.clear.ensures
 
 pub decode-group-spec : {M : Type 1} → statement M

@@ -2,9 +2,9 @@
 use mathlib.Core.Path.{◌≡◌}
 use Prim.Native.Nat.{ℕ, ◌-◌, ◌≤◌, min}
 use native.Mathlib.Omega.{arith}
-use Rattle.eval_columns.proofs.Laying.{Laid, none-laid, one-laid, all_laid, others-laid}
+use Rattle.eval_columns.proofs.Laying.{Laid, none_laid, one_laid, all_laid, others_laid}
 use lib.Ieee.{Float}
-use Rattle.eval_columns.specs.Columns.{recordIn, field, Cast}
+use Rattle.eval_columns.specs.Columns.{record_in, field, Cast}
 use borrow.Author.Rules.{rules}
 use Rattle.eval_columns.proofs.decode_records.Statement.{statement}
 use Rattle.eval_columns.proofs.decode_records.Tie as tie
@@ -16,7 +16,7 @@ use Rattle.eval_lanes.proofs.known_columns.Reads as known-columns-reads
 
 abbrev invariant-loop : tie.invariant-loop
 invariant-loop chunk₀ store t d c₀ c-end chunk c =
-    Laid (λ c k x. Cast x (field c (recordIn store t k))) chunk₀ c chunk × (c ≤ c-end) × (c-end ≡ min d 4)
+    Laid (λ c k x. Cast x (field c (record_in store t k))) chunk₀ c chunk × (c ≤ c-end) × (c-end ≡ min d 4)
 
 abbrev decreases-loop : tie.decreases-loop
 decreases-loop chunk₀ store t d c₀ c-end chunk c = c-end - c
@@ -28,7 +28,7 @@ used-requires : tie.Need-used-requires invariant-loop decreases-loop
 used-requires c κs = search rules
 
 loop-holds : tie.Need-loop-init invariant-loop decreases-loop
-loop-holds c = (none-laid _ _ c.before.known-columns.ensures, omega arith, c.used.ensures)
+loop-holds c = (none_laid _ _ c.before.known-columns.ensures, omega arith, c.used.ensures)
 
 mul-decode-column : tie.Need-overflow-mul-decode-column invariant-loop decreases-loop
 mul-decode-column c = search rules
@@ -50,7 +50,7 @@ loop-again c =
     let p = c.before.before.before in
     let v = p.loop.invariant in
     let i = c.before.before.loop-test.true in
-    (one-laid _ _ c.decode-column.new.0 (omega (arith, v.2)) c.decode-column.ensures v.0, omega arith, v.2)
+    (one_laid _ _ c.decode-column.new.0 (omega (arith, v.2)) c.decode-column.ensures v.0, omega arith, v.2)
 
 index-1-decode-column-2 : tie.Need-bounds-1-decode-column-2 invariant-loop decreases-loop
 index-1-decode-column-2 c = search rules
@@ -67,9 +67,9 @@ returns c =
     let ys = c.decode-column2.new.0 in
     let store = s.args.store.now in
     let t = s.args.t in
-    let Target : ℕ → Float → Type 0 = λ k x. Cast x (recordIn store t k).y in
-    let r = all_laid _ _ ys few v.0 (recordIn store t) Target (λ c k x l i w. w) c.decode-column2.ensures in
-    (record { column = r.column; target = r.target }, others-laid _ _ ys few v.0)
+    let Target : ℕ → Float → Type 0 = λ k x. Cast x (record_in store t k).y in
+    let r = all_laid _ _ ys few v.0 (record_in store t) Target (λ c k x l i w. w) c.decode-column2.ensures in
+    (record { column = r.column; target = r.target }, others_laid _ _ ys few v.0)
 
 pub decode-records-spec : {M : Type 1} → statement M
 decode-records-spec =

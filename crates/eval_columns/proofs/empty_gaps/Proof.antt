@@ -7,13 +7,13 @@ use native.Mathlib.Omega.{arith}
 use lib.ListN.{get_or}
 use lib.Ieee.{Float, nan}
 use Rattle.points.specs.declared.Point.{Point}
-use Rattle.eval_whole.proofs.Laws.{cast-whole}
+use Rattle.eval_whole.proofs.Laws.{cast_whole}
 use Rattle.eval_lanes.specs.Lanes.{lane}
-use Rattle.eval_columns.specs.Columns.{recordIn, slot, field, Cast, Scaled}
+use Rattle.eval_columns.specs.Columns.{record_in, slot, field, Cast, Scaled}
 use Rattle.eval_columns.specs.Inside.{FieldOfSlots}
-use Rattle.eval_columns.proofs.Casts.{cast-zero, scaled-zero}
+use Rattle.eval_columns.proofs.Casts.{cast_zero, scaled_zero}
 use Rattle.eval_columns.proofs.Decoding.{no_field}
-use Rattle.eval_columns.proofs.Laying.{Laid, none-laid, one-laid, all_laid, others-laid}
+use Rattle.eval_columns.proofs.Laying.{Laid, none_laid, one_laid, all_laid, others_laid}
 use Rattle.eval_columns.proofs.Marks.{mark, Emptied, kept_in}
 use borrow.Author.Rules.{rules}
 use Rattle.eval_columns.proofs.empty_gaps.Statement.{statement}
@@ -44,7 +44,7 @@ used-requires c κs = search rules
 
 loop-holds : tie.Need-loop-init invariant-loop decreases-loop
 loop-holds c =
-    (none-laid _ _ c.before.known-columns.ensures, omega arith, c.used.ensures, c.before.before.before.decode-column.ensures)
+    (none_laid _ _ c.before.known-columns.ensures, omega arith, c.used.ensures, c.before.before.before.decode-column.ensures)
 
 mul-keep-above : tie.Need-overflow-mul-keep-above invariant-loop decreases-loop
 mul-keep-above c = search rules
@@ -75,12 +75,12 @@ loop-again c =
     let same : get_or p.loop.chunk n [] ≡ get_or a.chunk.now n [] = v.0.rest n (omega arith) in
     let new : (k : ℕ) → k < 80 → Emptied a.store.now a.t a.d n k (lane c.keep-above.new.0 k) =
     λ k h u.
-    kept_in a.store.now a.t k (cast-whole mark (omega arith)) (v.3 k h) (λ (x : Float) (q : Point). Cast x (field n q))
-    (rw (no_field n (omega (arith, v.2))) cast-zero)
+    kept_in a.store.now a.t k (cast_whole mark (omega arith)) (v.3 k h) (λ (x : Float) (q : Point). Cast x (field n q))
+    (rw (no_field n (omega (arith, v.2))) cast_zero)
     (c.keep-above.ensures k h)
-    (subst (λ (xs : List Float). Cast (lane xs k) (field n (recordIn a.store.now a.t k))) (sym same)
+    (subst (λ (xs : List Float). Cast (lane xs k) (field n (record_in a.store.now a.t k))) (sym same)
     (s.requires.1.column n k u (omega (arith, v.2)) h)) in
-    (one-laid _ _ c.keep-above.new.0 (omega (arith, v.2)) new v.0, omega arith, v.2, v.3)
+    (one_laid _ _ c.keep-above.new.0 (omega (arith, v.2)) new v.0, omega arith, v.2, v.3)
 
 index-1-keep-above-2 : tie.Need-bounds-1-keep-above-2 invariant-loop decreases-loop
 index-1-keep-above-2 c = search rules
@@ -102,14 +102,14 @@ returns c =
     let ys = c.keep-above2.new.0 in
     let new : (k : ℕ) → k < 80 → Scaled (lane ys k) (slot a.store.now a.t k).y a.power =
     λ k h.
-    kept_in a.store.now a.t k (cast-whole mark (omega arith)) (v.3 k h) (λ (x : Float) (q : Point). Scaled x q.y a.power)
-    (scaled-zero a.power s.ranges.power.fits)
+    kept_in a.store.now a.t k (cast_whole mark (omega arith)) (v.3 k h) (λ (x : Float) (q : Point). Scaled x q.y a.power)
+    (scaled_zero a.power s.ranges.power.fits)
     (c.keep-above2.ensures k h)
-    (subst (λ (xs : List Float). Scaled (lane xs k) (recordIn a.store.now a.t k).y a.power) (sym same)
+    (subst (λ (xs : List Float). Scaled (lane xs k) (record_in a.store.now a.t k).y a.power) (sym same)
     (s.requires.1.target k h)) in
     let Target : ℕ → Float → Type 0 = λ k x. Scaled x (slot a.store.now a.t k).y a.power in
     let r = all_laid _ _ ys few v.0 (slot a.store.now a.t) Target (λ c k x l h w. w (omega arith)) new in
-    (record { column = r.column; target = r.target }, others-laid _ _ ys few v.0)
+    (record { column = r.column; target = r.target }, others_laid _ _ ys few v.0)
 
 pub empty-gaps-spec : {M : Type 1} → statement M
 empty-gaps-spec =

@@ -4,10 +4,10 @@ use Prim.Native.Nat.{◌+◌, ◌*◌, ◌-◌, ◌≤◌, ◌<◌}
 use native.Mathlib.Omega.{arith}
 use lib.ListN.{length}
 use Rattle.eval_lanes.specs.Inside.{Filled}
-use Rattle.eval_lanes.proofs.Filling.{none_filled, one-filled, until-filled}
-use Rattle.points.specs.Points.{signedAt}
+use Rattle.eval_lanes.proofs.Filling.{none_filled, one_filled, until_filled}
+use Rattle.points.specs.Points.{signed_at}
 use Rattle.eval_columns.specs.Inside.{FieldOfRecords}
-use Rattle.eval_columns.proofs.Decoding.{field-cast}
+use Rattle.eval_columns.proofs.Decoding.{field_cast}
 use borrow.Author.Rules.{rules}
 use Rattle.eval_columns.proofs.read_fields.Statement.{statement}
 use Rattle.eval_columns.proofs.read_fields.Tie as tie
@@ -68,8 +68,8 @@ loop-again c =
     let v = p.loop.invariant in
     let i : p.loop.k < a.o + a.n = c.before.before.loop-test.true in
     let b = v.0.begun in (
-      one-filled _ v.0 (omega (arith, s.requires.0))
-          (field-cast (record { sfits = c.before.field.type-inv }) (c.before.field.ensures ∙ ap (signedAt a.store.now) v.1)),
+      one_filled _ v.0 (omega (arith, s.requires.0))
+          (field_cast (record { sfits = c.before.field.type-inv }) (c.before.field.ensures ∙ ap (signed_at a.store.now) v.1)),
       omega (arith, v.1),
       omega arith,
     )
@@ -79,7 +79,7 @@ returns c =
     let p = c.before in
     let a = p.before.before.before.before.args in
     let e : p.loop.k ≡ a.o + a.n = omega (arith, c.loop-test.false, p.loop.invariant.2) in
-    until-filled e p.loop.invariant.0
+    until_filled e p.loop.invariant.0
 
 pub read-fields-spec : {M : Type 1} → statement M
 read-fields-spec =

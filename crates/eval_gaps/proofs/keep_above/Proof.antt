@@ -8,7 +8,7 @@ use lib.Ieee.{lt}
 use Rattle.eval_whole.specs.Whole.{zeroth}
 use Rattle.eval_lanes.specs.Lanes.{lane}
 use Rattle.eval_lanes.specs.Inside.{Filled}
-use Rattle.eval_lanes.proofs.Filling.{none_filled, one-filled, all-filled}
+use Rattle.eval_lanes.proofs.Filling.{none_filled, one_filled, all_filled}
 use borrow.Author.Rules.{rules}
 use Rattle.eval_gaps.proofs.keep_above.Statement.{statement}
 use Rattle.eval_gaps.proofs.keep_above.Tie as tie
@@ -65,10 +65,10 @@ loop-again c =
     let k2 = p.before.before in
     let n : length k2.before.before.before.args.out.now ≡ 80 = k2.before.known.ensures in
     let i = c.before.before.before.loop-test.true in
-    (one-filled _ p.loop.invariant.0 (omega arith) c.kept.ensures, omega arith)
+    (one_filled _ p.loop.invariant.0 (omega arith) c.kept.ensures, omega arith)
 
 returns : tie.Need-returns invariant-loop decreases-loop
-returns c = all-filled c.before.loop.invariant.0 c.loop-test.false
+returns c = all_filled c.before.loop.invariant.0 c.loop-test.false
 
 pub keep-above-spec : {M : Type 1} → statement M
 keep-above-spec =

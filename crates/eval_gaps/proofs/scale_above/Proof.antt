@@ -10,9 +10,9 @@ use lib.Ieee.{binary64, lt, mul}
 use lib.ListN.{length}
 use Rattle.eval_lanes.specs.Lanes.{lane}
 use Rattle.eval_lanes.specs.Inside.{Filled}
-use Rattle.eval_lanes.proofs.Filling.{none_filled, one-filled, all-filled}
-use Rattle.eval_gaps.specs.Gaps.{allAbove}
-use Rattle.eval_gaps.proofs.Above.{one-above, one-other}
+use Rattle.eval_lanes.proofs.Filling.{none_filled, one_filled, all_filled}
+use Rattle.eval_gaps.specs.Gaps.{all_above}
+use Rattle.eval_gaps.proofs.Above.{one_above, one_other}
 use borrow.Author.Rules.{rules}
 use borrow.Author.Tests.{ne_eqb, not-true, not-false}
 use Rattle.eval_gaps.proofs.scale_above.Statement.{statement}
@@ -20,7 +20,7 @@ use Rattle.eval_gaps.proofs.scale_above.Tie as tie
 
 abbrev invariant-loop : tie.invariant-loop
 invariant-loop ys₀ mark by others₀ k₀ ys others k =
-    (eqb others 0 ≡ allAbove mark ys₀ k) × (k ≤ 80) × (others ≤ k) × Filled 0 (λ i a b. b ≡ mul binary64 a by) ys₀ k ys
+    (eqb others 0 ≡ all_above mark ys₀ k) × (k ≤ 80) × (others ≤ k) × Filled 0 (λ i a b. b ≡ mul binary64 a by) ys₀ k ys
 
 abbrev decreases-loop : tie.decreases-loop
 decreases-loop ys₀ mark by others₀ k₀ ys others k = 80 - k
@@ -29,7 +29,7 @@ known-requires : tie.Need-known-requires invariant-loop decreases-loop
 known-requires c κs = search rules
 
 loop-holds : tie.Need-loop-init invariant-loop decreases-loop
-unfolding allAbove
+unfolding all_above
 loop-holds c = (refl, omega arith, omega arith, none_filled _ _ _)
 
 mul-y : tie.Need-overflow-mul-y invariant-loop decreases-loop
@@ -65,12 +65,12 @@ loop-again c =
     let i : k < 80 = c.before.before.loop-test.true in
     let same : lane p.loop.ys k ≡ lane ys k = v.3.rest k (omega arith) in
     let test : lt a.mark (lane p.loop.ys k) ≡ lt a.mark (lane ys k) = ap (lt a.mark) same in
-    let next = one-filled _ v.3 (omega arith) refl in
+    let next = one_filled _ v.3 (omega arith) refl in
     ⊎_elim
     (λ w.
     let other : eqb (n + 1) 0 ≡ false = ne_eqb (n + 1) 0 (λ q. omega arith) in
-    rw w.1 (other ∙ sym (one-other a.mark ys k (sym test ∙ not-true _ w.0.taken)), omega arith, omega (arith, v.2), next))
-    (λ w. rw w.1 (v.0 ∙ sym (one-above a.mark ys k (sym test ∙ not-false _ w.0.left)), omega arith, omega (arith, v.2), next))
+    rw w.1 (other ∙ sym (one_other a.mark ys k (sym test ∙ not-true _ w.0.taken)), omega arith, omega (arith, v.2), next))
+    (λ w. rw w.1 (v.0 ∙ sym (one_above a.mark ys k (sym test ∙ not-false _ w.0.left)), omega arith, omega (arith, v.2), next))
     c.if1.branch
 
 returns : tie.Need-returns invariant-loop decreases-loop
@@ -79,7 +79,7 @@ returns c =
     let a = p.before.before.before.args in
     let v = p.loop.invariant in
     let all : p.loop.k ≡ 80 = omega (arith, c.loop-test.false, v.1) in
-    (v.0 ∙ ap (allAbove a.mark a.ys.now) all, all-filled v.3 c.loop-test.false)
+    (v.0 ∙ ap (all_above a.mark a.ys.now) all, all_filled v.3 c.loop-test.false)
 
 pub scale-above-spec : {M : Type 1} → statement M
 scale-above-spec =

@@ -7,10 +7,10 @@ use lib.IntN.{pos}
 use lib.ListN.{replicate}
 use lib.Ieee.{Float, binary64, of_int}
 use Rattle.eval_lanes.specs.Lanes.{lane, Lessened}
-use Rattle.eval_losses.specs.Losses.{lossIn, chunkSum}
-use Rattle.eval_kernel.specs.Kernel.{sizeBy}
-use Rattle.eval_halves.specs.Halves.{halfLoss}
-use Rattle.eval_halves.proofs.Others.{half-summed}
+use Rattle.eval_losses.specs.Losses.{loss_in, chunk_sum}
+use Rattle.eval_kernel.specs.Kernel.{size_by}
+use Rattle.eval_halves.specs.Halves.{half_loss}
+use Rattle.eval_halves.proofs.Others.{half_summed}
 use borrow.Author.Rules.{rules}
 use Rattle.eval_halves.proofs.chunk_losses.Statement.{statement}
 use Rattle.eval_halves.proofs.chunk_losses.Tie as tie
@@ -18,7 +18,7 @@ use Rattle.eval_halves.proofs.chunk_losses.Reads as reads
 use Rattle.eval_halves.proofs.chunk_losses.Lts as lts
 use Rattle.eval_halves.proofs.lessen_others.Reads as lessen-others-reads
 use Rattle.eval_kernel.proofs.lessen_line.Reads as lessen-line-reads
-use Rattle.eval_kernel.proofs.no_size.Reads as no-size-reads
+use Rattle.eval_kernel.proofs.no_size_lem.Reads as no-size-reads
 use Rattle.eval_losses.proofs.total.Reads as total-reads
 
 no-size-requires : tie.Need-no-size-requires
@@ -44,17 +44,17 @@ module _ (c : tie.After-lessen-others) where
   abbrev start : tie.Start
   start = c.before.before.before
 
-  half : (own-low own-high own : List Float) (r : ℕ) →
+  half : (own_low own_high own : List Float) (r : ℕ) →
       let a = start.args in
       let m = a.m in
-      Lessened c.lessen-others.new.0 own (sizeBy true a.s.now own-low own-high m.d (min (a.c * m.d) 8)) →
-      r ≡ chunkSum (λ k. lossIn m.p (of_int binary64 (pos m.eps)) (lane own k)) →
-      r ≡ halfLoss a.s.now a.low.now a.high.now own-low own-high m a.c
-  half own-low own-high own r =
+      Lessened c.lessen-others.new.0 own (size_by true a.s.now own_low own_high m.d (min (a.c * m.d) 8)) →
+      r ≡ chunk_sum (λ k. loss_in m.p (of_int binary64 (pos m.eps)) (lane own k)) →
+      r ≡ half_loss a.s.now a.low.now a.high.now own_low own_high m a.c
+  half own_low own_high own r =
       let a = start.args in
-      let begin = c.before.before.no_size in
+      let begin = c.before.before.no_size_lem in
       let others = c.lessen-others in
-      half-summed a.s.now a.low.now a.high.now own-low own-high a.m a.c _ others.new.0 own r
+      half_summed a.s.now a.low.now a.high.now own_low own_high a.m a.c _ others.new.0 own r
       (ap (λ (x : Float). replicate 80 x) begin.ensures) others.ensures
 
 returns : tie.Need-returns

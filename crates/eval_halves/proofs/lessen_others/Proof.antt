@@ -7,11 +7,11 @@ use mathlib.Core.Logic.{⊎_elim}
 use Prim.Native.Nat.{ℕ, ◌*◌, ◌-◌, ◌≤◌, ◌<◌, min}
 use native.Mathlib.Omega.{arith}
 use lib.Ieee.{Float}
-use Rattle.eval_whole.specs.Whole.{smallerOf}
+use Rattle.eval_whole.specs.Whole.{smaller_of}
 use Rattle.eval_lanes.specs.Lanes.{lane}
-use Rattle.eval_kernel.specs.Kernel.{sizeBy}
-use Rattle.eval_halves.specs.Halves.{leastBut}
-use Rattle.eval_halves.proofs.Others.{own_line, other-line}
+use Rattle.eval_kernel.specs.Kernel.{size_by}
+use Rattle.eval_halves.specs.Halves.{least_but}
+use Rattle.eval_halves.proofs.Others.{own_line, other_line}
 use borrow.Author.Rules.{rules}
 use Rattle.eval_halves.proofs.lessen_others.Statement.{statement}
 use Rattle.eval_halves.proofs.lessen_others.Tie as tie
@@ -21,13 +21,13 @@ use Rattle.eval_kernel.proofs.lessen_line.Reads as lessen-line-reads
 
 abbrev invariant-loop : tie.invariant-loop
 invariant-loop sizes₀ s low high n d c j₀ sizes j =
-    (j ≤ n) × ((k : ℕ) → k < 80 → lane sizes k ≡ leastBut s low high d c (lane sizes₀ k) j k)
+    (j ≤ n) × ((k : ℕ) → k < 80 → lane sizes k ≡ least_but s low high d c (lane sizes₀ k) j k)
 
 abbrev decreases-loop : tie.decreases-loop
 decreases-loop sizes₀ s low high n d c j₀ sizes j = n - j
 
 loop-holds : tie.Need-loop-init invariant-loop decreases-loop
-unfolding leastBut
+unfolding least_but
 loop-holds c = (omega arith, λ k h. refl)
 
 lessen-line-requires : tie.Need-lessen-line-requires invariant-loop decreases-loop
@@ -45,14 +45,14 @@ loop-again c =
     let a = p.before.args in
     let d = a.d in
     let j = p.loop.j in
-    let size = sizeBy true a.s.now a.low.now a.high.now d (min (j * d) 8) in
+    let size = size_by true a.s.now a.low.now a.high.now d (min (j * d) 8) in
     let most : ℕ → Float = lane a.sizes.now in (
       omega (arith, c.before.loop-test.true),
       λ k h.
           ⊎_elim
           (λ w.
-          ap (λ (xs : List Float). lane xs k) w.3 ∙ w.2.ensures k h ∙ ap (λ (x : Float). smallerOf x (size k)) (p.loop.invariant.1 k h)
-          ∙ sym (other-line a.s.now a.low.now a.high.now d a.c (most k) j k w.0.taken))
+          ap (λ (xs : List Float). lane xs k) w.3 ∙ w.2.ensures k h ∙ ap (λ (x : Float). smaller_of x (size k)) (p.loop.invariant.1 k h)
+          ∙ sym (other_line a.s.now a.low.now a.high.now d a.c (most k) j k w.0.taken))
           (λ w.
           ap (λ (xs : List Float). lane xs k) w.1 ∙ p.loop.invariant.1 k h
           ∙ sym (own_line a.s.now a.low.now a.high.now d a.c (most k) j k w.0.left))
@@ -64,7 +64,7 @@ returns c =
     let p = c.before in
     let a = p.before.args in
     let e : p.loop.j ≡ a.n = omega (arith, p.loop.invariant.0, c.loop-test.false) in
-    let least = leastBut a.s.now a.low.now a.high.now a.d a.c in
+    let least = least_but a.s.now a.low.now a.high.now a.d a.c in
     λ k h. p.loop.invariant.1 k h ∙ ap (λ (n : ℕ). least (lane a.sizes.now k) n k) e
 
 pub lessen-others-spec : {M : Type 1} → statement M

@@ -8,11 +8,11 @@ use lib.ListN.{get_or}
 use lib.Ieee.{Float}
 use Rattle.boxes.specs.declared.Box.{Box}
 use Rattle.integers.specs.Sums.{sum_of}
-use Rattle.residuals.specs.Inside.{boxOf}
-use Rattle.residuals.proofs.Sums.{sum_more, cap-stays}
-use Rattle.eval_columns.specs.Columns.{decodedChunks}
-use Rattle.eval_halves.specs.Halves.{halfLoss, HalfSum}
-use Rattle.eval_halves.proofs.Summing.{half-sum}
+use Rattle.residuals.specs.Inside.{box_of}
+use Rattle.residuals.proofs.Sums.{sum_more, cap_stays}
+use Rattle.eval_columns.specs.Columns.{decoded_chunks}
+use Rattle.eval_halves.specs.Halves.{half_loss, HalfSum}
+use Rattle.eval_halves.proofs.Summing.{half_sum}
 use borrow.Author.Rules.{rules}
 use Rattle.eval_halves.proofs.sums_up_to.Statement.{statement}
 use Rattle.eval_halves.proofs.sums_up_to.Tie as tie
@@ -26,8 +26,8 @@ use Rattle.numbers.proofs.least.Reads as least-reads
 abbrev invariant-loop : tie.invariant-loop
 invariant-loop store lanes m c cap low middle next high count left₀ right₀ t₀ left right t =
     (t ≤ count) × (left ≤ t * 36028797018963968) × (right ≤ t * 36028797018963968)
-    × (left ≡ sum_of (λ i. halfLoss (get_or lanes i []) low high low middle m c) t)
-    × (right ≡ sum_of (λ i. halfLoss (get_or lanes i []) low high next high m c) t)
+    × (left ≡ sum_of (λ i. half_loss (get_or lanes i []) low high low middle m c) t)
+    × (right ≡ sum_of (λ i. half_loss (get_or lanes i []) low high next high m c) t)
 
 abbrev decreases-loop : tie.decreases-loop
 decreases-loop store lanes m c cap low middle next high count left₀ right₀ t₀ left right t = count - t
@@ -50,31 +50,31 @@ module _ (k : tie.After-chunk-count invariant-loop decreases-loop) where
   high = k.before.coordinates4.result
 
   abbrev lefts : ℕ → ℕ
-  lefts i = halfLoss (get_or start.args.lanes.now i []) low high low middle start.args.m start.args.c
+  lefts i = half_loss (get_or start.args.lanes.now i []) low high low middle start.args.m start.args.c
 
   abbrev rights : ℕ → ℕ
-  rights i = halfLoss (get_or start.args.lanes.now i []) low high next high start.args.m start.args.c
+  rights i = half_loss (get_or start.args.lanes.now i []) low high next high start.args.m start.args.c
 
   abbrev count : ℕ
-  count = decodedChunks start.args.store.now start.args.lanes.now
+  count = decoded_chunks start.args.store.now start.args.lanes.now
 
   abbrev Sum : Box → ℕ → Type 0
   Sum half r =
       let a = start.args in
-      HalfSum a.store.now a.lanes.now a.m (boxOf a.left.low a.right.high) half a.c a.cap r
+      HalfSum a.store.now a.lanes.now a.m (box_of a.left.low a.right.high) half a.c a.cap r
 
   left-sum : (r : ℕ) → r ≡ min (sum_of lefts count) start.args.cap → Sum start.args.left r
   left-sum =
       let a = start.args in
       let from = k.before.before.before.before.coordinates.ensures in
-      half-sum a.store.now a.lanes.now a.m (boxOf a.left.low a.right.high) a.left a.c low high low middle
+      half_sum a.store.now a.lanes.now a.m (box_of a.left.low a.right.high) a.left a.c low high low middle
       from k.before.coordinates4.ensures from k.before.before.before.coordinates2.ensures a.cap
 
   right-sum : (r : ℕ) → r ≡ min (sum_of rights count) start.args.cap → Sum start.args.right r
   right-sum =
       let a = start.args in
       let to = k.before.coordinates4.ensures in
-      half-sum a.store.now a.lanes.now a.m (boxOf a.left.low a.right.high) a.right a.c low high next high
+      half_sum a.store.now a.lanes.now a.m (box_of a.left.low a.right.high) a.right a.c low high next high
       k.before.before.before.before.coordinates.ensures to k.before.before.coordinates3.ensures to a.cap
 
 coordinates-requires : tie.Need-coordinates-requires invariant-loop decreases-loop
@@ -102,9 +102,9 @@ returns c =
     let k = p.before in
     let cap = (start k).args.cap in
     let few : p.loop.t ≤ count k = omega (arith, p.loop.invariant.0, k.chunk_count.ensures) in
-    let x = cap-stays (lefts k) p.loop.t (count k) cap few (omega (arith, c.before.if1.true, p.loop.invariant.3)) in
+    let x = cap_stays (lefts k) p.loop.t (count k) cap few (omega (arith, c.before.if1.true, p.loop.invariant.3)) in
     let second = leb-true cap p.loop.right-sum c.if2.true in
-    let y = cap-stays (rights k) p.loop.t (count k) cap few (omega (arith, second, p.loop.invariant.4)) in
+    let y = cap_stays (rights k) p.loop.t (count k) cap few (omega (arith, second, p.loop.invariant.4)) in
     (left-sum k cap x, right-sum k cap y)
 
 mul-chunk-losses : tie.Need-overflow-mul-chunk-losses invariant-loop decreases-loop

@@ -3,17 +3,17 @@ use mathlib.Core.Path.{ap, ◌∙◌}
 use lib.IntN.{pos}
 use lib.ListN.{replicate}
 use lib.Ieee.{Float, binary64, of_int}
-use Rattle.eval_losses.specs.Losses.{lossIn}
-use Rattle.eval_losses.proofs.Exact.{chunk-same}
-use Rattle.eval_kernel.specs.Kernel.{chunkLoss}
-use Rattle.eval_kernel.proofs.Starting.{from-none}
+use Rattle.eval_losses.specs.Losses.{loss_in}
+use Rattle.eval_losses.proofs.Exact.{chunk_same}
+use Rattle.eval_kernel.specs.Kernel.{chunk_loss}
+use Rattle.eval_kernel.proofs.Starting.{from_none}
 use borrow.Author.Rules.{rules}
 use Rattle.eval_kernel.proofs.chunk_loss.Statement.{statement}
 use Rattle.eval_kernel.proofs.chunk_loss.Tie as tie
 use Rattle.eval_kernel.proofs.chunk_loss.Reads as reads
 use Rattle.eval_kernel.proofs.chunk_loss.Lts as lts
 use Rattle.eval_kernel.proofs.lessen_all.Reads as lessen-all-reads
-use Rattle.eval_kernel.proofs.no_size.Reads as no-size-reads
+use Rattle.eval_kernel.proofs.no_size_lem.Reads as no-size-reads
 use Rattle.eval_losses.proofs.total.Reads as total-reads
 
 no-size-requires : tie.Need-no-size-requires
@@ -26,17 +26,17 @@ total-requires : tie.Need-total-requires
 total-requires c κs = search rules
 
 returns : tie.Need-returns
-unfolding chunkLoss
+unfolding chunk_loss
 returns c =
     let lessen = c.before.before.lessen-all in
     let start = c.before.before.before.before in
     let a = start.before.args in
     let m = a.m in
     let sizes =
-    from-none a.over a.s.now a.low.now a.high.now m _ lessen.new.0
-    (ap (λ (x : Float). replicate 80 x) start.no_size.ensures) lessen.ensures in
+    from_none a.over a.s.now a.low.now a.high.now m _ lessen.new.0
+    (ap (λ (x : Float). replicate 80 x) start.no_size_lem.ensures) lessen.ensures in
     let all = c.total.ensures.1 in
-    (all.0 ∙ chunk-same _ _ (λ k h. ap (lossIn m.p (of_int binary64 (pos m.eps))) (sizes k h)), all.1)
+    (all.0 ∙ chunk_same _ _ (λ k h. ap (loss_in m.p (of_int binary64 (pos m.eps))) (sizes k h)), all.1)
 
 pub chunk-loss-spec : {M : Type 1} → statement M
 chunk-loss-spec = tie.close (tie.spec no-size-requires lessen-all-requires total-requires returns)

@@ -9,8 +9,8 @@ use mir.Facts.{to_z-of_z}
 use lib.ListN.{length, get_or, replicate}
 use Rattle.eval_whole.specs.Whole.{zeroth}
 use Rattle.eval_lanes.specs.Inside.{Filled}
-use Rattle.eval_lanes.proofs.Filling.{none_filled, one-filled, all-filled, until-filled}
-use Rattle.eval_kernel.proofs.Vectors.{Double, all-doubles}
+use Rattle.eval_lanes.proofs.Filling.{none_filled, one_filled, all_filled, until_filled}
+use Rattle.eval_kernel.proofs.Vectors.{Double, all_doubles}
 use borrow.Author.Rules.{rules}
 use Rattle.eval_kernel.proofs.coordinates.Statement.{statement}
 use Rattle.eval_kernel.proofs.coordinates.Tie as tie
@@ -54,7 +54,7 @@ loop-again c =
     let v = p.loop.invariant in
     let i = c.before.before.loop-test.true in
     let f : SFits w16 (get_or p.before.args.t1 p.loop.i (pos 0)) = record { sfits = c.before.double-arg.given } in
-    (one-filled _ v.0 (omega (arith, ap length v.1)) (rw (to_z-of_z f) at c.double.ensures), v.1, omega arith)
+    (one_filled _ v.0 (omega (arith, ap length v.1)) (rw (to_z-of_z f) at c.double.ensures), v.1, omega arith)
 
 returns : tie.Need-returns invariant-loop decreases-loop
 returns c =
@@ -62,9 +62,9 @@ returns c =
     let a = p.before.args in
     let v = p.loop.invariant in
     let done : Filled 0 (Double a.t1) (replicate 12 zeroth) 8 p.loop.u =
-    rw (← v.1) (until-filled (omega (arith, v.2, c.loop-test.false)) v.0) in
+    rw (← v.1) (until_filled (omega (arith, v.2, c.loop-test.false)) v.0) in
     let eight : length a.t1 ≡ 8 = search rules in
-    (all-doubles a.t1 p.loop.u eight done, λ k h. (all-filled v.0 c.loop-test.false k h).1)
+    (all_doubles a.t1 p.loop.u eight done, λ k h. (all_filled v.0 c.loop-test.false k h).1)
 
 pub coordinates-spec : {M : Type 1} → statement M
 coordinates-spec =

@@ -3,8 +3,8 @@ use mathlib.Core.Path.{refl}
 use native.Mathlib.Omega.{arith}
 use mir.Syntax.{w16}
 use mir.Facts.{to_z-of_z}
-use Rattle.integers.proofs.Parts.{abs-fits}
-use Rattle.eval_whole.proofs.Picks.{cast-within}
+use Rattle.integers.proofs.Parts.{abs_fits}
+use Rattle.eval_whole.proofs.Picks.{cast_within}
 use borrow.Author.Rules.{rules}
 use Rattle.eval_kernel.proofs.double.Statement.{statement}
 use Rattle.eval_kernel.proofs.double.Tie as tie
@@ -15,7 +15,7 @@ int-to-float-result : tie.Need-int-to-float-result
 int-to-float-result c = search rules
 
 returns : tie.Need-returns
-returns c = let f = c.before.ranges.w in rw (to_z-of_z f) (refl, cast-within c.before.args.w (abs-fits w16 f) (omega arith))
+returns c = let f = c.before.ranges.w in rw (to_z-of_z f) (refl, cast_within c.before.args.w (abs_fits w16 f) (omega arith))
 
 pub double-spec : {M : Type 1} → statement M
 double-spec = tie.close (tie.spec int-to-float-result returns)

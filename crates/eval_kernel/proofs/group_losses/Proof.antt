@@ -3,17 +3,17 @@ use mathlib.Core.Path.{ap, ◌∙◌}
 use lib.IntN.{pos}
 use lib.ListN.{replicate}
 use lib.Ieee.{Float, binary64, of_int}
-use Rattle.eval_losses.specs.Losses.{lossIn}
-use Rattle.eval_losses.proofs.Exact.{groups-same}
-use Rattle.eval_kernel.specs.Kernel.{groupLosses}
-use Rattle.eval_kernel.proofs.Starting.{from-none}
+use Rattle.eval_losses.specs.Losses.{loss_in}
+use Rattle.eval_losses.proofs.Exact.{groups_same}
+use Rattle.eval_kernel.specs.Kernel.{group_losses}
+use Rattle.eval_kernel.proofs.Starting.{from_none}
 use borrow.Author.Rules.{rules}
 use Rattle.eval_kernel.proofs.group_losses.Statement.{statement}
 use Rattle.eval_kernel.proofs.group_losses.Tie as tie
 use Rattle.eval_kernel.proofs.group_losses.Reads as reads
 use Rattle.eval_kernel.proofs.group_losses.Lts as lts
 use Rattle.eval_kernel.proofs.lessen_all.Reads as lessen-all-reads
-use Rattle.eval_kernel.proofs.no_size.Reads as no-size-reads
+use Rattle.eval_kernel.proofs.no_size_lem.Reads as no-size-reads
 use Rattle.eval_losses.proofs.group_sums.Reads as group-sums-reads
 use Rattle.eval_losses.proofs.lose.Reads as lose-reads
 
@@ -30,7 +30,7 @@ group-sums-requires : tie.Need-group-sums-requires
 group-sums-requires c κs = search rules
 
 returns : tie.Need-returns
-unfolding groupLosses
+unfolding group_losses
 returns c =
     let lose = c.before.before.lose in
     let lessen = c.before.before.before.before.lessen-all in
@@ -38,9 +38,9 @@ returns c =
     let a = start.before.args in
     let m = a.m in
     let sizes =
-    from-none a.over a.s.now a.low.now a.high.now m _ lessen.new.0
-    (ap (λ (x : Float). replicate 80 x) start.no_size.ensures) lessen.ensures in
-    c.group-sums.ensures ∙ groups-same _ _ (λ k h. lose.ensures k h ∙ ap (lossIn m.p (of_int binary64 (pos m.eps))) (sizes k h))
+    from_none a.over a.s.now a.low.now a.high.now m _ lessen.new.0
+    (ap (λ (x : Float). replicate 80 x) start.no_size_lem.ensures) lessen.ensures in
+    c.group-sums.ensures ∙ groups_same _ _ (λ k h. lose.ensures k h ∙ ap (loss_in m.p (of_int binary64 (pos m.eps))) (sizes k h))
 
 pub group-losses-spec : {M : Type 1} → statement M
 group-losses-spec =

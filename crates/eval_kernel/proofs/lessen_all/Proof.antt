@@ -5,9 +5,9 @@ use Prim.Native.Nat.{ℕ, ◌*◌, ◌-◌, ◌≤◌, ◌<◌, min}
 use native.Mathlib.Numerals.{add-one}
 use native.Mathlib.Omega.{arith}
 use lib.Ieee.{Float}
-use Rattle.eval_whole.specs.Whole.{smallerOf}
+use Rattle.eval_whole.specs.Whole.{smaller_of}
 use Rattle.eval_lanes.specs.Lanes.{lane}
-use Rattle.eval_kernel.specs.Kernel.{sizeBy, leastBy}
+use Rattle.eval_kernel.specs.Kernel.{size_by, least_by}
 use borrow.Author.Rules.{rules}
 use Rattle.eval_kernel.proofs.lessen_all.Statement.{statement}
 use Rattle.eval_kernel.proofs.lessen_all.Tie as tie
@@ -17,13 +17,13 @@ use Rattle.eval_kernel.proofs.lessen_line.Reads as lessen-line-reads
 
 abbrev invariant-loop : tie.invariant-loop
 invariant-loop least₀ s low high n d over j₀ least j =
-    (j ≤ n) × ((k : ℕ) → k < 80 → lane least k ≡ leastBy over s low high d (lane least₀ k) j k)
+    (j ≤ n) × ((k : ℕ) → k < 80 → lane least k ≡ least_by over s low high d (lane least₀ k) j k)
 
 abbrev decreases-loop : tie.decreases-loop
 decreases-loop least₀ s low high n d over j₀ least j = n - j
 
 loop-holds : tie.Need-loop-init invariant-loop decreases-loop
-unfolding leastBy
+unfolding least_by
 loop-holds c = (omega arith, λ k h. refl)
 
 lessen-line-requires : tie.Need-lessen-line-requires invariant-loop decreases-loop
@@ -36,13 +36,13 @@ loop-less : tie.Need-loop-smaller invariant-loop decreases-loop
 loop-less c = search rules
 
 loop-again : tie.Need-loop-preserved invariant-loop decreases-loop
-unfolding leastBy
+unfolding least_by
 loop-again c =
     let p = c.before.before.before in
     let a = p.before.args in
-    let size = sizeBy a.over a.s.now a.low.now a.high.now a.d (min (p.loop.j * a.d) 8) in (
+    let size = size_by a.over a.s.now a.low.now a.high.now a.d (min (p.loop.j * a.d) 8) in (
       omega (arith, c.before.before.loop-test.true),
-      λ k h. rw (add-one p.loop.j) (c.lessen-line.ensures k h ∙ ap (λ (x : Float). smallerOf x (size k)) (p.loop.invariant.1 k h)),
+      λ k h. rw (add-one p.loop.j) (c.lessen-line.ensures k h ∙ ap (λ (x : Float). smaller_of x (size k)) (p.loop.invariant.1 k h)),
     )
 
 returns : tie.Need-returns invariant-loop decreases-loop
@@ -51,7 +51,7 @@ returns c =
     let a = p.before.args in
     let e : p.loop.j ≡ a.n = omega (arith, p.loop.invariant.0, c.loop-test.false) in
     λ k h. p.loop.invariant.1 k h ∙ ap
-    (λ (n : ℕ). leastBy a.over a.s.now a.low.now a.high.now a.d (lane a.least.now k) n k) e
+    (λ (n : ℕ). least_by a.over a.s.now a.low.now a.high.now a.d (lane a.least.now k) n k) e
 
 pub lessen-all-spec : {M : Type 1} → statement M
 lessen-all-spec =

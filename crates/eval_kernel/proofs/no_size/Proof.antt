@@ -1,13 +1,13 @@
 -- 2^33 is a number of double precision.
 use native.Mathlib.Omega.{arith}
 use lib.IntN.{pos}
-use Rattle.eval_whole.proofs.Laws.{cast-asks}
+use Rattle.eval_whole.proofs.Laws.{cast_asks}
 use borrow.Author.Rules.{rules}
-use Rattle.eval_kernel.proofs.no_size.Statement.{statement}
-use Rattle.eval_kernel.proofs.no_size.Tie as tie
+use Rattle.eval_kernel.proofs.no_size_lem.Statement.{statement}
+use Rattle.eval_kernel.proofs.no_size_lem.Tie as tie
 
 int-to-float-result : tie.Need-int-to-float-result
-int-to-float-result c = cast-asks (pos 8589934592) (omega arith)
+int-to-float-result c = cast_asks (pos 8589934592) (omega arith)
 
 returns : tie.Need-returns
 returns c = search rules

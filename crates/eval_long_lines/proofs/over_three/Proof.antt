@@ -4,11 +4,11 @@ use Prim.Native.Nat.{◌-◌}
 use native.Mathlib.Omega.{arith}
 use lib.ListN.{length}
 use lib.Ieee.{Float}
-use Rattle.eval_whole.specs.Whole.{smallerOf}
+use Rattle.eval_whole.specs.Whole.{smaller_of}
 use Rattle.eval_lanes.specs.Lanes.{lane, four, taken}
 use Rattle.eval_lanes.specs.Inside.{Filled}
-use Rattle.eval_lanes.proofs.Filling.{none_filled, one-filled, all-filled}
-use Rattle.eval_box_ends.specs.Ends.{nearest, leastIn}
+use Rattle.eval_lanes.proofs.Filling.{none_filled, one_filled, all_filled}
+use Rattle.eval_box_ends.specs.Ends.{nearest, least_in}
 use borrow.Author.Rules.{rules}
 use Rattle.eval_long_lines.proofs.over_three.Statement.{statement}
 use Rattle.eval_long_lines.proofs.over_three.Tie as tie
@@ -20,7 +20,7 @@ use Rattle.eval_lanes.proofs.known.Reads as known-reads
 
 abbrev invariant-loop : tie.invariant-loop
 invariant-loop least₀ s l1 h1 l2 h2 l3 h3 l4 h4 i₀ least i =
-    Filled 0 (λ k m r. r ≡ smallerOf m (leastIn s (four l1 l2 l3 l4) (four h1 h2 h3 h4) 3 k)) least₀ i least
+    Filled 0 (λ k m r. r ≡ smaller_of m (least_in s (four l1 l2 l3 l4) (four h1 h2 h3 h4) 3 k)) least₀ i least
 
 abbrev decreases-loop : tie.decreases-loop
 decreases-loop least₀ s l1 h1 l2 h2 l3 h3 l4 h4 i₀ least i = 80 - i
@@ -105,11 +105,11 @@ loop-again c =
     let p = c.before.before.before.before.before.before.before.before.before in
     let e = c.before.before.three-ends.ensures in
     let n : length p.before.before.before.args.least.now ≡ 80 = p.before.known.ensures in
-    one-filled _ p.loop.invariant (omega (arith, c.before.before.before.before.before.before.before.before.loop-test.true))
-    (c.least-of.ensures ∙ ap₂ (λ (x : Float) (y : Float). smallerOf (lane p.loop.least p.loop.i) (nearest x y)) e.0 e.1)
+    one_filled _ p.loop.invariant (omega (arith, c.before.before.before.before.before.before.before.before.loop-test.true))
+    (c.least-of.ensures ∙ ap₂ (λ (x : Float) (y : Float). smaller_of (lane p.loop.least p.loop.i) (nearest x y)) e.0 e.1)
 
 returns : tie.Need-returns invariant-loop decreases-loop
-returns c = all-filled c.before.loop.invariant c.loop-test.false
+returns c = all_filled c.before.loop.invariant c.loop-test.false
 
 pub over-three-spec : {M : Type 1} → statement M
 over-three-spec =

@@ -7,7 +7,7 @@ use lib.Ieee.{Float, binary64, add}
 use Rattle.eval_whole.specs.Whole.{counted}
 use Rattle.eval_whole.proofs.Counting.{count_small}
 use Rattle.eval_lanes.specs.Lanes.{lane}
-use Rattle.eval_losses.specs.Losses.{alternate, groupSum}
+use Rattle.eval_losses.specs.Losses.{alternate, group_sum}
 use borrow.Author.Rules.{rules}
 use Rattle.eval_losses.proofs.group_sum.Statement.{statement}
 use Rattle.eval_losses.proofs.group_sum.Tie as tie
@@ -83,7 +83,7 @@ add-result c =
     omega (arith, c.before.count.ensures, c.count2.ensures, count_small p.even, count_small p.odd)
 
 returns : tie.Need-returns invariant-loop decreases-loop
-unfolding groupSum
+unfolding group_sum
 returns c =
     let v = c.before.before.before.loop.invariant in
     let zs = c.before.before.before.before.args.losses.now in

@@ -2,7 +2,7 @@
 use mathlib.Core.Path.{ap, ap₂}
 use mathlib.Core.List.{[], ◌∷◌}
 use Prim.Native.Nat.{ℕ}
-use Rattle.eval_losses.specs.Losses.{groupSums}
+use Rattle.eval_losses.specs.Losses.{group_sums}
 use borrow.Author.Rules.{rules}
 use Rattle.eval_losses.proofs.group_sums.Statement.{statement}
 use Rattle.eval_losses.proofs.group_sums.Tie as tie
@@ -23,7 +23,7 @@ group-sum-requires-4 : tie.Need-group-sum-requires-4
 group-sum-requires-4 c κs = search rules
 
 returns : tie.Need-returns
-unfolding groupSums
+unfolding group_sums
 returns c =
     let last = ap (λ (n : ℕ). n ∷ []) c.group-sum4.ensures in
     ap₂ ◌∷◌ c.before.before.before.group-sum.ensures

@@ -4,8 +4,8 @@ use Prim.Native.Nat.{◌-◌}
 use native.Mathlib.Omega.{arith}
 use lib.ListN.{length}
 use Rattle.eval_lanes.specs.Inside.{Filled}
-use Rattle.eval_lanes.proofs.Filling.{none_filled, one-filled, all-filled}
-use Rattle.eval_losses.specs.Losses.{lossIn}
+use Rattle.eval_lanes.proofs.Filling.{none_filled, one_filled, all_filled}
+use Rattle.eval_losses.specs.Losses.{loss_in}
 use borrow.Author.Rules.{rules}
 use Rattle.eval_losses.proofs.lose.Statement.{statement}
 use Rattle.eval_losses.proofs.lose.Tie as tie
@@ -15,7 +15,7 @@ use Rattle.eval_lanes.proofs.known.Reads as known-reads
 use Rattle.eval_losses.proofs.loss.Reads as loss-reads
 
 abbrev invariant-loop : tie.invariant-loop
-invariant-loop sizes₀ p eps cut i₀ sizes i = Filled 0 (λ k size r. r ≡ lossIn p cut size) sizes₀ i sizes
+invariant-loop sizes₀ p eps cut i₀ sizes i = Filled 0 (λ k size r. r ≡ loss_in p cut size) sizes₀ i sizes
 
 abbrev decreases-loop : tie.decreases-loop
 decreases-loop sizes₀ p eps cut i₀ sizes i = 80 - i
@@ -54,10 +54,10 @@ loop-again : tie.Need-loop-preserved invariant-loop decreases-loop
 loop-again c =
     let p = c.before.before.before in
     let n : length p.before.before.before.before.args.sizes.now ≡ 80 = p.before.before.known.ensures in
-    one-filled _ p.loop.invariant (omega (arith, c.before.before.loop-test.true)) c.loss.ensures
+    one_filled _ p.loop.invariant (omega (arith, c.before.before.loop-test.true)) c.loss.ensures
 
 returns : tie.Need-returns invariant-loop decreases-loop
-returns c = all-filled c.before.loop.invariant c.loop-test.false
+returns c = all_filled c.before.loop.invariant c.loop-test.false
 
 pub lose-spec : {M : Type 1} → statement M
 lose-spec =

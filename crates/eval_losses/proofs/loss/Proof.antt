@@ -3,7 +3,7 @@ use mathlib.Core.Path.{◌≡◌, refl, sym}
 use Prim.Native.Nat.{ℕ, zero, suc}
 use lib.Ieee.{Float}
 use Rattle.eval_whole.specs.Whole.{zeroth}
-use Rattle.eval_losses.specs.Losses.{lossIn}
+use Rattle.eval_losses.specs.Losses.{loss_in}
 use borrow.Author.Rules.{rules}
 use Rattle.eval_losses.proofs.loss.Statement.{statement}
 use Rattle.eval_losses.proofs.loss.Tie as tie
@@ -13,8 +13,8 @@ use Rattle.eval_losses.proofs.cut_square.Reads as cut-square-reads
 use Rattle.eval_losses.proofs.over.Reads as over_reads
 use Rattle.eval_whole.proofs.smaller.Reads as smaller-reads
 
-no-loss : (p : ℕ) (ε x : Float) → (p ≡ 0 → ⊥) → (p ≡ 1 → ⊥) → (p ≡ 2 → ⊥) → lossIn p ε x ≡ zeroth
-unfolding lossIn
+no-loss : (p : ℕ) (ε x : Float) → (p ≡ 0 → ⊥) → (p ≡ 1 → ⊥) → (p ≡ 2 → ⊥) → loss_in p ε x ≡ zeroth
+unfolding loss_in
 no-loss zero ε x a b c = absurd (a refl)
 no-loss (suc zero) ε x a b c = absurd (b refl)
 no-loss (suc (suc zero)) ε x a b c = absurd (c refl)
@@ -30,15 +30,15 @@ cut-square-requires : tie.Need-cut-square-requires
 cut-square-requires c κs = search rules
 
 returns : tie.Need-returns
-unfolding lossIn
+unfolding loss_in
 returns c = let e : c.before.before.args.p ≡ 0 = c.before.match.keys1 in rw e c.over.ensures
 
 returns-2 : tie.Need-returns-2
-unfolding lossIn
+unfolding loss_in
 returns-2 c = let e : c.before.before.args.p ≡ 1 = c.before.match.keys2 in rw e c.smaller.ensures
 
 returns-3 : tie.Need-returns-3
-unfolding lossIn
+unfolding loss_in
 returns-3 c = let e : c.before.before.args.p ≡ 2 = c.before.match.keys3 in rw e c.cut-square.ensures
 
 returns-4 : tie.Need-returns-4

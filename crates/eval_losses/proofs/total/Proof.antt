@@ -4,7 +4,7 @@ use mathlib.Core.List.{List}
 use Prim.Native.Nat.{ℕ, ◌+◌, ◌<◌}
 use native.Mathlib.Omega.{arith}
 use lib.ListN.{get_or}
-use Rattle.eval_losses.proofs.Exact.{groups-small, groups-added, chunk-same}
+use Rattle.eval_losses.proofs.Exact.{groups_small, groups_added, chunk_same}
 use borrow.Author.Rules.{rules}
 use Rattle.eval_losses.proofs.total.Statement.{statement}
 use Rattle.eval_losses.proofs.total.Tie as tie
@@ -15,7 +15,7 @@ use Rattle.eval_losses.proofs.lose.Reads as lose-reads
 
 module _ (c : tie.After-group-sums) where
   small : (i : ℕ) → get_or c.group-sums.result i 0 < 9007199254740992
-  small i = subst (λ (l : List ℕ). get_or l i 0 < 9007199254740992) (sym c.group-sums.ensures) (groups-small _ i)
+  small i = subst (λ (l : List ℕ). get_or l i 0 < 9007199254740992) (sym c.group-sums.ensures) (groups_small _ i)
 
 lose-requires : tie.Need-lose-requires
 lose-requires c κs = search rules
@@ -50,7 +50,7 @@ returns c =
       lost,
       (
         ap (λ (l : List ℕ). get_or l 0 0 + get_or l 1 0 + (get_or l 2 0 + get_or l 3 0)) c.group-sums.ensures
-            ∙ groups-added _ ∙ chunk-same _ _ lost,
+            ∙ groups_added _ ∙ chunk_same _ _ lost,
         omega (arith, small c 0, small c 1, small c 2, small c 3),
       ),
     )

@@ -3,7 +3,7 @@
 use Prim.Native.Nat.{◌-◌, min}
 use native.Mathlib.Omega.{arith}
 use borrow.Author.Rules.{rules}
-use Rattle.eval_selection.proofs.Order.{Bracketed, whole-range, raised, lowered, found}
+use Rattle.eval_selection.proofs.Order.{Bracketed, whole_range, raised, lowered, found}
 use Rattle.eval_selection.proofs.guessed.Statement.{statement}
 use Rattle.eval_selection.proofs.guessed.Tie as tie
 use Rattle.eval_selection.proofs.guessed.Reads as reads
@@ -28,7 +28,7 @@ start-requires : tie.Need-start-requires invariant-loop decreases-loop
 start-requires c κs = search rules
 
 loop-holds : tie.Need-loop-init invariant-loop decreases-loop
-loop-holds c = whole-range _ _ c.before.least.ensures
+loop-holds c = whole_range _ _ c.before.least.ensures
 
 planned-requires : tie.Need-planned-requires invariant-loop decreases-loop
 planned-requires c κs =

@@ -3,11 +3,11 @@ use Prim.Native.Nat.{◌-◌}
 use native.Mathlib.Omega.{arith}
 use lib.ListN.{length}
 use lib.Ieee.{Float}
-use Rattle.eval_whole.specs.Whole.{smallerOf, sized}
+use Rattle.eval_whole.specs.Whole.{smaller_of, sized}
 use Rattle.eval_lanes.specs.Lanes.{lane, four, taken}
 use Rattle.eval_lanes.specs.Inside.{Filled}
-use Rattle.eval_lanes.proofs.Filling.{none_filled, one-filled, all-filled}
-use Rattle.eval_sizes.specs.Sizes.{sizeIn}
+use Rattle.eval_lanes.proofs.Filling.{none_filled, one_filled, all_filled}
+use Rattle.eval_sizes.specs.Sizes.{size_in}
 use borrow.Author.Rules.{rules}
 use Rattle.eval_sizes.proofs.at_line.Statement.{statement}
 use Rattle.eval_sizes.proofs.at_line.Tie as tie
@@ -18,7 +18,7 @@ use Rattle.eval_sizes.proofs.least_of.Reads as least-of-reads
 use Rattle.eval_sizes.proofs.residual.Reads as residual-reads
 
 abbrev invariant-loop : tie.invariant-loop
-invariant-loop least₀ s d w1 w2 w3 w4 i₀ least i = Filled 0 (λ k m r. r ≡ smallerOf m (sizeIn s (four w1 w2 w3 w4) (taken d) k)) least₀ i least
+invariant-loop least₀ s d w1 w2 w3 w4 i₀ least i = Filled 0 (λ k m r. r ≡ smaller_of m (size_in s (four w1 w2 w3 w4) (taken d) k)) least₀ i least
 
 abbrev decreases-loop : tie.decreases-loop
 decreases-loop least₀ s d w1 w2 w3 w4 i₀ least i = 80 - i
@@ -102,12 +102,12 @@ loop-again : tie.Need-loop-preserved invariant-loop decreases-loop
 loop-again c =
     let p = c.before.before.before.before.before.before.before.before.before in
     let n : length p.before.before.before.args.least.now ≡ 80 = p.before.known.ensures in
-    one-filled _ p.loop.invariant (omega (arith, c.before.before.before.before.before.before.before.before.loop-test.true))
-    (c.least-of.ensures ∙ ap (λ (e : Float). smallerOf (lane p.loop.least p.loop.i) (sized e))
+    one_filled _ p.loop.invariant (omega (arith, c.before.before.before.before.before.before.before.before.loop-test.true))
+    (c.least-of.ensures ∙ ap (λ (e : Float). smaller_of (lane p.loop.least p.loop.i) (sized e))
     c.before.before.residual.ensures)
 
 returns : tie.Need-returns invariant-loop decreases-loop
-returns c = all-filled c.before.loop.invariant c.loop-test.false
+returns c = all_filled c.before.loop.invariant c.loop-test.false
 
 pub at-line-spec : {M : Type 1} → statement M
 at-line-spec =

@@ -1,5 +1,5 @@
 use mathlib.Core.Path.{ap, ◌∙◌}
-use Rattle.eval_whole.specs.Whole.{smallerOf}
+use Rattle.eval_whole.specs.Whole.{smaller_of}
 use borrow.Author.Rules.{rules}
 use Rattle.eval_sizes.proofs.least_of.Statement.{statement}
 use Rattle.eval_sizes.proofs.least_of.Tie as tie
@@ -15,7 +15,7 @@ smaller-requires : tie.Need-smaller-requires
 smaller-requires c κs = search rules
 
 returns : tie.Need-returns
-returns c = c.smaller.ensures ∙ ap (smallerOf c.before.before.args.m) c.before.larger.ensures
+returns c = c.smaller.ensures ∙ ap (smaller_of c.before.before.args.m) c.before.larger.ensures
 
 pub least-of-spec : {M : Type 1} → statement M
 least-of-spec = tie.close (tie.spec larger-requires smaller-requires returns)

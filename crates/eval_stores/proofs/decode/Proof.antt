@@ -2,8 +2,8 @@
 use mathlib.Core.Path.{◌≡◌}
 use Prim.Native.Nat.{◌-◌, ◌≤◌}
 use native.Mathlib.Omega.{arith}
-use Rattle.eval_columns.specs.Columns.{decodedChunks}
-use Rattle.eval_stores.proofs.Through.{Through, none-through, one-through}
+use Rattle.eval_columns.specs.Columns.{decoded_chunks}
+use Rattle.eval_stores.proofs.Through.{Through, none_through, one_through}
 use borrow.Author.Rules.{rules}
 use Rattle.eval_stores.proofs.decode.Statement.{statement}
 use Rattle.eval_stores.proofs.decode.Tie as tie
@@ -13,7 +13,7 @@ use Rattle.eval_columns.proofs.decode_chunk.Reads as decode-chunk-reads
 use Rattle.eval_columns.proofs.chunk_count.Reads as chunk-count-reads
 
 abbrev invariant-loop : tie.invariant-loop
-invariant-loop lanes₀ store d power t₀ t-end lanes t = Through store d power lanes₀ t lanes × (t ≤ t-end) × (t-end ≡ decodedChunks store lanes₀)
+invariant-loop lanes₀ store d power t₀ t-end lanes t = Through store d power lanes₀ t lanes × (t ≤ t-end) × (t-end ≡ decoded_chunks store lanes₀)
 
 abbrev decreases-loop : tie.decreases-loop
 decreases-loop lanes₀ store d power t₀ t-end lanes t = t-end - t
@@ -22,7 +22,7 @@ chunk-count-requires : tie.Need-chunk-count-requires invariant-loop decreases-lo
 chunk-count-requires c κs = search rules
 
 loop-holds : tie.Need-loop-init invariant-loop decreases-loop
-loop-holds c = (none-through _ _ _ _, omega arith, c.chunk_count.ensures)
+loop-holds c = (none_through _ _ _ _, omega arith, c.chunk_count.ensures)
 
 mul-decode-chunk : tie.Need-overflow-mul-decode-chunk invariant-loop decreases-loop
 mul-decode-chunk c = search rules
@@ -48,7 +48,7 @@ loop-again c =
     let v = p.loop.invariant in
     let i = c.before.before.loop-test.true in
     let new = c.decode-chunk.ensures in
-    (one-through _ _ _ _ c.decode-chunk.new.0 (omega (arith, i, v.2)) new.0 new.1 v.0, omega arith, v.2)
+    (one_through _ _ _ _ c.decode-chunk.new.0 (omega (arith, i, v.2)) new.0 new.1 v.0, omega arith, v.2)
 
 same_length : tie.Need-same-length invariant-loop decreases-loop
 same_length c = c.before.loop.invariant.0.long
@@ -57,7 +57,7 @@ returns : tie.Need-returns invariant-loop decreases-loop
 returns c =
     let a = c.before.before.before.before.args in
     let v = c.before.loop.invariant in
-    let e : c.before.loop.t ≡ decodedChunks a.store.now a.lanes.now = omega (arith, v.1, v.2, c.loop-test.false) in
+    let e : c.before.loop.t ≡ decoded_chunks a.store.now a.lanes.now = omega (arith, v.1, v.2, c.loop-test.false) in
     record { here = λ t h. v.0.here t (omega arith); columns = v.0.columns; rest = λ t h. v.0.rest t (omega arith) }
 
 pub decode-spec : {M : Type 1} → statement M

@@ -6,7 +6,7 @@ use lib.Dec.{T}
 use lib.Ieee.{Float, binary64, is_nan, to_bits}
 use borrow.Author.Rules.{rules}
 use Rattle.eval_whole.specs.Whole.{counted}
-use Rattle.eval_whole.proofs.Counting.{larger-number}
+use Rattle.eval_whole.proofs.Counting.{larger_number}
 use Rattle.eval_whole.proofs.count.Statement.{statement}
 use Rattle.eval_whole.proofs.count.Tie as tie
 
@@ -14,7 +14,7 @@ larger-requires : tie.Need-larger-requires
 larger-requires c κs = search rules
 
 float-to-bits-result : tie.Need-float-to-bits-result
-float-to-bits-result c = subst (λ (x : Float). T (not (is_nan x))) (sym c.larger.ensures) (larger-number _)
+float-to-bits-result c = subst (λ (x : Float). T (not (is_nan x))) (sym c.larger.ensures) (larger_number _)
 
 returns : tie.Need-returns
 unfolding counted

@@ -9,7 +9,7 @@ use lib.Signed.{lt_z, non_neg}
 use mir.Facts.{to_z-of_z, Fits-nat_abs}
 use mir.Syntax.{w16}
 use mir.Val.{SFits, to_z, of_z}
-use Rattle.integers.proofs.Parts.{from_parts, sub_parts, pos-up, pos-dn, negsuc-up, negsuc-dn, ltZ-true, not_negative}
+use Rattle.integers.proofs.Parts.{from_parts, sub_parts, pos_up, pos_dn, negsuc_up, negsuc_dn, lt_z_true, not_negative}
 use Rattle.fields.proofs.bits16.Statement.{statement}
 use Rattle.fields.proofs.bits16.Tie as tie
 
@@ -17,7 +17,7 @@ use Rattle.fields.proofs.bits16.Tie as tie
 minus_one : (m : ℕ) → negsuc 0 -ℤ negsuc m ≡ pos m
 minus_one m =
     from_parts (negsuc 0 -ℤ negsuc m) (pos m)
-    (omega (arith, sub_parts (negsuc 0) (negsuc m), negsuc-up 0, negsuc-dn 0, negsuc-up m, negsuc-dn m, pos-up m, pos-dn m))
+    (omega (arith, sub_parts (negsuc 0) (negsuc m), negsuc_up 0, negsuc_dn 0, negsuc_up m, negsuc_dn m, pos_up m, pos_dn m))
 
 record Negative (w : ℤ) : Type 0 where
   size : ℕ
@@ -25,30 +25,30 @@ record Negative (w : ℤ) : Type 0 where
   small : size < 2 ^ 15
 
 negative : (w : ℤ) → SFits w16 w → lt_z w (pos 0) ≡ true → Negative w
-negative (pos n) f e = absurd (omega (arith, ltZ-true (pos n) (pos 0) e, pos-up n, pos-dn n, pos-up 0, pos-dn 0))
+negative (pos n) f e = absurd (omega (arith, lt_z_true (pos n) (pos 0) e, pos_up n, pos_dn n, pos_up 0, pos_dn 0))
 negative (negsuc m) f e = record { size = m; is = refl; small = f.sfits }
 
 module _ (c : tie.Then1) where
-  below-zero : Negative c.before.args.w
-  below-zero = negative c.before.args.w c.before.ranges.w (rw (to_z-of_z c.before.ranges.w) at c.if1.true)
+  below_zero : Negative c.before.args.w
+  below_zero = negative c.before.args.w c.before.ranges.w (rw (to_z-of_z c.before.ranges.w) at c.if1.true)
 
-  flipped : negsuc 0 -ℤ to_z w16 (of_z w16 c.before.args.w) ≡ pos below-zero.size
-  flipped = ap (λ (z : ℤ). negsuc 0 -ℤ z) (to_z-of_z c.before.ranges.w ∙ below-zero.is) ∙ minus_one below-zero.size
+  flipped : negsuc 0 -ℤ to_z w16 (of_z w16 c.before.args.w) ≡ pos below_zero.size
+  flipped = ap (λ (z : ℤ). negsuc 0 -ℤ z) (to_z-of_z c.before.ranges.w ∙ below_zero.is) ∙ minus_one below_zero.size
 
   fits : SFits w16 (negsuc 0 -ℤ to_z w16 (of_z w16 c.before.args.w))
-  fits = rw flipped (record { sfits = below-zero.small })
+  fits = rw flipped (record { sfits = below_zero.small })
 
-  back : to_z w16 (of_z w16 (negsuc 0 -ℤ to_z w16 (of_z w16 c.before.args.w))) ≡ pos below-zero.size
+  back : to_z w16 (of_z w16 (negsuc 0 -ℤ to_z w16 (of_z w16 c.before.args.w))) ≡ pos below_zero.size
   back = to_z-of_z fits ∙ flipped
 
 sub-result : tie.Need-overflow-sub-result
 sub-result c = fits c
 
 cast-result : tie.Need-overflow-cast-result
-cast-result c = rw (back c) (tt, record { fits = omega (arith, (below-zero c).small) })
+cast-result c = rw (back c) (tt, record { fits = omega (arith, (below_zero c).small) })
 
 sub-result-2 : tie.Need-overflow-sub-result-2
-sub-result-2 c = rw (back c) (omega (arith, (below-zero c).small))
+sub-result-2 c = rw (back c) (omega (arith, (below_zero c).small))
 
 cast-result-2 : tie.Need-overflow-cast-result-2
 cast-result-2 c =
@@ -57,9 +57,9 @@ cast-result-2 c =
 
 returns : tie.Need-returns
 returns c =
-    let m = (below-zero c).size in
+    let m = (below_zero c).size in
     let e : 65535 - m ≡ 2 ^ 16 - suc m = omega arith in
-    rw (back c) (e ∙ ap (of_z w16) (sym (below-zero c).is))
+    rw (back c) (e ∙ ap (of_z w16) (sym (below_zero c).is))
 
 at-least-zero : (w : ℤ) → T (non_neg w) → nat_abs w ≡ of_z w16 w
 at-least-zero (pos n) h = refl

@@ -6,36 +6,36 @@ use native.Mathlib.Nat.{sub-zero, div-one, div-div-eq-div-mul, pow-suc}
 use native.Mathlib.Omega.{arith}
 use lib.ListN.{length, take, set, length-append}
 use lib.Seq.{take-length, length-take-le}
-use Rattle.fields.specs.Fields.{bigEndian}
-use Rattle.fields.proofs.BigEndian.{length-bigEndian}
+use Rattle.fields.specs.Fields.{big_endian}
+use Rattle.fields.proofs.BigEndian.{length_big_endian}
 use Rattle.fields.proofs.Parts.{set_before}
 use Rattle.fields.proofs.fill_number.Statement.{statement}
 use Rattle.fields.proofs.fill_number.Tie as tie
 
-kept-long : (part : List ℕ) (i x : ℕ) → i ≤ length part → length (take i part ++ bigEndian (length part - i) x) ≡ length part
+kept-long : (part : List ℕ) (i x : ℕ) → i ≤ length part → length (take i part ++ big_endian (length part - i) x) ≡ length part
 kept-long part i x h =
     omega (
       arith,
-      length-append (take i part) (bigEndian (length part - i) x),
+      length-append (take i part) (big_endian (length part - i) x),
       length-take-le i part h,
-      length-bigEndian (length part - i)
+      length_big_endian (length part - i)
           x,
     )
 
 byte_more : (part : List ℕ) (j k x : ℕ) → j < length part
-    → set (take (suc j) part ++ bigEndian k x) j (x / 256 ^ k % 256) ≡ take j part ++ bigEndian (suc k) x
-unfolding bigEndian
-byte_more part j k x h = set_before part (bigEndian k x) j (x / 256 ^ k % 256) h
+    → set (take (suc j) part ++ big_endian k x) j (x / 256 ^ k % 256) ≡ take j part ++ big_endian (suc k) x
+unfolding big_endian
+byte_more part j k x h = set_before part (big_endian k x) j (x / 256 ^ k % 256) h
 
 abbrev invariant-loop : tie.invariant-loop
 invariant-loop part₀ x rest₀ i₀ part rest i =
-    (i ≤ length part₀) × (part ≡ take i part₀ ++ bigEndian (length part₀ - i) x) × (rest ≡ x / 256 ^ (length part₀ - i))
+    (i ≤ length part₀) × (part ≡ take i part₀ ++ big_endian (length part₀ - i) x) × (rest ≡ x / 256 ^ (length part₀ - i))
 
 abbrev decreases-loop : tie.decreases-loop
 decreases-loop part₀ x rest₀ i₀ part rest i = i
 
 loop-holds : tie.Need-loop-init invariant-loop decreases-loop
-unfolding bigEndian
+unfolding big_endian
 loop-holds c = let part = c.args.part.now in
     let none : length part - length part ≡ 0 = omega arith in
     (omega arith, rw (none, take-length part) (sym (append-nil part)), rw none (sym (div-one c.args.x)))
@@ -64,7 +64,7 @@ loop-again c = let p = c.before in
     let more : length part - j ≡ suc k = omega arith in (
       omega arith,
       rw (more, p.loop.invariant.2, p.loop.invariant.1)
-          (ap (λ (n : ℕ). set (take n part ++ bigEndian k a.x) j (a.x / 256 ^ k % 256)) next ∙ byte_more part j k a.x (omega arith)),
+          (ap (λ (n : ℕ). set (take n part ++ big_endian k a.x) j (a.x / 256 ^ k % 256)) next ∙ byte_more part j k a.x (omega arith)),
       rw (more, p.loop.invariant.2, div-div-eq-div-mul, pow-suc),
     )
 

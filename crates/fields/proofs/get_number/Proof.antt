@@ -9,21 +9,21 @@ use borrow.Author.Tests.{le-leb, lt-leb}
 use lib.Arith.{digits_lt}
 use lib.ListN.{drop, length-drop, length, take, get_or}
 use lib.Seq.{get_or-drop, take-suc}
-use Rattle.fields.specs.Fields.{fromBigEndian, number_in}
-use Rattle.fields.proofs.BigEndian.{from-snoc, power-positive, number-inside}
-use Rattle.fields.proofs.Parts.{not-inside, lies-inside}
+use Rattle.fields.specs.Fields.{from_big_endian, number_in}
+use Rattle.fields.proofs.BigEndian.{from_snoc, power_positive, number_inside}
+use Rattle.fields.proofs.Parts.{not_inside, lies_inside}
 use Rattle.fields.proofs.get_number.Statement.{statement}
 use Rattle.fields.proofs.get_number.Tie as tie
 
 abbrev invariant-loop : tie.invariant-loop
-invariant-loop bytes at k x₀ i₀ x i = (at + k ≤ length bytes) × (i ≤ k) × (x ≡ fromBigEndian (take i (drop at bytes))) × (x < 256 ^ i)
+invariant-loop bytes at k x₀ i₀ x i = (at + k ≤ length bytes) × (i ≤ k) × (x ≡ from_big_endian (take i (drop at bytes))) × (x < 256 ^ i)
 
 abbrev decreases-loop : tie.decreases-loop
 decreases-loop bytes at k x₀ i₀ x i = k - i
 
 returns : tie.Need-returns invariant-loop decreases-loop
 unfolding number_in
-returns c = (simp (lt-leb _ _ c.if1.true), power-positive _)
+returns c = (simp (lt-leb _ _ c.if1.true), power_positive _)
 
 outside-requires : tie.Need-outside-requires invariant-loop decreases-loop
 outside-requires c κs = search rules
@@ -32,14 +32,14 @@ returns-2 : tie.Need-returns-2 invariant-loop decreases-loop
 unfolding number_in
 returns-2 c =
     let a = c.before.before.before.before.args in
-    let short = not-inside a.bytes.now a.at a.k c.before.outside.ensures c.if2.true in
-    (simp (le-leb _ _ c.before.before.if1.false, short), power-positive _)
+    let short = not_inside a.bytes.now a.at a.k c.before.outside.ensures c.if2.true in
+    (simp (le-leb _ _ c.before.before.if1.false, short), power_positive _)
 
 loop-holds : tie.Need-loop-init invariant-loop decreases-loop
-unfolding fromBigEndian
+unfolding from_big_endian
 loop-holds c =
     let a = c.before.before.before.before.args in
-    (lies-inside a.bytes.now a.at a.k c.before.outside.ensures c.if2.false, omega arith, refl, omega arith)
+    (lies_inside a.bytes.now a.at a.k c.before.outside.ensures c.if2.false, omega arith, refl, omega arith)
 
 mul-x : tie.Need-overflow-mul-x invariant-loop decreases-loop
 mul-x c = record { fits = omega (arith, pow-le-pow_right {n = 256} (omega arith) {i = c.before.loop.i} {j = 7} (omega arith)) }
@@ -73,7 +73,7 @@ loop-again c = let p = c.before.before.before in
     let byte : b.result ≡ get_or rest i 0 = b.ensures.0 ∙ sym (get_or-drop a.at a.bytes.now i 0) in (
       omega arith,
       omega arith,
-      rw (add-one, take-suc rest i 0 inside) ((λ k. p.loop.invariant.2 k * 256 + byte k) ∙ sym (from-snoc (take i rest) (get_or rest i 0))),
+      rw (add-one, take-suc rest i 0 inside) ((λ k. p.loop.invariant.2 k * 256 + byte k) ∙ sym (from_snoc (take i rest) (get_or rest i 0))),
       rw (add-one, pow-suc) (digits_lt p.loop.invariant.3 b.ensures.1),
     )
 
@@ -83,7 +83,7 @@ returns-3 c =
     let a = p.before.before.before.before.before.args in
     let all : p.loop.i ≡ a.k = omega arith in
     let read = rw all at p.loop.invariant.2 in
-    (read ∙ sym (number-inside a.bytes.now a.at a.k (omega arith) (omega arith)), rw (← all) p.loop.invariant.3)
+    (read ∙ sym (number_inside a.bytes.now a.at a.k (omega arith) (omega arith)), rw (← all) p.loop.invariant.3)
 
 pub get-number-spec : {M : Type 1} → statement M
 get-number-spec =

@@ -11,9 +11,9 @@ use lib.Seq.{take_all}
 use mir.Facts.{to_z-of_z}
 use mir.Syntax.{w16}
 use mir.Val.{of_z, to_z}
-use Rattle.fields.specs.Fields.{vectorAt, vectorIn}
-use Rattle.fields.proofs.Parts.{element-more, not-inside, lies-inside}
-use Rattle.fields.proofs.Vectors.{vector-eight, coordinate-of, vector-inside}
+use Rattle.fields.specs.Fields.{vector_at, vector_in}
+use Rattle.fields.proofs.Parts.{element_more, not_inside, lies_inside}
+use Rattle.fields.proofs.Vectors.{vector_eight, coordinate_of_lem, vector_inside}
 use Rattle.fields.proofs.get_vector.Statement.{statement}
 use Rattle.fields.proofs.get_vector.Tie as tie
 
@@ -22,7 +22,7 @@ zeros = replicate 8 (pos 0)
 
 abbrev invariant-loop : tie.invariant-loop
 invariant-loop bytes at v₀ k₀ v k =
-    (at + 16 ≤ length bytes) × (v ≡ take k (vectorAt bytes at) ++ drop k v₀) × (k ≤ 8) × (length v ≡ 8) × (length v₀ ≡ 8)
+    (at + 16 ≤ length bytes) × (v ≡ take k (vector_at bytes at) ++ drop k v₀) × (k ≤ 8) × (length v ≡ 8) × (length v₀ ≡ 8)
 
 abbrev decreases-loop : tie.decreases-loop
 decreases-loop bytes at v₀ k₀ v k = 8 - k
@@ -31,15 +31,15 @@ outside-requires : tie.Need-outside-requires invariant-loop decreases-loop
 outside-requires c κs = search rules
 
 returns : tie.Need-returns invariant-loop decreases-loop
-unfolding vectorIn
+unfolding vector_in
 returns c =
     let a = c.before.before.before.args in
-    simp (not-inside a.bytes.now a.at 16 c.before.outside.ensures c.if1.true)
+    simp (not_inside a.bytes.now a.at 16 c.before.outside.ensures c.if1.true)
 
 loop-holds : tie.Need-loop-init invariant-loop decreases-loop
 loop-holds c =
     let a = c.before.before.before.args in
-    (lies-inside a.bytes.now a.at 16 c.before.outside.ensures c.if1.false, refl, omega arith, refl, refl)
+    (lies_inside a.bytes.now a.at 16 c.before.outside.ensures c.if1.false, refl, omega arith, refl, refl)
 
 mul-high : tie.Need-overflow-mul-high invariant-loop decreases-loop
 mul-high c = omega arith
@@ -81,24 +81,24 @@ loop-again : tie.Need-loop-preserved invariant-loop decreases-loop
 loop-again c = let p = c.before.before.before.before in
     let k = p.loop.k in
     let a = p.before.before.before.before.args in
-    let vector = vectorAt a.bytes.now a.at in
+    let vector = vector_at a.bytes.now a.at in
     let w = c.signed16 in
     let read : to_z w16 (of_z w16 w.result) ≡ get_or vector k (pos 0) =
-    to_z-of_z (record { sfits = w.type-inv }) ∙ w.ensures ∙ sym (coordinate-of a.bytes.now a.at k (omega arith) (omega arith))
+    to_z-of_z (record { sfits = w.type-inv }) ∙ w.ensures ∙ sym (coordinate_of_lem a.bytes.now a.at k (omega arith) (omega arith))
     in
-    let more = element-more zeros vector k (pos 0) (omega arith) (omega (arith, vector-eight a.bytes.now a.at (omega arith))) in
+    let more = element_more zeros vector k (pos 0) (omega arith) (omega (arith, vector_eight a.bytes.now a.at (omega arith))) in
     (omega arith, rw (read, p.loop.invariant.1, add-one) more, omega arith, simp length-set p.loop.invariant.3, refl)
 
 returns-2 : tie.Need-returns-2 invariant-loop decreases-loop
 returns-2 c =
     let p = c.before in
     let a = p.before.before.before.before.args in
-    let vector = vectorAt a.bytes.now a.at in
+    let vector = vector_at a.bytes.now a.at in
     let full : p.loop.k ≡ 8 = omega arith in
     (rw full at p.loop.invariant.1)
     ∙ append-nil (take 8 vector)
-    ∙ take_all 8 vector (omega (arith, vector-eight a.bytes.now a.at (omega arith)))
-    ∙ sym (vector-inside a.bytes.now a.at (omega arith))
+    ∙ take_all 8 vector (omega (arith, vector_eight a.bytes.now a.at (omega arith)))
+    ∙ sym (vector_inside a.bytes.now a.at (omega arith))
 
 pub get-vector-spec : {M : Type 1} → statement M
 get-vector-spec =

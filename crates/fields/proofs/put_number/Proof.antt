@@ -5,9 +5,9 @@ use native.Mathlib.Omega.{arith}
 use borrow.Author.Rules.{rules}
 use borrow.Author.Tests.{le-leb}
 use lib.ListN.{length}
-use Rattle.fields.specs.Fields.{bigEndian, withField}
-use Rattle.fields.proofs.BigEndian.{length-bigEndian}
-use Rattle.fields.proofs.Parts.{lent-size, not-inside, lies-inside}
+use Rattle.fields.specs.Fields.{big_endian, with_field}
+use Rattle.fields.proofs.BigEndian.{length_big_endian}
+use Rattle.fields.proofs.Parts.{lent_size, not_inside, lies_inside}
 use Rattle.fields.proofs.put_number.Statement.{statement}
 use Rattle.fields.proofs.put_number.Tie as tie
 
@@ -15,15 +15,15 @@ outside-requires : tie.Need-outside-requires
 outside-requires c κs = search rules
 
 returns : tie.Need-returns
-unfolding withField
+unfolding with_field
 returns c =
     let a = c.before.before.before.args in
-    simp (length-bigEndian, not-inside a.bytes.now a.at a.k c.before.outside.ensures c.if1.true)
+    simp (length_big_endian, not_inside a.bytes.now a.at a.k c.before.outside.ensures c.if1.true)
 
 lies-there : (c : tie.Else1) → let a = c.before.before.before.args in a.at + a.k ≤ length a.bytes.now
 lies-there c =
     let a = c.before.before.before.args in
-    lies-inside a.bytes.now a.at a.k c.before.outside.ensures c.if1.false
+    lies_inside a.bytes.now a.at a.k c.before.outside.ensures c.if1.false
 
 add-fill-number : tie.Need-overflow-add-fill-number
 add-fill-number c = omega (arith, lies-there c)
@@ -44,14 +44,14 @@ same_length : tie.Need-same-length
 same_length c = search rules
 
 returns-2 : tie.Need-returns-2
-unfolding withField
+unfolding with_field
 returns-2 c =
     let fill = c.before.before in
     let a = fill.before.before.before.before.before.args in
     let h = lies-there fill.before.before in
     let whole : (a.at + a.k) - a.at ≡ a.k = omega arith in
-    let filled = fill.fill-number.ensures ∙ ap (λ (n : ℕ). bigEndian n a.x) (lent-size a.bytes.now a.at a.k h) in
-    rw (length-bigEndian a.k a.x, le-leb _ _ h, filled, whole)
+    let filled = fill.fill-number.ensures ∙ ap (λ (n : ℕ). big_endian n a.x) (lent_size a.bytes.now a.at a.k h) in
+    rw (length_big_endian a.k a.x, le-leb _ _ h, filled, whole)
 
 pub put-number-spec : {M : Type 1} → statement M
 put-number-spec =

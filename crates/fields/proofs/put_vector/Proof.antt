@@ -13,10 +13,10 @@ use lib.Seq.{take-suc, take_all, drop-drop, length-take-le}
 use mir.Facts.{to_z-of_z}
 use mir.Syntax.{w16}
 use mir.Val.{of_z}
-use Rattle.fields.specs.Fields.{bigEndian, vectorBytes, withField}
-use Rattle.fields.proofs.Parts.{not-inside, lies-inside}
-use Rattle.fields.proofs.Storing.{Stored, number-then}
-use Rattle.fields.proofs.Vectors.{vector-long, coordinate-more}
+use Rattle.fields.specs.Fields.{big_endian, vector_bytes, with_field}
+use Rattle.fields.proofs.Parts.{not_inside, lies_inside}
+use Rattle.fields.proofs.Storing.{Stored, number_then}
+use Rattle.fields.proofs.Vectors.{vector_long, coordinate_more}
 use Rattle.fields.proofs.put_vector.Statement.{statement}
 use Rattle.fields.proofs.put_vector.Tie as tie
 
@@ -30,24 +30,24 @@ begun t at h = record {
 coordinate-stored :
     (v : List ℤ) (p t b : List ℕ) (n k : ℕ) →
     k < length v →
-    Stored ((p ++ vectorBytes (take k v)) ++ bigEndian 2 (of_z w16 (get_or v k (pos 0)))) (n + 2 * k + 2) t b →
-    Stored (p ++ vectorBytes (take (k + 1) v)) (n + 2 * (k + 1)) t b
+    Stored ((p ++ vector_bytes (take k v)) ++ big_endian 2 (of_z w16 (get_or v k (pos 0)))) (n + 2 * k + 2) t b →
+    Stored (p ++ vector_bytes (take (k + 1) v)) (n + 2 * (k + 1)) t b
 coordinate-stored v p t b n k inside s =
     let next : n + 2 * (k + 1) ≡ n + 2 * k + 2 = omega arith in
     rw (
       next,
       add-one,
       take-suc v k (pos 0) inside,
-      coordinate-more,
-      ← append_assoc p (vectorBytes (take k v))
-          (bigEndian 2 (of_z w16 (get_or v k (pos 0)))),
+      coordinate_more,
+      ← append_assoc p (vector_bytes (take k v))
+          (big_endian 2 (of_z w16 (get_or v k (pos 0)))),
     ) s
 
 abbrev invariant-loop : tie.invariant-loop
 invariant-loop bytes₀ at v k₀ bytes k =
     (at + 16 ≤ length bytes₀)
     × (k ≤ 8)
-    × Stored (take at bytes₀ ++ vectorBytes (take k v)) (at + 2 * k) bytes₀ bytes × (length bytes ≡ length bytes₀)
+    × Stored (take at bytes₀ ++ vector_bytes (take k v)) (at + 2 * k) bytes₀ bytes × (length bytes ≡ length bytes₀)
 
 abbrev decreases-loop : tie.decreases-loop
 decreases-loop bytes₀ at v k₀ bytes k = 8 - k
@@ -56,16 +56,16 @@ outside-requires : tie.Need-outside-requires invariant-loop decreases-loop
 outside-requires c κs = search rules
 
 returns : tie.Need-returns invariant-loop decreases-loop
-unfolding withField
+unfolding with_field
 returns c =
     let a = c.before.before.before.args in
-    rw (vector-long a.t3 (search rules), not-inside a.bytes.now a.at 16 c.before.outside.ensures c.if1.true)
+    rw (vector_long a.t3 (search rules), not_inside a.bytes.now a.at 16 c.before.outside.ensures c.if1.true)
 
 loop-holds : tie.Need-loop-init invariant-loop decreases-loop
-unfolding vectorBytes
+unfolding vector_bytes
 loop-holds c =
     let a = c.before.before.before.args in
-    let h = lies-inside a.bytes.now a.at 16 c.before.outside.ensures c.if1.false in
+    let h = lies_inside a.bytes.now a.at 16 c.before.outside.ensures c.if1.false in
     (h, omega arith, begun a.bytes.now a.at (omega arith), refl)
 
 mul-put-number : tie.Need-overflow-mul-put-number invariant-loop decreases-loop
@@ -102,7 +102,7 @@ loop-again c =
     let eight : length v ≡ 8 = search rules in
     let read = to_z-of_z {w = w16} {z = get_or v k (pos 0)} (record { sfits = put.before.before.bits16-arg.given }) in
     let bits = put.before.bits16.ensures ∙ ap (of_z w16) read in
-    let stored = number-then p.loop.invariant.2 2 (of_z w16 (get_or v k (pos 0))) (omega arith) (rw bits at put.put-number.ensures) in
+    let stored = number_then p.loop.invariant.2 2 (of_z w16 (get_or v k (pos 0))) (omega arith) (rw bits at put.put-number.ensures) in
     let t = a.bytes.now in
     let more = coordinate-stored v (take a.at t) t put.put-number.new.0 a.at k (omega arith) stored in
     (omega arith, omega arith, more, omega arith)
@@ -111,7 +111,7 @@ same_length : tie.Need-same-length invariant-loop decreases-loop
 same_length c = omega arith
 
 returns-2 : tie.Need-returns-2 invariant-loop decreases-loop
-unfolding withField
+unfolding with_field
 returns-2 c =
     let p = c.before in
     let a = p.before.before.before.before.args in
@@ -119,8 +119,8 @@ returns-2 c =
     let full : p.loop.k ≡ 8 = omega arith in
     let eight : length a.t3 ≡ 8 = search rules in
     let placed = rw (full, take_all 8 a.t3 (omega arith)) at p.loop.invariant.2.is in
-    let joined = append_assoc (take a.at t) (vectorBytes a.t3) (drop (a.at + 16) t) in
-    rw (vector-long a.t3 eight, le-leb _ _ p.loop.invariant.0) (placed ∙ rw (drop-drop 16 a.at t) joined)
+    let joined = append_assoc (take a.at t) (vector_bytes a.t3) (drop (a.at + 16) t) in
+    rw (vector_long a.t3 eight, le-leb _ _ p.loop.invariant.0) (placed ∙ rw (drop-drop 16 a.at t) joined)
 
 pub put-vector-spec : {M : Type 1} → statement M
 put-vector-spec =

@@ -7,7 +7,7 @@ use lib.IntN.{ℤ, pos, negsuc, ◌-ℤ◌}
 use mir.Syntax.{w16}
 use mir.Val.{to_z}
 use mir.Facts.{to_z-of_z, to_z_pos, to_z-neg}
-use Rattle.integers.proofs.Parts.{from_parts, sub_parts, pos-up, pos-dn, negsuc-up, negsuc-dn}
+use Rattle.integers.proofs.Parts.{from_parts, sub_parts, pos_up, pos_dn, negsuc_up, negsuc_dn}
 use Rattle.fields.proofs.signed16.Statement.{statement}
 use Rattle.fields.proofs.signed16.Tie as tie
 
@@ -15,7 +15,7 @@ use Rattle.fields.proofs.signed16.Tie as tie
 minus_one : (m : ℕ) → negsuc 0 -ℤ pos m ≡ negsuc m
 minus_one m =
     from_parts (negsuc 0 -ℤ pos m) (negsuc m)
-    (omega (arith, sub_parts (negsuc 0) (pos m), pos-up m, pos-dn m, negsuc-up 0, negsuc-dn 0, negsuc-up m, negsuc-dn m))
+    (omega (arith, sub_parts (negsuc 0) (pos m), pos_up m, pos_dn m, negsuc_up 0, negsuc_dn 0, negsuc_up m, negsuc_dn m))
 
 module _ (n : ℕ) (h : 32768 ≤ n) (k : n < 65536) where
   negative : to_z w16 n ≡ negsuc (65535 - n)

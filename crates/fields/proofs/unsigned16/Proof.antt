@@ -1,7 +1,7 @@
 -- The two bytes add up.
 use native.Mathlib.Omega.{arith}
 use borrow.Author.Rules.{rules}
-use Rattle.fields.specs.Fields.{fromBigEndian}
+use Rattle.fields.specs.Fields.{from_big_endian}
 use Rattle.fields.proofs.unsigned16.Statement.{statement}
 use Rattle.fields.proofs.unsigned16.Tie as tie
 
@@ -18,7 +18,7 @@ add-result : tie.Need-overflow-add-result
 add-result c = search rules
 
 returns : tie.Need-returns
-unfolding fromBigEndian
+unfolding from_big_endian
 returns c = omega arith
 
 pub unsigned16-spec : {M : Type 1} → statement M

@@ -3,7 +3,7 @@ use mathlib.Core.Path.{sym}
 use Prim.Native.Nat.{◌≤◌}
 use lib.ListN.{length}
 use lib.Seq.{length-take-le}
-use Rattle.integers.proofs.Lists.{over-long}
+use Rattle.integers.proofs.Lists.{over_long}
 use borrow.Author.Rules.{rules}
 use Rattle.fit.proofs.main.Statement.{statement}
 use Rattle.fit.proofs.main.Tie as tie
@@ -51,7 +51,7 @@ report-requires : tie.Need-report-requires
 report-requires c κs = search rules
 
 short : (c : tie.After-report) → c.report.result ≤ length c.report.new.1.1.1.0
-short c = rw (c.report.ensures.0, c.report.ensures.1.0) (over-long _ _)
+short c = rw (c.report.ensures.0, c.report.ensures.1.0) (over_long _ _)
 
 array-share-prefix-line : tie.Need-array-share-prefix-line
 array-share-prefix-line c = short c.before.before.before

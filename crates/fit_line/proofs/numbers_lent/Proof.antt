@@ -2,7 +2,7 @@
 use mathlib.Core.Path.{refl}
 use borrow.Author.Tests.{le-leb, lt-leb}
 use borrow.Author.Rules.{rules}
-use Rattle.fit_line.specs.Inside.{numbersLent}
+use Rattle.fit_line.specs.Inside.{numbers_lent}
 use Rattle.fit_line.proofs.numbers_lent.Statement.{statement}
 use Rattle.fit_line.proofs.numbers_lent.Tie as tie
 
@@ -10,11 +10,11 @@ mul-result : tie.Need-overflow-mul-result
 mul-result c = search rules
 
 returns : tie.Need-returns
-unfolding numbersLent
+unfolding numbers_lent
 returns c = rw (le-leb c.before.args.rows 2048 c.if1.true) refl
 
 returns-2 : tie.Need-returns-2
-unfolding numbersLent
+unfolding numbers_lent
 returns-2 c = rw (lt-leb c.before.args.rows 2048 c.if1.false) refl
 
 pub numbers-lent-spec : {M : Type 1} → statement M

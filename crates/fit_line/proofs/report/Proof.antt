@@ -3,7 +3,7 @@ use mathlib.Core.Path.{refl}
 use native.Mathlib.Omega.{arith}
 use lib.ListN.{length}
 use borrow.Author.Tests.{le-leb, lt-leb}
-use Rattle.fit_line.proofs.Fitting.{nothing_lent, all-lent}
+use Rattle.fit_line.proofs.Fitting.{nothing_lent, all_lent}
 use borrow.Author.Rules.{rules}
 use Rattle.fit_line.proofs.report.Statement.{statement}
 use Rattle.fit_line.proofs.report.Tie as tie
@@ -50,7 +50,7 @@ returns-4 c =
     let w = c.before.before.before.before.before in
     let e = w.before.before.before.before in
     let a = e.before.before.before.before.before.before.args in
-    all-lent a.input.now a.table.now a.bounds.now a.out.now w.write-line.result _ _ _
+    all_lent a.input.now a.table.now a.bounds.now a.out.now w.write-line.result _ _ _
     (rw (
       le-leb 32768 (length a.table.now) e.before.before.if1.false,
       le-leb 2048 (length a.bounds.now) e.before.if2.false,

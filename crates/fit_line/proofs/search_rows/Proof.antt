@@ -4,7 +4,7 @@ use Prim.Native.Nat.{◌≤◌}
 use native.Mathlib.Omega.{arith}
 use lib.ListN.{length}
 use lib.Seq.{length-take-le}
-use Rattle.fit_line.proofs.Fitting.{lent-few, lent_back}
+use Rattle.fit_line.proofs.Fitting.{lent_few, lent_back}
 use borrow.Author.Rules.{rules}
 use Rattle.fit_line.proofs.search_rows.Statement.{statement}
 use Rattle.fit_line.proofs.search_rows.Tie as tie
@@ -15,7 +15,7 @@ numbers-lent-requires c κs = search rules
 few : (c : tie.After-numbers-lent) → c.numbers-lent.result ≤ length c.before.before.before.args.table.now
 few c =
     let s = c.before.before.before in
-    omega (arith, lent-few s.args.job.rows, c.numbers-lent.ensures, s.requires)
+    omega (arith, lent_few s.args.job.rows, c.numbers-lent.ensures, s.requires)
 
 slice-relend-prefix-search : tie.Need-slice-relend-prefix-search
 slice-relend-prefix-search c = few c

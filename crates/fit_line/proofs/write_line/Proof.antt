@@ -1,5 +1,5 @@
 -- The line of the search is that of the definition.
-use Rattle.fit_line.proofs.Fitting.{record-read, store-part, reported}
+use Rattle.fit_line.proofs.Fitting.{record_read, store_part, reported}
 use borrow.Author.Rules.{rules}
 use Rattle.fit_line.proofs.write_line.Statement.{statement}
 use Rattle.fit_line.proofs.write_line.Tie as tie
@@ -42,11 +42,11 @@ returns c =
     let r = start.before.before.before in
     let s = r.before.before.before.before in
     let a = s.args in
-    let found = rw (store-part a.input.now start.store-start.result start.store-start.ensures) at q.search-rows.ensures in
+    let found = rw (store_part a.input.now start.store-start.result start.store-start.ensures) at q.search-rows.ensures in
     reported a.input.now a.table.now a.bounds.now s.requires.0 s.requires.1 r.read-job.result.job q.search-rows.result
     q.search-rows.new.1.1.0 q.search-rows.new.1.1.1.0 found
     a.out.now w.line.new.1.1.0 w.line.result
-    (record-read a.input.now r.read-job.result r.read-job.ensures)
+    (record_read a.input.now r.read-job.result r.read-job.ensures)
     s.requires.2
     w.line.ensures
 

@@ -7,9 +7,9 @@ use Prim.Native.Nat.{◌%◌}
 use native.Mathlib.Omega.{arith}
 use lib.ListN.{length}
 use Rattle.codes.specs.declared.Check.TheVariants.{Pass}
-use Rattle.frames.specs.Frames.{framesOf, rising}
-use Rattle.frames.proofs.Checks.{lengths, lengths-refused, whole, first-falls, second-falls}
-use Rattle.frames.proofs.Checks.{clash-refused, union-over, union-counted}
+use Rattle.frames.specs.Frames.{frames_of, rising}
+use Rattle.frames.proofs.Checks.{lengths, lengths_refused, whole, first_falls, second_falls}
+use Rattle.frames.proofs.Checks.{clash_refused, union_over, union_counted}
 use Rattle.frames.proofs.check_both.Statement.{statement}
 use Rattle.frames.proofs.check_both.Tie as tie
 
@@ -36,7 +36,7 @@ returns : tie.Need-returns
 returns c =
     let k = c.before.before.before in
     let a = k.before.before.before.before.before.args in
-    sym (lengths-refused a.first.now a.second.now _ (sym (both-lengths k) ∙ c.before.r.given.1))
+    sym (lengths_refused a.first.now a.second.now _ (sym (both-lengths k) ∙ c.before.r.given.1))
 
 enum_told : tie.Need-enum-told
 enum_told c = search rules
@@ -59,7 +59,7 @@ rising-requires : tie.Need-rising-requires
 rising-requires c κs = omega (arith, whole-records c)
 
 returns-2 : tie.Need-returns-2
-returns-2 c = sym (first-falls _ _ (good c.before.before) (sym c.before.rising.ensures ∙ not-true _ c.if1.true))
+returns-2 c = sym (first_falls _ _ (good c.before.before) (sym c.before.rising.ensures ∙ not-true _ c.if1.true))
 
 rising-requires-2 : tie.Need-rising-requires-2
 rising-requires-2 c κs = omega (arith, whole-records c.before.before)
@@ -68,18 +68,18 @@ rising-requires-2 c κs = omega (arith, whole-records c.before.before)
 first-rises :
     (c : tie.Else1) →
     let a = c.before.before.before.before.before.before.before.before.before.args in
-    rising (framesOf a.first.now) ≡ true
+    rising (frames_of a.first.now) ≡ true
 first-rises c = sym c.before.rising.ensures ∙ not-false _ c.if1.false
 
 returns-3 : tie.Need-returns-3
 returns-3 c =
     let k = c.before.before in
-    sym (second-falls _ _ (good k.before.before) (first-rises k) (sym c.before.rising2.ensures ∙ not-true _ c.if2.true))
+    sym (second_falls _ _ (good k.before.before) (first-rises k) (sym c.before.rising2.ensures ∙ not-true _ c.if2.true))
 
 second-rises :
     (c : tie.Else2) →
     let a = c.before.before.before.before.before.before.before.before.before.before.before.args in
-    rising (framesOf a.second.now) ≡ true
+    rising (frames_of a.second.now) ≡ true
 second-rises c = sym c.before.rising2.ensures ∙ not-false _ c.if2.false
 
 count-requires : tie.Need-count-requires
@@ -98,21 +98,21 @@ returns-4 c =
     let n = c.before.before.before.before in
     let k = n.before in
     let e = sym n.count.ensures ∙ c.before.before.bytes.given.1 in
-    sym (union-over _ _ (good k.before.before.before.before) (first-rises k.before.before) (second-rises k) _ e (omega arith))
+    sym (union_over _ _ (good k.before.before.before.before) (first-rises k.before.before) (second-rises k) _ e (omega arith))
 
 returns-5 : tie.Need-returns-5
 returns-5 c =
     let n = c.before.before.before in
     let k = n.before in
     let e = sym n.count.ensures ∙ c.before.r2.given.1 in
-    sym (clash-refused _ _ (good k.before.before.before.before) (first-rises k.before.before) (second-rises k) _ e)
+    sym (clash_refused _ _ (good k.before.before.before.before) (first-rises k.before.before) (second-rises k) _ e)
 
 returns-6 : tie.Need-returns-6
 returns-6 c =
     let n = c.before.before.before.before in
     let k = n.before in
     let e = sym n.count.ensures ∙ c.before.before.bytes.given.1 in
-    sym (union-counted _ _ (good k.before.before.before.before) (first-rises k.before.before) (second-rises k) _ e (omega arith))
+    sym (union_counted _ _ (good k.before.before.before.before) (first-rises k.before.before) (second-rises k) _ e (omega arith))
 
 pub check-both-spec : {M : Type 1} → statement M
 check-both-spec =

@@ -8,7 +8,7 @@ use native.Mathlib.Omega.{arith}
 use lib.Dec.{leb}
 use lib.ListN.{length}
 use Rattle.frames.specs.Walk.{from, stride}
-use Rattle.frames.proofs.Records.{records-next, records-end}
+use Rattle.frames.proofs.Records.{records_next, records_end}
 use Rattle.frames.proofs.stride.Statement.{statement}
 use Rattle.frames.proofs.stride.Tie as tie
 
@@ -18,7 +18,7 @@ none :
     let a = c.before.before.args in
     length a.store.now < a.i + 12 → 0 ≡ stride (from a.store.now a.i) (from a.other.now a.j)
 unfolding stride
-none c h = let a = c.before.before.args in rw (records-end a.store.now a.i h)
+none c h = let a = c.before.before.args in rw (records_end a.store.now a.i h)
 
 returns : tie.Need-returns
 returns c = none c.before (omega arith)
@@ -40,7 +40,7 @@ alone :
 unfolding stride
 alone c h =
     let a = c.before.before.before.before.args in
-    rw (records-next a.store.now a.i (here c), records-end a.other.now a.j h)
+    rw (records_next a.store.now a.i (here c), records_end a.other.now a.j h)
 
 returns-3 : tie.Need-returns-3
 returns-3 c = alone c.before (omega arith)
@@ -66,8 +66,8 @@ unfolding stride
 decided c =
     let e = c.before.before in
     let a = e.before.before.before.before.before.before.args in
-    let one = records-next a.store.now a.i (here e.before.before) in
-    let two = records-next a.other.now a.j (omega arith) in
+    let one = records_next a.store.now a.i (here e.before.before) in
+    let two = records_next a.other.now a.j (omega arith) in
     rw (one, two, c.before.frame.ensures, c.frame2.ensures)
 
 returns-5 : tie.Need-returns-5

@@ -4,8 +4,8 @@ use native.Mathlib.Omega.{arith}
 use borrow.Author.Rules.{rules}
 use Rattle.job_records.specs.Jobs.{job_of}
 use Rattle.fields.specs.Fields.{byte_at}
-use Rattle.fields.proofs.BigEndian.{number-inside}
-use Rattle.fields.proofs.Vectors.{vector-inside}
+use Rattle.fields.proofs.BigEndian.{number_inside}
+use Rattle.fields.proofs.Vectors.{vector_inside}
 use Rattle.job_records.proofs.get_job.Statement.{statement}
 use Rattle.job_records.proofs.get_job.Tie as tie
 
@@ -54,16 +54,16 @@ returns c =
         d = byte_at bytes 1;
         scale = byte_at bytes 2;
         p = byte_at bytes 3;
-        eps = (eps.get-number32.ensures ∙ number-inside bytes 4 4 (omega arith) (omega arith)) i;
+        eps = (eps.get-number32.ensures ∙ number_inside bytes 4 4 (omega arith) (omega arith)) i;
       };
-      t = (rows.before.before.get-number.ensures.0 ∙ number-inside bytes 8 8 (omega arith) (omega arith)) i;
-      budget = (rows.before.get-number322.ensures ∙ number-inside bytes 16 4 (omega arith) (omega arith)) i;
-      rows = (rows.get-number323.ensures ∙ number-inside bytes 20 4 (omega arith) (omega arith)) i;
+      t = (rows.before.before.get-number.ensures.0 ∙ number_inside bytes 8 8 (omega arith) (omega arith)) i;
+      budget = (rows.before.get-number322.ensures ∙ number_inside bytes 16 4 (omega arith) (omega arith)) i;
+      rows = (rows.get-number323.ensures ∙ number_inside bytes 20 4 (omega arith) (omega arith)) i;
       domain = record {
-        low = (c.before.before.get-vector.ensures ∙ vector-inside bytes 24 (omega arith)) i;
-        high = (c.before.get-vector2.ensures ∙ vector-inside bytes 40 (omega arith)) i;
+        low = (c.before.before.get-vector.ensures ∙ vector_inside bytes 24 (omega arith)) i;
+        high = (c.before.get-vector2.ensures ∙ vector_inside bytes 40 (omega arith)) i;
       };
-      start = (c.get-vector3.ensures ∙ vector-inside bytes 56 (omega arith)) i;
+      start = (c.get-vector3.ensures ∙ vector_inside bytes 56 (omega arith)) i;
     }
 
 pub get-job-spec : {M : Type 1} → statement M

@@ -4,8 +4,8 @@ use mathlib.Core.Path.{◌≡◌}
 use native.Mathlib.Omega.{arith}
 use borrow.Author.Rules.{rules}
 use lib.ListN.{length, length-set}
-use Rattle.fields.proofs.Storing.{Stored, nothing_stored, bytes-then, number-then, vector-then, stored-long, all-stored}
-use Rattle.job_records.specs.Jobs.{jobBytes}
+use Rattle.fields.proofs.Storing.{Stored, nothing_stored, bytes_then, number_then, vector_then, stored_long, all_stored}
+use Rattle.job_records.specs.Jobs.{job_bytes}
 use Rattle.job_records.proofs.put_job.Statement.{statement}
 use Rattle.job_records.proofs.put_job.Tie as tie
 
@@ -67,8 +67,8 @@ eight :
     (length job.domain.low ≡ 8) × (length job.domain.high ≡ 8) × (length job.start ≡ 8)
 eight c = search rules
 
-stored : (c : tie.After-put-vector3) → Stored (jobBytes (entry c).args.job) 72 (entry c).args.bytes.now c.put-vector3.new.0
-unfolding jobBytes
+stored : (c : tie.After-put-vector3) → Stored (job_bytes (entry c).args.job) 72 (entry c).args.bytes.now c.put-vector3.new.0
+unfolding job_bytes
 stored c =
     let v2 = c.before.before.before.before in
     let v1 = at_low c in
@@ -80,22 +80,22 @@ stored c =
     let a = start.args in
     let room = start.pre in
     let m = a.job.model in
-    let shape = bytes-then (nothing_stored a.bytes.now) (m.n ∷ m.d ∷ m.scale ∷ m.p ∷ []) (omega arith) in
-    let eps = number-then shape 4 m.eps (omega arith) n1.put-number.ensures in
-    let t = number-then eps 8 a.job.t (omega arith) n2.put-number2.ensures in
-    let budget = number-then t 4 a.job.budget (omega arith) n3.put-number3.ensures in
-    let rows = number-then budget 4 a.job.rows (omega arith) n4.put-number4.ensures in
-    let low = vector-then rows a.job.domain.low (eight start).0 (omega arith) v1.put_vector.ensures in
-    let high = vector-then low a.job.domain.high (eight start).1 (omega arith) v2.put-vector2.ensures in
-    vector-then high a.job.start (eight start).2 (omega arith) c.put-vector3.ensures
+    let shape = bytes_then (nothing_stored a.bytes.now) (m.n ∷ m.d ∷ m.scale ∷ m.p ∷ []) (omega arith) in
+    let eps = number_then shape 4 m.eps (omega arith) n1.put-number.ensures in
+    let t = number_then eps 8 a.job.t (omega arith) n2.put-number2.ensures in
+    let budget = number_then t 4 a.job.budget (omega arith) n3.put-number3.ensures in
+    let rows = number_then budget 4 a.job.rows (omega arith) n4.put-number4.ensures in
+    let low = vector_then rows a.job.domain.low (eight start).0 (omega arith) v1.put_vector.ensures in
+    let high = vector_then low a.job.domain.high (eight start).1 (omega arith) v2.put-vector2.ensures in
+    vector_then high a.job.start (eight start).2 (omega arith) c.put-vector3.ensures
 
 same_length : tie.Need-same-length
 same_length c =
     let last = c.before.before in
-    stored-long (stored last) (entry last).requires
+    stored_long (stored last) (entry last).requires
 
 returns : tie.Need-returns
-returns c = all-stored (stored c.before.before)
+returns c = all_stored (stored c.before.before)
 
 pub put-job-spec : {M : Type 1} → statement M
 put-job-spec =

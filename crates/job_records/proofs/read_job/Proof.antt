@@ -4,7 +4,7 @@ use native.Mathlib.Omega.{arith}
 use borrow.Author.Rules.{rules}
 use borrow.Author.Tests.{le-leb, lt-leb}
 use lib.ListN.{length}
-use Rattle.job_records.specs.Jobs.{readJob}
+use Rattle.job_records.specs.Jobs.{read_job}
 use Rattle.job_records.proofs.read_job.Statement.{statement}
 use Rattle.job_records.proofs.read_job.Tie as tie
 
@@ -12,7 +12,7 @@ refused-job-requires : tie.Need-refused-job-requires
 refused-job-requires c κs = search rules
 
 returns : tie.Need-returns
-unfolding readJob
+unfolding read_job
 returns c =
     let bytes = c.before.before.before.args.bytes.now in
     let short : length bytes < 72 = omega arith in
@@ -22,7 +22,7 @@ get-job-requires : tie.Need-get-job-requires
 get-job-requires c κs = search rules
 
 returns-2 : tie.Need-returns-2
-unfolding readJob
+unfolding read_job
 returns-2 c = rw c.get-job.ensures (simp (le-leb _ _ c.before.if1.false))
 
 pub read-job-spec : {M : Type 1} → statement M

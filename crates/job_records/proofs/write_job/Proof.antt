@@ -5,12 +5,12 @@ use native.Mathlib.Omega.{arith}
 use borrow.Author.Rules.{rules}
 use borrow.Author.Tests.{le-leb, lt-leb}
 use lib.ListN.{length}
-use Rattle.fields.specs.Buffers.{checkRoom}
+use Rattle.fields.specs.Buffers.{check_room}
 use Rattle.job_records.proofs.write_job.Statement.{statement}
 use Rattle.job_records.proofs.write_job.Tie as tie
 
 returns : tie.Need-returns
-unfolding checkRoom
+unfolding check_room
 returns c =
     let out = c.before.before.args.out.now in
     let short : length out < 72 = omega arith in
@@ -23,7 +23,7 @@ same_length : tie.Need-same-length
 same_length c = search rules
 
 returns-2 : tie.Need-returns-2
-unfolding checkRoom
+unfolding check_room
 returns-2 c = (simp (le-leb _ _ c.before.before.before.before.if1.false), c.before.before.put-job.ensures)
 
 pub write-job-spec : {M : Type 1} → statement M

@@ -5,10 +5,10 @@ use Prim.Native.Nat.{◌-◌, ◌/◌, ◌^◌, ◌<◌}
 use native.Mathlib.Omega.{arith}
 use lib.ListN.{length}
 use Rattle.points.specs.Points.{points_of}
-use Rattle.points.proofs.Laws.{points-length}
+use Rattle.points.proofs.Laws.{points_length}
 use Rattle.labels.specs.Labels.{label}
-use Rattle.labels.proofs.Filling.{Filled, none_filled, one-filled, all-filled}
-use Rattle.residuals.proofs.Sizes.{power-of}
+use Rattle.labels.proofs.Filling.{Filled, none_filled, one_filled, all_filled}
+use Rattle.residuals.proofs.Sizes.{power_of}
 use Rattle.labels.proofs.write_labels.Statement.{statement}
 use Rattle.labels.proofs.write_labels.Tie as tie
 
@@ -26,7 +26,7 @@ loop-holds c =
     let s = c.before.before.before in
     let a = s.args in (
       none_filled (label a.m a.v.now) a.store.now a.out.now,
-      power-of a.m.scale c.power.result s.requires.0.scaled c.power.ensures,
+      power_of a.m.scale c.power.result s.requires.0.scaled c.power.ensures,
     )
 
 label-at-requires : tie.Need-label-at-requires invariant-loop decreases-loop
@@ -38,7 +38,7 @@ room : (c : tie.In-loop invariant-loop decreases-loop) → c.before.loop.i < len
 unfolding points_of
 room c =
     let s = c.before.before.before.before.before in
-    omega (arith, c.before.loop.invariant.0.long, s.requires.1, points-length s.args.store.now (length s.args.store.now / 12))
+    omega (arith, c.before.loop.invariant.0.long, s.requires.1, points_length s.args.store.now (length s.args.store.now / 12))
 
 slice-write-out : tie.Need-slice-write-out invariant-loop decreases-loop
 slice-write-out c = room c.before
@@ -56,7 +56,7 @@ loop-again c =
     let r = c.label_at in
     let taken = c.before.loop-test.true in
     let Label-is = label a.m a.v.now in (
-      one-filled Label-is a.store.now a.out.now r.result r.ensures taken (room c.before) p.loop.invariant.0,
+      one_filled Label-is a.store.now a.out.now r.result r.ensures taken (room c.before) p.loop.invariant.0,
       p.loop.invariant.1,
     )
 
@@ -67,7 +67,7 @@ returns : tie.Need-returns invariant-loop decreases-loop
 returns c =
     let p = c.before in
     let a = p.before.before.before.before.args in
-    all-filled (label a.m a.v.now) a.store.now a.out.now c.loop-test.false p.loop.invariant.0
+    all_filled (label a.m a.v.now) a.store.now a.out.now c.loop-test.false p.loop.invariant.0
 
 pub write-labels-spec : {M : Type 1} → statement M
 write-labels-spec =

@@ -1,7 +1,7 @@
 -- The part that is lent is the block.
 use native.Mathlib.Omega.{arith}
 use borrow.Author.Rules.{rules}
-use Rattle.list_blocks.proofs.Places.{lowest-before, part-found}
+use Rattle.list_blocks.proofs.Places.{lowest_before, part_found}
 use Rattle.list_blocks.proofs.in_block.Statement.{statement}
 use Rattle.list_blocks.proofs.in_block.Tie as tie
 
@@ -35,14 +35,14 @@ lower-bound-requires c κs = search rules
 add-t7 : tie.Need-overflow-add-t7
 add-t7 c =
     let found = c.before.lower-bound in
-    let few = lowest-before _ _ _ found.result found.ensures 2305843009213693953 (omega arith) (omega arith) in
+    let few = lowest_before _ _ _ found.result found.ensures 2305843009213693953 (omega arith) (omega arith) in
     omega (arith, few)
 
 returns : tie.Need-returns
 returns c =
     let first = c.before.before.before.before in
     let a = first.before.before.args in
-    part-found a.bounds.now a.n a.j first.begins.result c.before.before.before.begins2.result
+    part_found a.bounds.now a.n a.j first.begins.result c.before.before.before.begins2.result
     c.before.lower-bound.result (omega arith) first.begins.ensures c.before.before.before.begins2.ensures
     c.before.lower-bound.ensures
 

@@ -3,12 +3,12 @@ use mathlib.Core.Path.{refl}
 use Prim.Native.Nat.{◌<◌}
 use native.Mathlib.Omega.{arith}
 use borrow.Author.Rules.{rules}
-use Rattle.list_blocks.proofs.Places.{lowest-before}
+use Rattle.list_blocks.proofs.Places.{lowest_before}
 use Rattle.list_blocks.proofs.lowest.Statement.{statement}
 use Rattle.list_blocks.proofs.lowest.Tie as tie
 
 few : (c : tie.After-lower-bound) → c.lower-bound.result.at < 64
-few c = lowest-before _ _ _ c.lower-bound.result c.lower-bound.ensures 64 (omega arith) (omega arith)
+few c = lowest_before _ _ _ c.lower-bound.result c.lower-bound.ensures 64 (omega arith) (omega arith)
 
 known-requires : tie.Need-known-requires
 known-requires c κs = search rules

@@ -6,7 +6,7 @@ use lib.ListN.{length, set, length-set}
 use lib.Seq.{set_out}
 use native.Mathlib.Omega.{arith}
 use borrow.Author.Rules.{rules}
-use Rattle.list_blocks.specs.Blocks.{gone, blockStart}
+use Rattle.list_blocks.specs.Blocks.{gone, block_start}
 use Rattle.list_blocks.proofs.Places.{empty_block}
 use Rattle.list_blocks.proofs.take_away.Statement.{statement}
 use Rattle.list_blocks.proofs.take_away.Tie as tie
@@ -75,7 +75,7 @@ returns-2 c =
     let block = a.spot.block in
     record {
       entries = taken_is join;
-      found = record { at = blockStart n block; bound = gone };
+      found = record { at = block_start n block; bound = gone };
       first = empty_block join.if1.bounds n block (omega (arith, same-long join)) (omega arith);
       leasts = sym (set_out _ _ _ (omega arith));
       places = sym (set_out _ _ _ (omega arith));

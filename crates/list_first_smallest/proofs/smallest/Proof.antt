@@ -4,7 +4,7 @@ use mathlib.Core.Logic.{⊎_elim}
 use Prim.Native.Nat.{◌-◌, ◌≤◌}
 use native.Mathlib.Omega.{arith}
 use Rattle.list_first_smallest.specs.FirstSmallest.{entry_at, FirstLeast}
-use Rattle.list_first_smallest.proofs.Least.{least_start, least-new, least_kept}
+use Rattle.list_first_smallest.proofs.Least.{least_start, least_new, least_kept}
 use Rattle.list_first_smallest.proofs.smallest.Statement.{statement}
 use Rattle.list_first_smallest.proofs.smallest.Tie as tie
 
@@ -40,7 +40,7 @@ loop-again c =
     let at = l.loop.at in
     let inv = l.loop.invariant in
     ⊎_elim
-    (λ w. rw (w.1, w.2) (omega arith, least-new d i at inv.1 (omega (arith, w.0.taken)), refl))
+    (λ w. rw (w.1, w.2) (omega arith, least_new d i at inv.1 (omega (arith, w.0.taken)), refl))
     (λ w. rw (w.1, w.2) (omega arith, least_kept d i at inv.1 (omega (arith, w.0.left)), inv.2))
     c.if1.branch
 

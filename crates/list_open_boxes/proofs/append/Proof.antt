@@ -8,12 +8,12 @@ use lib.ListN.{take, length-take}
 use lib.Seq.{take_all}
 use borrow.Author.Rules.{rules}
 use Rattle.list_rows.specs.Rows.{row_at, rows_of}
-use Rattle.list_rows.proofs.Rows.{rows-length, row-whole}
+use Rattle.list_rows.proofs.Rows.{rows_length, row_whole}
 use Rattle.list_first_smallest.specs.FirstSmallest.{entry_at}
 use Rattle.incumbent.specs.declared.Child.{Child}
-use Rattle.list_open_boxes.specs.OpenBoxes.{Held, kept_at, picked, roomIn}
+use Rattle.list_open_boxes.specs.OpenBoxes.{Held, kept_at, picked, room_in}
 use Rattle.list_open_boxes.proofs.Picking.{picked_more}
-use Rattle.list_open_boxes.proofs.Listing.{Put, own_held, one-taken}
+use Rattle.list_open_boxes.proofs.Listing.{Put, own_held, one_taken}
 use Rattle.list_open_boxes.proofs.append.Statement.{statement}
 use Rattle.list_open_boxes.proofs.append.Tie as tie
 
@@ -21,8 +21,8 @@ abbrev invariant-loop : tie.invariant-loop
 invariant-loop table₀ bounds₀ n late beside m mark end₀ i₀ table bounds end i =
     (i ≤ m)
     × Held table₀ bounds₀ end
-    (take (roomIn table₀ bounds₀) (rows_of table₀ n ++ picked (row_at late) (kept_at late beside mark) i))
-    (take (roomIn table₀ bounds₀) (take n bounds₀ ++ picked (entry_at beside) (kept_at late beside mark) i))
+    (take (room_in table₀ bounds₀) (rows_of table₀ n ++ picked (row_at late) (kept_at late beside mark) i))
+    (take (room_in table₀ bounds₀) (take n bounds₀ ++ picked (entry_at beside) (kept_at late beside mark) i))
     end table bounds
 
 abbrev decreases-loop : tie.decreases-loop
@@ -35,9 +35,9 @@ loop-holds c =
     let t = s.args.table.now in
     let d = s.args.bounds.now in
     let n = s.args.n in
-    let all = take_all (roomIn t d) (rows_of t n) (omega (arith, rows-length t n, s.requires.0)) in
-    let all-entries = take_all (roomIn t d) (take n d) (omega (arith, length-take n d, s.requires.0)) in
-    (omega arith, rw (append-nil (rows_of t n), append-nil (take n d), all, all-entries) (own_held t d n (omega (arith, s.requires.0))))
+    let all = take_all (room_in t d) (rows_of t n) (omega (arith, rows_length t n, s.requires.0)) in
+    let all_entries = take_all (room_in t d) (take n d) (omega (arith, length-take n d, s.requires.0)) in
+    (omega arith, rw (append-nil (rows_of t n), append-nil (take n d), all, all_entries) (own_held t d n (omega (arith, s.requires.0))))
 
 read-row-requires : tie.Need-read-row-requires invariant-loop decreases-loop
 read-row-requires c κs = search rules
@@ -81,8 +81,8 @@ loop-again c =
       omega arith,
       rw (picked_more (row_at v) q i, picked_more (entry_at f) q i)
           (rw (← append_assoc (rows_of t a.n) (picked (row_at v) q i) _, ← append_assoc (take a.n d) (picked (entry_at f) q i) _)
-          (one-taken t d (rows_of t a.n ++ picked (row_at v) q i) (take a.n d ++ picked (entry_at f) q i)
-          l.loop.end l.loop.table l.loop.bounds l.loop.invariant.1 child (row-whole v i)
+          (one_taken t d (rows_of t a.n ++ picked (row_at v) q i) (take a.n d ++ picked (entry_at f) q i)
+          l.loop.end l.loop.table l.loop.bounds l.loop.invariant.1 child (row_whole v i)
           wrote.result wrote.new.0 wrote.new.1.0 is)),
     )
 
@@ -90,7 +90,7 @@ same_length : tie.Need-same-length invariant-loop decreases-loop
 same_length c = c.before.loop.invariant.1.long
 
 same-length-2 : tie.Need-same-length-2 invariant-loop decreases-loop
-same-length-2 c = c.before.loop.invariant.1.long-entries
+same-length-2 c = c.before.loop.invariant.1.long_entries
 
 returns : tie.Need-returns invariant-loop decreases-loop
 returns c =

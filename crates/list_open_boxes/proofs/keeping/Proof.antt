@@ -4,8 +4,8 @@ use mathlib.Core.Logic.{⊎_elim}
 use Prim.Native.Nat.{◌-◌, ◌≤◌, min}
 use native.Mathlib.Omega.{arith}
 use borrow.Author.Rules.{rules}
-use Rattle.list_open_boxes.specs.OpenBoxes.{kept_at, number, roomIn}
-use Rattle.list_open_boxes.proofs.Picking.{number_more, number-few}
+use Rattle.list_open_boxes.specs.OpenBoxes.{kept_at, number, room_in}
+use Rattle.list_open_boxes.proofs.Picking.{number_more, number_few}
 use Rattle.list_open_boxes.proofs.keeping.Statement.{statement}
 use Rattle.list_open_boxes.proofs.keeping.Tie as tie
 
@@ -40,7 +40,7 @@ add_kept : tie.Need-overflow-add-kept invariant-loop decreases-loop
 add_kept c =
     let l = c.before.before.before.before in
     let a = l.before.before.before.before.args in
-    omega (arith, l.loop.invariant.1, number-few (kept_at a.table.now a.bounds.now a.mark) l.loop.i)
+    omega (arith, l.loop.invariant.1, number_few (kept_at a.table.now a.bounds.now a.mark) l.loop.i)
 
 add-i : tie.Need-overflow-add-i invariant-loop decreases-loop
 add-i c = omega arith
@@ -67,7 +67,7 @@ returns c =
     let l = c.before in
     let found = l.before in
     let a = found.before.before.before.args in
-    let all : l.loop.i ≡ min a.n (roomIn a.table.now a.bounds.now) =
+    let all : l.loop.i ≡ min a.n (room_in a.table.now a.bounds.now) =
     omega (arith, l.loop.invariant.0, found.smaller2.ensures, found.before.smaller.ensures)
     in
     rw all at l.loop.invariant.1

@@ -2,7 +2,7 @@
 use mathlib.Core.Path.{◌≡◌, refl, sym, ◌∙◌}
 use native.Mathlib.Omega.{arith}
 use lib.Seq.{set-get_or}
-use Rattle.list_rows.proofs.Rows.{row-own, moved-there}
+use Rattle.list_rows.proofs.Rows.{row_own, moved_there}
 use borrow.Author.Rules.{rules}
 use Rattle.list_open_boxes.proofs.move_box.Statement.{statement}
 use Rattle.list_open_boxes.proofs.move_box.Tie as tie
@@ -33,14 +33,14 @@ returns c =
     let moved = c.before.before in
     let s = moved.before.before.before.before in
     let a = s.args in
-    (moved.Move-row.ensures ∙ moved-there a.table.now a.i a.to (omega arith) s.requires.1, refl)
+    (moved.Move-row.ensures ∙ moved_there a.table.now a.i a.to (omega arith) s.requires.1, refl)
 
 returns-2 : tie.Need-returns-2
 returns-2 c =
     let s = c.before.before in
     let a = s.args in
     let same : a.to ≡ a.i = omega (arith, c.if1.false) in
-    (rw same (sym (row-own a.table.now a.i s.requires.1)), rw same (sym (set-get_or a.bounds.now a.i 0)))
+    (rw same (sym (row_own a.table.now a.i s.requires.1)), rw same (sym (set-get_or a.bounds.now a.i 0)))
 
 pub move-box-spec : {M : Type 1} → statement M
 move-box-spec =

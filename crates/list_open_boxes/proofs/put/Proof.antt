@@ -2,7 +2,7 @@
 use mathlib.Core.Path.{refl}
 use Prim.Native.Nat.{◌≤◌, ◌<◌}
 use native.Mathlib.Omega.{arith}
-use Rattle.list_open_boxes.specs.OpenBoxes.{roomIn}
+use Rattle.list_open_boxes.specs.OpenBoxes.{room_in}
 use borrow.Author.Tests.{lt-ltb, le-ltb}
 use borrow.Author.Rules.{rules}
 use Rattle.list_open_boxes.proofs.put.Statement.{statement}
@@ -34,16 +34,16 @@ returns c =
     let inside = c.before.before.before.before in
     let found = inside.before.before in
     let a = found.before.before.args in
-    let room : a.n < roomIn a.table.now a.bounds.now = omega (arith, inside.if2.true, found.smaller.ensures) in
-    rw (inside.before.if1.true, lt-ltb a.n (roomIn a.table.now a.bounds.now) room)
+    let room : a.n < room_in a.table.now a.bounds.now = omega (arith, inside.if2.true, found.smaller.ensures) in
+    rw (inside.before.if1.true, lt-ltb a.n (room_in a.table.now a.bounds.now) room)
     (refl, (c.before.write-row.ensures, refl))
 
 returns-2 : tie.Need-returns-2
 returns-2 c =
     let found = c.before.before in
     let a = found.before.before.args in
-    let past : roomIn a.table.now a.bounds.now ≤ a.n = omega (arith, c.if2.false, found.smaller.ensures) in
-    rw (c.before.if1.true, le-ltb a.n (roomIn a.table.now a.bounds.now) past) (omega arith, (refl, refl))
+    let past : room_in a.table.now a.bounds.now ≤ a.n = omega (arith, c.if2.false, found.smaller.ensures) in
+    rw (c.before.if1.true, le-ltb a.n (room_in a.table.now a.bounds.now) past) (omega arith, (refl, refl))
 
 returns-3 : tie.Need-returns-3
 returns-3 c = rw c.if1.false (omega arith, (refl, refl))

@@ -5,8 +5,8 @@ use native.Mathlib.Omega.{arith}
 use borrow.Author.Rules.{rules}
 use Rattle.list_rows.specs.Rows.{row_at}
 use Rattle.list_first_smallest.specs.FirstSmallest.{entry_at}
-use Rattle.list_open_boxes.specs.OpenBoxes.{kept_at, picked, roomIn}
-use Rattle.list_open_boxes.proofs.Listing.{behind-held}
+use Rattle.list_open_boxes.specs.OpenBoxes.{kept_at, picked, room_in}
+use Rattle.list_open_boxes.proofs.Listing.{behind_held}
 use Rattle.list_open_boxes.proofs.settle.Statement.{statement}
 use Rattle.list_open_boxes.proofs.settle.Tie as tie
 
@@ -15,10 +15,10 @@ module _ (c : tie.After-smaller4) where
   abbrev start : tie.Start
   start = c.before.before.before.before.before.before
 
-  listed : c.before.before.smaller2.result ≡ min start.args.n (roomIn start.args.table.now start.args.bounds.now)
+  listed : c.before.before.smaller2.result ≡ min start.args.n (room_in start.args.table.now start.args.bounds.now)
   listed = omega (arith, c.before.before.smaller2.ensures, c.before.before.before.smaller.ensures)
 
-  more : c.smaller4.result ≡ min start.args.m (roomIn start.args.late.now start.args.beside.now)
+  more : c.smaller4.result ≡ min start.args.m (room_in start.args.late.now start.args.beside.now)
   more = omega (arith, c.smaller4.ensures, c.before.smaller3.ensures)
 
 smaller-requires : tie.Need-smaller-requires
@@ -41,7 +41,7 @@ append-requires c κs =
     let sorted = c.before.before.before.before.before in
     let found = sorted.before.before.before in
     let p = sorted.sort-out.ensures in
-    (omega (arith, listed found, p.few, p.long, p.long-entries), omega (arith, more found))
+    (omega (arith, listed found, p.few, p.long, p.long_entries), omega (arith, more found))
 
 same_length : tie.Need-same-length
 same_length c = search rules
@@ -65,7 +65,7 @@ returns c =
     let q₂ = kept_at v f a.mark in
     let kept = sorted.sort-out in
     rw (← listed found, ← more found)
-    (behind-held t d n (picked (row_at t) q n) (picked (entry_at d) q n) kept.result kept.new.0 kept.new.1.0 kept.ensures
+    (behind_held t d n (picked (row_at t) q n) (picked (entry_at d) q n) kept.result kept.new.0 kept.new.1.0 kept.ensures
     (picked (row_at v) q₂ m) (picked (entry_at f) q₂ m) done.append.result done.append.new.0 done.append.new.1.0
     done.append.ensures)
 

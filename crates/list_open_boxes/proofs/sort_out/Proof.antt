@@ -6,10 +6,10 @@ use lib.ListN.{length}
 use Prim.Native.Nat.{◌+◌, ◌-◌, ◌≤◌, ◌<◌}
 use native.Mathlib.Omega.{arith}
 use borrow.Author.Rules.{rules}
-use Rattle.list_rows.specs.Rows.{rowCount, row_at}
+use Rattle.list_rows.specs.Rows.{row_count, row_at}
 use Rattle.list_open_boxes.specs.OpenBoxes.{kept_at, picked, Held}
 use Rattle.list_first_smallest.specs.FirstSmallest.{entry_at}
-use Rattle.list_open_boxes.proofs.Listing.{none-held, same_row, same-entry, row-held}
+use Rattle.list_open_boxes.proofs.Listing.{none_held, same_row, same_entry, row_held}
 use Rattle.list_open_boxes.proofs.sort_out.Statement.{statement}
 use Rattle.list_open_boxes.proofs.sort_out.Tie as tie
 
@@ -26,13 +26,13 @@ decreases-loop table₀ bounds₀ n mark stay₀ i₀ table bounds stay i = n - 
 
 loop-holds : tie.Need-loop-init invariant-loop decreases-loop
 unfolding picked
-loop-holds c = let a = c.before.args in (omega arith, none-held a.table.now a.bounds.now)
+loop-holds c = let a = c.before.args in (omega arith, none_held a.table.now a.bounds.now)
 
 mul-keeps : tie.Need-overflow-mul-keeps invariant-loop decreases-loop
 mul-keeps c = search rules
 
 slice-read-keeps : tie.Need-slice-read-keeps invariant-loop decreases-loop
-slice-read-keeps c = let l = c.before.before.before in omega (arith, l.loop.invariant.1.long-entries)
+slice-read-keeps c = let l = c.before.before.before in omega (arith, l.loop.invariant.1.long_entries)
 
 keeps-requires : tie.Need-keeps-requires invariant-loop decreases-loop
 keeps-requires c κs = search rules
@@ -40,7 +40,7 @@ keeps-requires c κs = search rules
 move-box-requires : tie.Need-move-box-requires invariant-loop decreases-loop
 move-box-requires c κs =
     let l = c.before.before.before.before.before.before.before in
-    (omega (arith, l.loop.invariant.1.few), omega (arith, l.loop.invariant.1.long), omega (arith, l.loop.invariant.1.long-entries))
+    (omega (arith, l.loop.invariant.1.few), omega (arith, l.loop.invariant.1.long), omega (arith, l.loop.invariant.1.long_entries))
 
 add-stay : tie.Need-overflow-add-stay invariant-loop decreases-loop
 add-stay c =
@@ -61,21 +61,21 @@ loop-again c =
     let d = a.bounds.now in
     let q = kept_at t d a.mark in
     let i = l.loop.i in
-    let there : i < rowCount t = omega arith in
+    let there : i < row_count t = omega arith in
     let entry : i < length d = omega arith in
     let p = l.loop.invariant.1 in
     let same = same_row t d q i l.loop.stay l.loop.table l.loop.bounds there entry p in
-    let number = same-entry t d q i l.loop.stay l.loop.table l.loop.bounds there entry p in
+    let number = same_entry t d q i l.loop.stay l.loop.table l.loop.bounds there entry p in
     let is : c.before.keeps.result ≡ q i = rw (same, number) at c.before.keeps.ensures in (
       omega arith,
       ⊎_elim
           (λ w.
           rw (w.7, w.8, w.9, w.3.ensures.0, w.3.ensures.1)
-          (row-held t d q i l.loop.stay l.loop.table l.loop.bounds there entry p true (sym w.0.taken ∙ is)))
+          (row_held t d q i l.loop.stay l.loop.table l.loop.bounds there entry p true (sym w.0.taken ∙ is)))
           (λ w.
           let none : l.loop.stay + 0 ≡ l.loop.stay = omega arith in
           rw (w.1, w.2, w.3)
-          (rw none at (row-held t d q i l.loop.stay l.loop.table l.loop.bounds there entry p false (sym w.0.left ∙ is))))
+          (rw none at (row_held t d q i l.loop.stay l.loop.table l.loop.bounds there entry p false (sym w.0.left ∙ is))))
           c.if1.branch,
     )
 
@@ -83,7 +83,7 @@ same_length : tie.Need-same-length invariant-loop decreases-loop
 same_length c = c.before.loop.invariant.1.long
 
 same-length-2 : tie.Need-same-length-2 invariant-loop decreases-loop
-same-length-2 c = c.before.loop.invariant.1.long-entries
+same-length-2 c = c.before.loop.invariant.1.long_entries
 
 returns : tie.Need-returns invariant-loop decreases-loop
 returns c =

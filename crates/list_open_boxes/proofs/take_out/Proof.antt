@@ -3,17 +3,17 @@ use mathlib.Core.Path.{◌≡◌}
 use Prim.Native.Nat.{◌-◌, min}
 use native.Mathlib.Omega.{arith}
 use borrow.Author.Rules.{rules}
-use Rattle.list_rows.proofs.Parts.{lent-long, part-down}
-use Rattle.list_open_boxes.specs.OpenBoxes.{othersThan, roomIn}
+use Rattle.list_rows.proofs.Parts.{lent_long, part_down}
+use Rattle.list_open_boxes.specs.OpenBoxes.{others_than, room_in}
 use Rattle.list_open_boxes.proofs.Picking.{other}
-use Rattle.list_open_boxes.proofs.Listing.{all_held, taken-held}
+use Rattle.list_open_boxes.proofs.Listing.{all_held, taken_held}
 use Rattle.list_open_boxes.proofs.take_out.Statement.{statement}
 use Rattle.list_open_boxes.proofs.take_out.Tie as tie
 
 -- how many are listed
 listed : (c : tie.After-smaller2) →
     let a = c.before.before.before.args in
-    c.smaller2.result ≡ min a.n (roomIn a.table.now a.bounds.now)
+    c.smaller2.result ≡ min a.n (room_in a.table.now a.bounds.now)
 listed c = omega (arith, c.smaller2.ensures, c.before.smaller.ensures)
 
 smaller-requires : tie.Need-smaller-requires
@@ -27,7 +27,7 @@ returns c =
     let found = c.before in
     let a = found.before.before.before.args in
     rw (← listed found)
-    (all_held a.table.now a.bounds.now (othersThan a.at) found.smaller2.result (omega (arith, listed found))
+    (all_held a.table.now a.bounds.now (others_than a.at) found.smaller2.result (omega (arith, listed found))
     (λ k h. other a.at k (λ e. absurd (omega arith))))
 
 take-row-requires : tie.Need-take-row-requires
@@ -49,7 +49,7 @@ slide-entries-requires : tie.Need-slide-entries-requires
 slide-entries-requires c κs =
     let found = c.before.before.before.before.before in
     let a = found.before.before.before.args in
-    rw (lent-long a.bounds.now a.at 1 found.smaller2.result (omega arith) (omega (arith, listed found))) (omega arith)
+    rw (lent_long a.bounds.now a.at 1 found.smaller2.result (omega arith) (omega (arith, listed found))) (omega arith)
 
 sub-result : tie.Need-overflow-sub-result
 sub-result c = omega arith
@@ -70,8 +70,8 @@ returns-2 c =
     let d = a.bounds.now in
     let moved : n - a.at - 1 ≡ n - 1 - a.at = omega arith in
     rw (← listed found, taken.take_row.ensures, slid.slide-entries.ensures)
-    (rw (part-down d a.at 1 n (omega arith) (omega (arith, listed found)), moved)
-    (taken-held a.table.now d a.at n (omega arith) (omega (arith, listed found)) (omega (arith, listed found))))
+    (rw (part_down d a.at 1 n (omega arith) (omega (arith, listed found)), moved)
+    (taken_held a.table.now d a.at n (omega arith) (omega (arith, listed found)) (omega (arith, listed found))))
 
 pub take-out-spec : {M : Type 1} → statement M
 take-out-spec =

@@ -1,7 +1,7 @@
 -- By whether the table has the row, and the other is an earlier one.
 use borrow.Author.Tests.{lt-ltb, le-ltb}
 use native.Mathlib.Omega.{arith}
-use Rattle.list_rows.specs.Rows.{withMoved}
+use Rattle.list_rows.specs.Rows.{with_moved}
 use Rattle.list_rows.proofs.Rows.{row_written}
 use borrow.Author.Rules.{rules}
 use Rattle.list_rows.proofs.move_row.Statement.{statement}
@@ -38,7 +38,7 @@ same_length : tie.Need-same-length
 same_length c = search rules
 
 returns : tie.Need-returns
-unfolding withMoved
+unfolding with_moved
 returns c =
     let w = c.before in
     let there = w.before.before.before.before in
@@ -52,11 +52,11 @@ returns c =
     (row_written a.table.now a.to _ (omega (arith, there.before.if1.true, there.if2.true)))
 
 returns-2 : tie.Need-returns-2
-unfolding withMoved
+unfolding with_moved
 returns-2 c = rw (lt-ltb _ _ c.before.if1.true, le-ltb _ _ c.if2.false)
 
 returns-3 : tie.Need-returns-3
-unfolding withMoved
+unfolding with_moved
 returns-3 c = rw (le-ltb _ _ c.if1.false)
 
 pub move-row-spec : {M : Type 1} → statement M

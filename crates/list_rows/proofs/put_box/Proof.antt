@@ -7,7 +7,7 @@ use lib.IntN.{pos}
 use lib.ListN.{length, get_or, length-set}
 use mir.Syntax.{w16}
 use mir.ValLaws.{to_z-of_z}
-use Rattle.list_rows.proofs.Parts.{Laid, none-laid, one-laid, all_laid}
+use Rattle.list_rows.proofs.Parts.{Laid, none_laid, one_laid, all_laid}
 use Rattle.list_rows.proofs.put_box.Statement.{statement}
 use Rattle.list_rows.proofs.put_box.Tie as tie
 
@@ -18,7 +18,7 @@ abbrev decreases-loop : tie.decreases-loop
 decreases-loop row₀ low high k₀ row k = 8 - k
 
 loop-holds : tie.Need-loop-init invariant-loop decreases-loop
-loop-holds c = (omega arith, search rules, none-laid _ _ _)
+loop-holds c = (omega arith, search rules, none_laid _ _ _)
 
 mul-row : tie.Need-overflow-mul-row invariant-loop decreases-loop
 mul-row c = omega arith
@@ -63,7 +63,7 @@ loop-again c =
       omega arith,
       simp length-set l.loop.invariant.1,
       rw (low, high)
-          (one-laid b.low b.high l.loop.row k l.loop.invariant.1 (omega arith) l.loop.invariant.2),
+          (one_laid b.low b.high l.loop.row k l.loop.invariant.1 (omega arith) l.loop.invariant.2),
     )
 
 same_length : tie.Need-same-length invariant-loop decreases-loop

@@ -4,9 +4,9 @@ use Prim.Native.Nat.{◌-◌, ◌*◌}
 use native.Mathlib.Omega.{arith}
 use borrow.Author.Tests.{lt-ltb, le-ltb, lt-leb}
 use borrow.Author.Rules.{rules}
-use Rattle.list_rows.specs.Rows.{withoutRow}
-use Rattle.list_rows.proofs.Parts.{lent-long, part-down}
-use Rattle.list_rows.proofs.Rows.{without-there}
+use Rattle.list_rows.specs.Rows.{without_row}
+use Rattle.list_rows.proofs.Parts.{lent_long, part_down}
+use Rattle.list_rows.proofs.Rows.{without_there}
 use Rattle.list_rows.proofs.take_row.Statement.{statement}
 use Rattle.list_rows.proofs.take_row.Tie as tie
 
@@ -31,7 +31,7 @@ part-slide-end c = search rules
 slide-requires : tie.Need-slide-requires
 slide-requires c κs =
     let a = c.before.before.before.args in
-    rw (lent-long a.table.now (16 * a.i) 16 (16 * a.n) (omega arith) (omega arith)) (omega arith)
+    rw (lent_long a.table.now (16 * a.i) 16 (16 * a.n) (omega arith) (omega arith)) (omega arith)
 
 same_length : tie.Need-same-length
 same_length c = search rules
@@ -44,15 +44,15 @@ returns c =
     let t = a.table.now in
     let moved : 16 * a.n - 16 * a.i - 16 ≡ 16 * (a.n - 1) - 16 * a.i = omega arith in
     rw slid.slide.ensures
-    (rw moved at (part-down t (16 * a.i) 16 (16 * a.n) (omega arith) (omega arith))
-    ∙ without-there t a.i a.n (omega arith) (omega arith))
+    (rw moved at (part_down t (16 * a.i) 16 (16 * a.n) (omega arith) (omega arith))
+    ∙ without_there t a.i a.n (omega arith) (omega arith))
 
 returns-2 : tie.Need-returns-2
-unfolding withoutRow
+unfolding without_row
 returns-2 c = rw (lt-ltb _ _ c.before.if1.true, lt-leb _ _ c.if2.false)
 
 returns-3 : tie.Need-returns-3
-unfolding withoutRow
+unfolding without_row
 returns-3 c = rw (le-ltb _ _ c.if1.false)
 
 pub take-row-spec : {M : Type 1} → statement M

@@ -11,7 +11,7 @@ returns : tie.Need-returns
 returns c =
     let far = c.before.before.before in
     let g = far.before.args.list in
-    record { far = far.lowest.result; far-is = far.lowest.ensures; is = rw (eq-eqb g.number 0 c.if1.true) }
+    record { far = far.lowest.result; far_is = far.lowest.ensures; is = rw (eq-eqb g.number 0 c.if1.true) }
 
 returns-2 : tie.Need-returns-2
 returns-2 c =
@@ -20,7 +20,7 @@ returns-2 c =
     let g = far.before.args.list in
     record {
       far = far.lowest.result;
-      far-is = far.lowest.ensures;
+      far_is = far.lowest.ensures;
       is = rw (ne_eqb g.number 0 some.if1.false, lt-ltb g.near.bound far.lowest.result.bound c.if2.true);
     }
 
@@ -31,7 +31,7 @@ returns-3 c =
     let g = far.before.args.list in
     record {
       far = far.lowest.result;
-      far-is = far.lowest.ensures;
+      far_is = far.lowest.ensures;
       is = rw (ne_eqb g.number 0 some.if1.false, le-ltb g.near.bound far.lowest.result.bound c.if2.false);
     }
 

@@ -47,11 +47,11 @@ returns c =
     let late = test.if1.true in
     record {
       sizes = rw (← left_open test.before);
-      late-same = λ is. (refl, (refl, refl));
-      late-held = λ is. taken.take_out.ensures;
-      late-near = λ is. c.lower-bound.ensures;
+      late_same = λ is. (refl, (refl, refl));
+      late_held = λ is. taken.take_out.ensures;
+      late_near = λ is. c.lower-bound.ensures;
       row_same = λ is. absurd (one_answer (sym late ∙ is));
-      row-gone = λ is. no_row (sym late ∙ is);
+      row_gone = λ is. no_row (sym late ∙ is);
     }
 
 take-away-requires : tie.Need-take-away-requires
@@ -67,11 +67,11 @@ returns-2 c =
     let row = test.if1.false in
     record {
       sizes = rw (← left_open test.before);
-      late-same = λ is. absurd (one_answer (sym is ∙ row));
-      late-held = λ is. not_late (sym is ∙ row);
-      late-near = λ is. absurd (one_answer (sym is ∙ row));
+      late_same = λ is. absurd (one_answer (sym is ∙ row));
+      late_held = λ is. not_late (sym is ∙ row);
+      late_near = λ is. absurd (one_answer (sym is ∙ row));
       row_same = λ is. (refl, (refl, (refl, refl)));
-      row-gone = λ is. taken.take-away.ensures;
+      row_gone = λ is. taken.take-away.ensures;
     }
 
 pub take_spec : {M : Type 1} → statement M

@@ -5,7 +5,7 @@ use mathlib.Core.Path.{◌≡◌}
 use mathlib.Core.Bool.{false}
 use Prim.Native.Nat.{◌≤◌, ◌<◌}
 use lib.Dec.{eqb}
-use Rattle.loss.specs.Loss.{checkLossFor}
+use Rattle.loss.specs.Loss.{check_loss_for}
 use Rattle.loss.proofs.check_loss_for.Statement.{statement}
 use Rattle.loss.proofs.check_loss_for.Tie as tie
 
@@ -13,20 +13,20 @@ check-loss-requires : tie.Need-check-loss-requires
 check-loss-requires c κs = search rules
 
 returns : tie.Need-returns
-unfolding checkLossFor
+unfolding check_loss_for
 returns c =
     let other : eqb c.before.before.args.p 3 ≡ false = ne_eqb _ _ c.before.if1.true in
     simp other c.check-loss.ensures
 
 returns-2 : tie.Need-returns-2
-unfolding checkLossFor
+unfolding check_loss_for
 returns-2 c =
     let rank : c.before.before.args.p ≡ 3 = c.before.if1.false in
     let below : c.before.before.args.eps < c.before.before.args.records = c.if2.true in
     simp (rank, lt-ltb _ _ below)
 
 returns-3 : tie.Need-returns-3
-unfolding checkLossFor
+unfolding check_loss_for
 returns-3 c =
     let rank : c.before.before.args.p ≡ 3 = c.before.if1.false in
     let past : c.before.before.args.records ≤ c.before.before.args.eps = c.if2.false in

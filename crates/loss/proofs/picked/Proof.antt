@@ -6,8 +6,8 @@ use Prim.Native.Nat.{◌*◌, ◌≤◌, ◌<◌}
 use native.Mathlib.Nat.{mul-le-mul}
 use native.Mathlib.Omega.{arith}
 use Rattle.codes.specs.declared.Outcome.TheVariants.{Value}
-use Rattle.loss.specs.Loss.{lossOf}
-use Rattle.loss.proofs.Laws.{min-square}
+use Rattle.loss.specs.Loss.{loss_of}
+use Rattle.loss.proofs.Laws.{min_square}
 use Rattle.loss.proofs.picked.Statement.{statement}
 use Rattle.loss.proofs.picked.Tie as tie
 
@@ -23,27 +23,27 @@ mul-square c =
     record { fits = omega (arith, mul-le-mul h h) }
 
 returns : tie.Need-returns
-unfolding lossOf
+unfolding loss_of
 returns c =
     let h : c.before.before.before.args.eps < c.before.before.before.args.a = c.if1.true in
     simp (c.before.match.keys1, lt-ltb _ _ h)
 
 returns-2 : tie.Need-returns-2
-unfolding lossOf
+unfolding loss_of
 returns-2 c =
     let h : c.before.before.before.args.a ≤ c.before.before.before.args.eps = c.if1.false in
     simp (c.before.match.keys1, le-ltb _ _ h)
 
 returns-3 : tie.Need-returns-3
-unfolding lossOf
+unfolding loss_of
 returns-3 c = simp c.match.keys2 (ap Value c.before.least.ensures)
 
 returns-4 : tie.Need-returns-4
-unfolding lossOf
+unfolding loss_of
 returns-4 c =
     let s = c.before.before in
     let m = c.before.least.ensures in
-    simp c.match.keys3 (ap Value ((λ i. m i * m i) ∙ min-square s.args.a s.args.eps))
+    simp c.match.keys3 (ap Value ((λ i. m i * m i) ∙ min_square s.args.a s.args.eps))
 
 returns-5 : tie.Need-returns-5
 returns-5 c =

@@ -5,12 +5,12 @@ use Prim.Native.Nat.{◌≤◌, ◌<◌}
 use native.Mathlib.Omega.{arith}
 use lib.ListN.{length}
 use Rattle.codes.specs.declared.Check.TheVariants.{Pass, Refuse}
-use Rattle.codes.specs.Codes.{inOrder}
-use Rattle.fields.specs.Buffers.{checkRoom}
-use Rattle.frames.specs.Frames.{merged, checkBoth, unionAnswer}
-use Rattle.frames.proofs.Checks.{told-value, told-refused}
-use Rattle.frames.proofs.Passed.{both-whole}
-use Rattle.merge.specs.Merge.{checkMerge, mergeAnswer, outputAfter}
+use Rattle.codes.specs.Codes.{in_order}
+use Rattle.fields.specs.Buffers.{check_room}
+use Rattle.frames.specs.Frames.{merged, check_both, union_answer}
+use Rattle.frames.proofs.Checks.{told_value, told_refused}
+use Rattle.frames.proofs.Passed.{both_whole}
+use Rattle.merge.specs.Merge.{check_merge, merge_answer, output_after}
 use borrow.Author.Rules.{rules}
 use Rattle.merge.proofs.merge.Statement.{statement}
 use Rattle.merge.proofs.merge.Tie as tie
@@ -28,12 +28,12 @@ enum-known-bytes c = search rules
 counted :
     (c : tie.After-bytes) →
     let a = c.before.before.before.before.before.before.args in
-    (checkBoth a.first.now a.second.now ≡ Pass) × (c.bytes.given.0.0 ≡ length (merged a.first.now a.second.now))
-unfolding unionAnswer
-counted c = told-value _ _ _ (sym c.before.before.check_both.ensures ∙ c.bytes.given.1)
+    (check_both a.first.now a.second.now ≡ Pass) × (c.bytes.given.0.0 ≡ length (merged a.first.now a.second.now))
+unfolding union_answer
+counted c = told_value _ _ _ (sym c.before.before.check_both.ensures ∙ c.bytes.given.1)
 
 returns : tie.Need-returns
-unfolding mergeAnswer outputAfter checkMerge checkRoom inOrder
+unfolding merge_answer output_after check_merge check_room in_order
 returns c =
     let k = c.before.before in
     let a = k.before.before.before.before.before.before.args in
@@ -44,8 +44,8 @@ returns c =
 accepted :
     (c : tie.Else1) →
     let a = c.before.before.before.before.before.before.before.before.args in
-    checkMerge a.first.now a.second.now a.out.now ≡ Pass
-unfolding checkMerge checkRoom inOrder
+    check_merge a.first.now a.second.now a.out.now ≡ Pass
+unfolding check_merge check_room in_order
 accepted c =
     let k = c.before.before in
     let a = k.before.before.before.before.before.before.args in
@@ -57,22 +57,22 @@ write-requires c κs =
     let k = c.before.before.before in
     let a = k.before.before.before.before.before.before.args in
     let e = counted k in
-    (both-whole a.first.now a.second.now e.0, (e.1, omega arith))
+    (both_whole a.first.now a.second.now e.0, (e.1, omega arith))
 
 returns-2 : tie.Need-returns-2
-unfolding mergeAnswer outputAfter checkMerge inOrder unionAnswer
+unfolding merge_answer output_after check_merge in_order union_answer
 returns-2 c =
     let k = c.before in
     let a = k.before.before.before.before.before.before.args in
     let e = sym k.before.before.check_both.ensures ∙ k.r.given.1 in
-    let refused : checkBoth a.first.now a.second.now ≡ Refuse k.r.given.0.0 = told-refused _ _ _ e in
+    let refused : check_both a.first.now a.second.now ≡ Refuse k.r.given.0.0 = told_refused _ _ _ e in
     (rw refused, rw refused)
 
 same_length : tie.Need-same-length
 same_length c = search rules
 
 returns-3 : tie.Need-returns-3
-unfolding mergeAnswer outputAfter
+unfolding merge_answer output_after
 returns-3 c =
     let e = c.before.before.before.before in
     (rw (accepted e, (counted e.before.before).1), rw (accepted e) c.before.before.write.ensures)

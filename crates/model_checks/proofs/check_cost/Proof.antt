@@ -2,11 +2,11 @@
 use borrow.Author.Rules.{rules}
 use mathlib.Core.List.{[], ◌∷◌}
 use mathlib.Core.Path.{◌∙◌}
-use Rattle.codes.specs.Codes.{inOrder}
-use Rattle.codes.proofs.Laws.{in-order-group}
-use Rattle.boxes.specs.Shape.{checkVector}
-use Rattle.points.specs.Points.{points_of, checkStray}
-use Rattle.model_checks.specs.Checks.{checkModel, checkCost}
+use Rattle.codes.specs.Codes.{in_order}
+use Rattle.codes.proofs.Laws.{in_order_group}
+use Rattle.boxes.specs.Shape.{check_vector}
+use Rattle.points.specs.Points.{points_of, check_stray}
+use Rattle.model_checks.specs.Checks.{check_model, check_cost}
 use Rattle.model_checks.proofs.check_cost.Statement.{statement}
 use Rattle.model_checks.proofs.check_cost.Tie as tie
 
@@ -23,15 +23,15 @@ then-stray-requires : tie.Need-then-stray-requires
 then-stray-requires c κs = search rules
 
 returns : tie.Need-returns
-unfolding checkCost
+unfolding check_cost
 returns c =
     let two = c.before in
     let a = two.before.before.before.before.args in
-    let stray = checkStray a.m.d (points_of a.store.now) in
+    let stray = check_stray a.m.d (points_of a.store.now) in
     c.then-stray.ensures
-    ∙ (λ i. inOrder ((two.in_order.ensures
-    ∙ λ j. inOrder (two.before.before.check-model.ensures j ∷ two.before.check-vector.ensures j ∷ [])) i ∷ stray ∷ []))
-    ∙ in-order-group (checkModel a.store.now a.m ∷ checkVector a.m.n a.m.d a.v ∷ []) (stray ∷ [])
+    ∙ (λ i. in_order ((two.in_order.ensures
+    ∙ λ j. in_order (two.before.before.check-model.ensures j ∷ two.before.check-vector.ensures j ∷ [])) i ∷ stray ∷ []))
+    ∙ in_order_group (check_model a.store.now a.m ∷ check_vector a.m.n a.m.d a.v ∷ []) (stray ∷ [])
 
 pub check-cost-spec : {M : Type 1} → statement M
 check-cost-spec =

@@ -4,13 +4,13 @@ use mathlib.Core.Path.{◌∙◌}
 use mathlib.Core.List.{[], ◌∷◌}
 use Prim.Native.Nat.{◌/◌}
 use lib.ListN.{length}
-use Rattle.codes.specs.Codes.{inOrder}
-use Rattle.boxes.specs.Shape.{checkShape}
-use Rattle.loss.specs.Loss.{checkLossFor}
-use Rattle.points.specs.Points.{checkStore}
-use Rattle.scale.specs.Scale.{checkScale}
-use Rattle.codes.proofs.Laws.{in-order-pairs}
-use Rattle.model_checks.specs.Checks.{checkModel}
+use Rattle.codes.specs.Codes.{in_order}
+use Rattle.boxes.specs.Shape.{check_shape}
+use Rattle.loss.specs.Loss.{check_loss_for}
+use Rattle.points.specs.Points.{check_store}
+use Rattle.scale.specs.Scale.{check_scale}
+use Rattle.codes.proofs.Laws.{in_order_pairs}
+use Rattle.model_checks.specs.Checks.{check_model}
 use Rattle.model_checks.proofs.check_model.Statement.{statement}
 use Rattle.model_checks.proofs.check_model.Tie as tie
 
@@ -36,7 +36,7 @@ in-order-requires-3 : tie.Need-in-order-requires-3
 in-order-requires-3 c κs = search rules
 
 returns : tie.Need-returns
-unfolding checkModel
+unfolding check_model
 returns c =
     let a = c.before.before.before.before.before.before.before.before.args in
     let loss = c.before.before.check-loss-for.ensures in
@@ -45,10 +45,10 @@ returns c =
     let shape = c.before.before.before.before.before.check-shape.ensures in
     let store = c.before.before.before.before.before.before.check-store.ensures in
     c.in-order3.ensures
-    ∙ (λ i. inOrder ((first ∙ λ j. inOrder (store j ∷ shape j ∷ [])) i
-    ∷ (c.before.in-order2.ensures ∙ λ j. inOrder (scale j ∷ loss j ∷ [])) i ∷ []))
-    ∙ in-order-pairs (checkStore (length a.store.now)) (checkShape a.m.n a.m.d) (checkScale a.m.scale)
-    (checkLossFor (length a.store.now / 12) a.m.p a.m.eps)
+    ∙ (λ i. in_order ((first ∙ λ j. in_order (store j ∷ shape j ∷ [])) i
+    ∷ (c.before.in-order2.ensures ∙ λ j. in_order (scale j ∷ loss j ∷ [])) i ∷ []))
+    ∙ in_order_pairs (check_store (length a.store.now)) (check_shape a.m.n a.m.d) (check_scale a.m.scale)
+    (check_loss_for (length a.store.now / 12) a.m.p a.m.eps)
 
 pub check-model-spec : {M : Type 1} → statement M
 check-model-spec =

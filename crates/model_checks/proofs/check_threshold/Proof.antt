@@ -2,12 +2,12 @@
 use borrow.Author.Rules.{rules}
 use mathlib.Core.List.{[], ◌∷◌}
 use mathlib.Core.Path.{◌∙◌}
-use Rattle.codes.specs.Codes.{inOrder}
-use Rattle.codes.proofs.Laws.{in-order-group}
-use Rattle.boxes.specs.Shape.{checkVector}
-use Rattle.loss.specs.Loss.{checkLoss}
-use Rattle.points.specs.Points.{points_of, checkStray}
-use Rattle.model_checks.specs.Checks.{checkModel, checkThreshold}
+use Rattle.codes.specs.Codes.{in_order}
+use Rattle.codes.proofs.Laws.{in_order_group}
+use Rattle.boxes.specs.Shape.{check_vector}
+use Rattle.loss.specs.Loss.{check_loss}
+use Rattle.points.specs.Points.{points_of, check_stray}
+use Rattle.model_checks.specs.Checks.{check_model, check_threshold}
 use Rattle.model_checks.proofs.check_threshold.Statement.{statement}
 use Rattle.model_checks.proofs.check_threshold.Tie as tie
 
@@ -30,21 +30,21 @@ then-stray-requires : tie.Need-then-stray-requires
 then-stray-requires c κs = search rules
 
 returns : tie.Need-returns
-unfolding checkThreshold
+unfolding check_threshold
 returns c =
     let two = c.before in
     let one = two.before.before in
     let a = one.before.before.before.before.args in
-    let model = checkModel a.store.now a.m in
-    let loss = checkLoss a.m.p a.m.eps in
-    let vector = checkVector a.m.n a.m.d a.v in
-    let stray = checkStray a.m.d (points_of a.store.now) in
+    let model = check_model a.store.now a.m in
+    let loss = check_loss a.m.p a.m.eps in
+    let vector = check_vector a.m.n a.m.d a.v in
+    let stray = check_stray a.m.d (points_of a.store.now) in
     let chosen =
-    one.in_order.ensures ∙ λ j. inOrder (one.before.before.check-model.ensures j ∷ one.before.check-loss.ensures j ∷ []) in
+    one.in_order.ensures ∙ λ j. in_order (one.before.before.check-model.ensures j ∷ one.before.check-loss.ensures j ∷ []) in
     c.then-stray.ensures
-    ∙ (λ i. inOrder ((two.in-order2.ensures ∙ λ j. inOrder (chosen j ∷ two.before.check-vector.ensures j ∷ [])) i ∷ stray ∷ []))
-    ∙ (λ i. inOrder (in-order-group (model ∷ loss ∷ []) (vector ∷ []) i ∷ stray ∷ []))
-    ∙ in-order-group (model ∷ loss ∷ vector ∷ []) (stray ∷ [])
+    ∙ (λ i. in_order ((two.in-order2.ensures ∙ λ j. in_order (chosen j ∷ two.before.check-vector.ensures j ∷ [])) i ∷ stray ∷ []))
+    ∙ (λ i. in_order (in_order_group (model ∷ loss ∷ []) (vector ∷ []) i ∷ stray ∷ []))
+    ∙ in_order_group (model ∷ loss ∷ vector ∷ []) (stray ∷ [])
 
 pub check-threshold-spec : {M : Type 1} → statement M
 check-threshold-spec =

@@ -1,9 +1,9 @@
 -- By what the first check says.
 use borrow.Author.Rules.{rules}
 use mathlib.Core.Path.{refl, sym, ◌∙◌}
-use Rattle.codes.specs.Codes.{inOrder}
-use Rattle.codes.proofs.Laws.{in-order-one}
-use Rattle.points.specs.Points.{points_of, checkStray}
+use Rattle.codes.specs.Codes.{in_order}
+use Rattle.codes.proofs.Laws.{in_order_one}
+use Rattle.points.specs.Points.{points_of, check_stray}
 use Rattle.model_checks.proofs.then_stray.Statement.{statement}
 use Rattle.model_checks.proofs.then_stray.Tie as tie
 
@@ -17,13 +17,13 @@ enum-known-first : tie.Need-enum-known-first
 enum-known-first c = search rules
 
 returns : tie.Need-returns
-unfolding inOrder
+unfolding in_order
 returns c =
     let a = c.before.before.before.before.args in
-    rw c.before.enum_told.given.1 (c.check-stray.ensures ∙ sym (in-order-one (checkStray a.d (points_of a.store.now))))
+    rw c.before.enum_told.given.1 (c.check-stray.ensures ∙ sym (in_order_one (check_stray a.d (points_of a.store.now))))
 
 returns-2 : tie.Need-returns-2
-unfolding inOrder
+unfolding in_order
 returns-2 c = rw c.before.first.given.1 refl
 
 pub then-stray-spec : {M : Type 1} → statement M

@@ -2,7 +2,7 @@
 use Prim.Native.Nat.{◌+◌, ◌≤◌}
 use native.Mathlib.Omega.{arith}
 use lib.ListN.{length}
-use Rattle.one_board.proofs.Alone.{past-buffer, in_buffer, part-lent}
+use Rattle.one_board.proofs.Alone.{past_buffer, in_buffer, part_lent}
 use borrow.Author.Rules.{rules}
 use Rattle.one_board.proofs.search_part.Statement.{statement}
 use Rattle.one_board.proofs.search_part.Tie as tie
@@ -13,7 +13,7 @@ refusal-requires c κs = search rules
 returns : tie.Need-returns
 returns c =
     let a = c.before.before.before.before.args in
-    past-buffer a.stores.now a.from a.size a.job a.table.now a.bounds.now c.refusal.result
+    past_buffer a.stores.now a.from a.size a.job a.table.now a.bounds.now c.refusal.result
     (omega (arith, c.before.if1.true)) c.refusal.ensures
 
 sub-if2 : tie.Need-overflow-sub-if2
@@ -25,7 +25,7 @@ refusal-requires-2 c κs = search rules
 returns-2 : tie.Need-returns-2
 returns-2 c =
     let a = c.before.before.before.before.before.args in
-    past-buffer a.stores.now a.from a.size a.job a.table.now a.bounds.now c.refusal2.result
+    past_buffer a.stores.now a.from a.size a.job a.table.now a.bounds.now c.refusal2.result
     (omega (arith, c.before.before.if1.false, c.before.if2.true)) c.refusal2.ensures
 
 -- the store lies in the buffer
@@ -61,7 +61,7 @@ returns-3 c =
     let in-it = q.before.before.before.before in
     let a = in-it.before.before.before.before.args in
     in_buffer a.stores.now a.from a.size a.job a.table.now a.bounds.now q.search.result
-    q.search.new.1.1.0 q.search.new.1.1.1.0 _ (here in-it) (part-lent a.stores.now a.from a.size)
+    q.search.new.1.1.0 q.search.new.1.1.1.0 _ (here in-it) (part_lent a.stores.now a.from a.size)
     q.search.ensures
 
 pub search-part-spec : {M : Type 1} → statement M

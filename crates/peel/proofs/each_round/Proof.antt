@@ -10,10 +10,10 @@ use lib.ListN.{length, set}
 use Rattle.integers.specs.Lists.{over}
 use Rattle.points.specs.Points.{points_of}
 use Rattle.peel_checks.proofs.Passed.{Accepted, accepted}
-use Rattle.points_left.specs.Left.{firstLabel}
+use Rattle.points_left.specs.Left.{first_label}
 use Rattle.rounds.specs.Rounds.{samples}
 use Rattle.peel_rounds.specs.Going.{Going}
-use Rattle.peel_rounds.proofs.Following.{first-going, ready-next, going_next, last_done, still-long}
+use Rattle.peel_rounds.proofs.Following.{first_going, ready_next, going_next, last_done, still_long}
 use Rattle.peel.proofs.each_round.Statement.{statement}
 use Rattle.peel.proofs.each_round.Tie as tie
 
@@ -36,11 +36,11 @@ passed s =
 aside : (c : tie.After-set-aside invariant-loop decreases-loop) →
     let a = c.before.before.before.before.before.args in
     (c.set-aside.result ≡ length (samples (points_of a.store.now)))
-    × (c.set-aside.new.1.0 ≡ over (map firstLabel (points_of a.store.now)) a.labels.now)
+    × (c.set-aside.new.1.0 ≡ over (map first_label (points_of a.store.now)) a.labels.now)
 aside c =
     let a = c.before.before.before.before.before.args in
     let room = le-leb (length a.store.now / 12) (length a.labels.now)
-    (passed c.before.before.before.before.before).room-holds in
+    (passed c.before.before.before.before.before).room_holds in
     (c.set-aside.ensures.0 ∙ rw room refl, c.set-aside.ensures.1 ∙ rw room refl)
 
 set-aside-requires : tie.Need-set-aside-requires invariant-loop decreases-loop
@@ -56,10 +56,10 @@ loop-holds : tie.Need-loop-init invariant-loop decreases-loop
 loop-holds c =
     let a = c.before.before.before.before.before.before.before.before.before.args in
     let w = aside c.before.before.before.before in
-    first-going a.store.now a.job a.limit a.table.now a.bounds.now a.labels.now
+    first_going a.store.now a.job a.limit a.table.now a.bounds.now a.labels.now
     c.before.before.before.before.set-aside.new.1.0
-    w.1 c.before.before.before.before.set-aside.result c.before.first-rounds.result c.no-round.result w.0
-    c.before.first-rounds.ensures
+    w.1 c.before.before.before.before.set-aside.result c.before.first_rounds.result c.no-round.result w.0
+    c.before.first_rounds.ensures
     c.no-round.ensures
 
 one-round-requires : tie.Need-one-round-requires invariant-loop decreases-loop
@@ -69,7 +69,7 @@ one-round-requires c κs =
     let s = l.before.before.before.before.before.before.before.before.before.before in
     let a = s.args in
     let ok = passed s in
-    ready-next a.store.now a.job a.limit a.table.now a.bounds.now
+    ready_next a.store.now a.job a.limit a.table.now a.bounds.now
     l.before.before.before.before.before.set-aside.new.1.0 l.loop.i
     l.loop.more l.loop.answers l.loop.labels l.loop.table l.loop.bounds ok.searching ok.given_holds.line
     ok.given_holds.counts ok.given_holds.few t.loop-test.true l.loop.invariant
@@ -130,11 +130,11 @@ same-length-3 c =
     let l = c.before in
     let s = l.before.before.before.before.before.before.before.before.before.before in
     let a = s.args in
-    still-long a.store.now a.job a.limit a.table.now a.bounds.now a.labels.now
+    still_long a.store.now a.job a.limit a.table.now a.bounds.now a.labels.now
     l.before.before.before.before.before.set-aside.new.1.0
     (aside l.before.before.before.before.before).1 l.loop.i l.loop.more l.loop.answers l.loop.labels
     l.loop.table l.loop.bounds
-    (passed s).room-holds l.loop.invariant
+    (passed s).room_holds l.loop.invariant
 
 returns : tie.Need-returns invariant-loop decreases-loop
 returns c =

@@ -1,6 +1,6 @@
 -- By the check: all rounds, or a refusal that changes nothing.
 use mathlib.Core.Path.{sym, ◌∙◌}
-use Rattle.peel.proofs.Told.{where-accepted, where-refused}
+use Rattle.peel.proofs.Told.{where_accepted, where_refused}
 use borrow.Author.Rules.{rules}
 use Rattle.peel.proofs.peel.Statement.{statement}
 use Rattle.peel.proofs.peel.Tie as tie
@@ -31,17 +31,17 @@ same-length-3 c = search rules
 
 returns : tie.Need-returns
 returns c =
-    let r = c.before.before.before.before.before.each-round in
+    let r = c.before.before.before.before.before.each_round in
     let a = c.before.before.before.before.before.before.before.before.before.before.before.before.before.before.before.args
     in
-    where-accepted a.store.now a.job a.limit a.table.now a.bounds.now a.labels.now r.result _ _ _
+    where_accepted a.store.now a.job a.limit a.table.now a.bounds.now a.labels.now r.result _ _ _
     (sym c.before.before.before.before.before.before.before.before.before.before.before.check-peel.ensures ∙ c.before.before.before.before.before.before.before.before.before.enum_told.given.1) r.ensures.1 r.ensures.0
 
 returns-2 : tie.Need-returns-2
 returns-2 c =
     let w = c.before.before.why in
     let a = c.before.before.before.before.before.before.before.before.args in
-    where-refused a.store.now a.job a.limit a.table.now a.bounds.now a.labels.now w.given.0.0
+    where_refused a.store.now a.job a.limit a.table.now a.bounds.now a.labels.now w.given.0.0
     c.no-round.result (sym c.before.before.before.before.check-peel.ensures ∙ w.given.1) c.no-round.ensures
 
 pub peel-spec : {M : Type 1} → statement M

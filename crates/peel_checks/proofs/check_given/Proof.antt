@@ -2,8 +2,8 @@
 use mathlib.Core.Path.{ap₂, ◌∙◌}
 use mathlib.Core.List.{[], ◌∷◌}
 use Rattle.codes.specs.declared.Check.{Check}
-use Rattle.codes.specs.Codes.{inOrder}
-use Rattle.peel_checks.proofs.Passed.{in-groups}
+use Rattle.codes.specs.Codes.{in_order}
+use Rattle.peel_checks.proofs.Passed.{in_groups}
 use borrow.Author.Rules.{rules}
 use Rattle.peel_checks.proofs.check_given.Statement.{statement}
 use Rattle.peel_checks.proofs.check_given.Tie as tie
@@ -48,7 +48,7 @@ in-order-requires-6 : tie.Need-in-order-requires-6
 in-order-requires-6 c κs = search rules
 
 abbrev both : Check → Check → Check
-both x y = inOrder (x ∷ y ∷ [])
+both x y = in_order (x ∷ y ∷ [])
 
 returns : tie.Need-returns
 returns c =
@@ -67,7 +67,7 @@ returns c =
     ∙ ap₂ both
     (loss.in-order3.ensures ∙ ap₂ both loss.before.before.check-loss.ensures loss.before.check-counting.ensures)
     limit.check-limit.ensures)
-    ∙ in-groups _ _ _ _ _ _ _
+    ∙ in_groups _ _ _ _ _ _ _
 
 pub check-given-spec : {M : Type 1} → statement M
 check-given-spec =

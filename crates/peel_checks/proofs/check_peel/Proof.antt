@@ -2,8 +2,8 @@
 use mathlib.Core.Path.{◌≡◌, sym, ap₂, ◌∙◌}
 use mathlib.Core.List.{[], ◌∷◌}
 use Rattle.codes.specs.declared.Check.{Check}
-use Rattle.codes.specs.Codes.{inOrder}
-use Rattle.peel_checks.proofs.Passed.{search-decides, first-refuses}
+use Rattle.codes.specs.Codes.{in_order}
+use Rattle.peel_checks.proofs.Passed.{search_decides, first_refuses}
 use borrow.Author.Rules.{rules}
 use Rattle.peel_checks.proofs.check_peel.Statement.{statement}
 use Rattle.peel_checks.proofs.check_peel.Tie as tie
@@ -27,7 +27,7 @@ enum-known-r : tie.Need-enum-known-r
 enum-known-r c = search rules
 
 abbrev both : Check → Check → Check
-both x y = inOrder (x ∷ y ∷ [])
+both x y = in_order (x ∷ y ∷ [])
 
 returns : tie.Need-returns
 returns c =
@@ -37,14 +37,14 @@ returns c =
     let a = given.before.before.before.args in
     c.in_order.ensures
     ∙ ap₂ both q.check-search.ensures c.before.check-labels.ensures
-    ∙ sym (search-decides a.store.now a.job a.limit a.numbers a.entries a.labels
+    ∙ sym (search_decides a.store.now a.job a.limit a.numbers a.entries a.labels
     (sym given.check-given.ensures ∙ told.enum_told.given.1))
 
 returns-2 : tie.Need-returns-2
 returns-2 c =
     let given = c.before.before.before in
     let a = given.before.before.before.args in
-    sym (first-refuses a.store.now a.job a.limit a.numbers a.entries a.labels c.before.r.given.0.0
+    sym (first_refuses a.store.now a.job a.limit a.numbers a.entries a.labels c.before.r.given.0.0
     (sym given.check-given.ensures ∙ c.before.r.given.1))
 
 pub check-peel-spec : {M : Type 1} → statement M

@@ -7,8 +7,8 @@ use native.Mathlib.Omega.{arith}
 use Rattle.points.specs.declared.Point.{Point}
 use Rattle.points.specs.declared.Record.{Record}
 use Rattle.points.specs.declared.Record.TheVariants.{Sample, Gap, Missing}
-use Rattle.points.specs.Points.{pointAt, isGap, sampleOrGap, pointAnswer}
-use Rattle.points_left.specs.Left.{firstLabel}
+use Rattle.points.specs.Points.{point_at, is_gap, sample_or_gap, point_answer}
+use Rattle.points_left.specs.Left.{first_label}
 use borrow.Author.Rules.{rules}
 use Rattle.points_left.proofs.first_label.Statement.{statement}
 use Rattle.points_left.proofs.first_label.Tie as tie
@@ -31,23 +31,23 @@ label_of (Sample q) = 0
 label_of (Gap q) = 6
 label_of Missing = 0
 
-of-point : (q : Point) (r : Record) → r ≡ sampleOrGap q → label_of r ≡ firstLabel q
-unfolding sampleOrGap firstLabel
-of-point q r e = rw e (by-gap (isGap q))
+of-point : (q : Point) (r : Record) → r ≡ sample_or_gap q → label_of r ≡ first_label q
+unfolding sample_or_gap first_label
+of-point q r e = rw e (by_gap (is_gap q))
   where
-    by-gap : (b : Bool) → label_of (cond b (Gap q) (Sample q)) ≡ cond b 6 0
-    by-gap true = refl
-    by-gap false = refl
+    by_gap : (b : Bool) → label_of (cond b (Gap q) (Sample q)) ≡ cond b 6 0
+    by_gap true = refl
+    by_gap false = refl
 
 -- what was read
 module _ (c : tie.After-read-point) where
   abbrev start : tie.Start
   start = c.before.before
 
-  told : label_of c.read-point.result ≡ firstLabel (pointAt start.args.store.now start.args.i)
-  unfolding pointAnswer
+  told : label_of c.read-point.result ≡ first_label (point_at start.args.store.now start.args.i)
+  unfolding point_answer
   told =
-      of-point (pointAt start.args.store.now start.args.i) c.read-point.result
+      of-point (point_at start.args.store.now start.args.i) c.read-point.result
       (c.read-point.ensures ∙ simp (lt-ltb _ _ start.pre))
 
 returns : tie.Need-returns

@@ -6,7 +6,7 @@ use Prim.Native.Nat.{◌+◌, ◌*◌, ◌-◌, ◌≤◌, ◌<◌}
 use native.Mathlib.Omega.{arith}
 use lib.Dec.{eqb}
 use lib.ListN.{length, get_or}
-use Rattle.points_left.proofs.Gathering.{Gathered, none-gathered, one-gathered, all-gathered, at-most-twelve}
+use Rattle.points_left.proofs.Gathering.{Gathered, none_gathered, one_gathered, all_gathered, at_most_twelve}
 use Rattle.points_left.proofs.gather.Statement.{statement}
 use Rattle.points_left.proofs.gather.Tie as tie
 
@@ -24,7 +24,7 @@ smaller-requires : tie.Need-smaller-requires invariant-loop decreases-loop
 smaller-requires c κs = search rules
 
 loop-holds : tie.Need-loop-init invariant-loop decreases-loop
-loop-holds c = let a = c.before.before.before.before.before.args in none-gathered a.store.now a.labels.now a.out.now
+loop-holds c = let a = c.before.before.before.before.before.args in none_gathered a.store.now a.labels.now a.out.now
 
 shared-slice-read-put-left : tie.Need-shared-slice-read-put-left invariant-loop decreases-loop
 shared-slice-read-put-left c = search rules
@@ -49,7 +49,7 @@ fitting c =
       t.loop-test.true,
       l.before.smaller.ensures,
       c.put-left.ensures.0,
-      at-most-twelve (eqb (get_or l.before.before.before.before.before.before.args.labels.now l.loop.i 0) 0),
+      at_most_twelve (eqb (get_or l.before.before.before.before.before.before.args.labels.now l.loop.i 0) 0),
     )
 
 add-n : tie.Need-overflow-add-n invariant-loop decreases-loop
@@ -68,7 +68,7 @@ loop-again c =
     let l = t.before in
     let s = l.before.before.before.before.before.before in
     let a = s.args in
-    one-gathered a.store.now a.labels.now a.out.now l.loop.n l.loop.i l.loop.out w.put-left.new.1.0
+    one_gathered a.store.now a.labels.now a.out.now l.loop.n l.loop.i l.loop.out w.put-left.new.1.0
     w.put-left.result (omega (arith, t.loop-test.true, l.before.smaller.ensures)) l.before.before.if1.false
     w.put-left.ensures.0 w.put-left.ensures.1 l.loop.invariant
 
@@ -82,7 +82,7 @@ returns-2 c =
     let a = s.args in
     let room = l.before.before.if1.false in
     let all =
-    all-gathered a.store.now a.labels.now a.out.now l.loop.n l.loop.i l.loop.out
+    all_gathered a.store.now a.labels.now a.out.now l.loop.n l.loop.i l.loop.out
     (omega (arith, c.loop-test.false, l.before.smaller.ensures)) room l.loop.invariant in
     rw (le-leb (length a.store.now) (length a.out.now) room) all
 

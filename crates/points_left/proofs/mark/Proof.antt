@@ -6,7 +6,7 @@ use native.Mathlib.Omega.{arith}
 use lib.Dec.{eqb}
 use lib.ListN.{length, get_or}
 use mathlib.Core.Bool.{◌&&◌}
-use Rattle.points_left.proofs.Marking.{Marked, none-marked, one-marked, all-marked, at_most_one}
+use Rattle.points_left.proofs.Marking.{Marked, none_marked, one_marked, all_marked, at_most_one}
 use Rattle.points_left.proofs.mark.Statement.{statement}
 use Rattle.points_left.proofs.mark.Tie as tie
 
@@ -20,7 +20,7 @@ smaller-requires : tie.Need-smaller-requires invariant-loop decreases-loop
 smaller-requires c κs = search rules
 
 loop-holds : tie.Need-loop-init invariant-loop decreases-loop
-loop-holds c = let a = c.before.before.before.args in none-marked a.number a.labels.now a.marks.now
+loop-holds c = let a = c.before.before.before.args in none_marked a.number a.labels.now a.marks.now
 
 slice-read-label : tie.Need-slice-read-label invariant-loop decreases-loop
 slice-read-label c = search rules
@@ -62,7 +62,7 @@ loop-again c =
     let t = c.before.before.before.before in
     let l = t.before in
     let a = l.before.before.before.before.args in
-    one-marked a.number a.labels.now a.marks.now l.loop.removed l.loop.i l.loop.labels c.before.relabel.result
+    one_marked a.number a.labels.now a.marks.now l.loop.removed l.loop.i l.loop.labels c.before.relabel.result
     c.removed-one.result (omega (arith, t.loop-test.true, l.before.smaller.ensures)) c.before.relabel.ensures
     c.removed-one.ensures l.loop.invariant
 
@@ -73,7 +73,7 @@ returns : tie.Need-returns invariant-loop decreases-loop
 returns c =
     let l = c.before in
     let a = l.before.before.before.before.args in
-    all-marked a.number a.labels.now a.marks.now l.loop.removed l.loop.i l.loop.labels
+    all_marked a.number a.labels.now a.marks.now l.loop.removed l.loop.i l.loop.labels
     (omega (arith, c.loop-test.false, l.before.smaller.ensures)) l.loop.invariant
 
 pub mark_spec : {M : Type 1} → statement M

@@ -6,17 +6,17 @@ use mathlib.Core.Path.{◌≡◌, refl, ◌∙◌}
 use Prim.Native.Nat.{◌+◌, ◌-◌, ◌/◌, ◌≤◌, ◌<◌}
 use native.Mathlib.Omega.{arith}
 use lib.ListN.{length}
-use Rattle.points.specs.Points.{firstPoints}
-use Rattle.labels.proofs.Filling.{Filled, none_filled, one-filled, all-filled}
+use Rattle.points.specs.Points.{first_points}
+use Rattle.labels.proofs.Filling.{Filled, none_filled, one_filled, all_filled}
 use Rattle.rounds.specs.Rounds.{samples}
-use Rattle.points_left.specs.Left.{firstLabel}
-use Rattle.points_left.proofs.Samples.{samples-more, samples-few, samples-all}
+use Rattle.points_left.specs.Left.{first_label}
+use Rattle.points_left.proofs.Samples.{samples_more, samples_few, samples_all}
 use Rattle.points_left.proofs.set_aside.Statement.{statement}
 use Rattle.points_left.proofs.set_aside.Tie as tie
 
 abbrev invariant-loop : tie.invariant-loop
 invariant-loop store labels₀ count left₀ i₀ labels left i =
-    Filled firstLabel store labels₀ i labels × (left ≡ length (samples (firstPoints store i)))
+    Filled first_label store labels₀ i labels × (left ≡ length (samples (first_points store i)))
 
 abbrev decreases-loop : tie.decreases-loop
 decreases-loop store labels₀ count left₀ i₀ labels left i = length store / 12 - i
@@ -26,8 +26,8 @@ returns c = let a = c.before.before.before.args in rw (lt-leb (length a.store.no
     (refl, refl)
 
 loop-holds : tie.Need-loop-init invariant-loop decreases-loop
-unfolding firstPoints
-loop-holds c = let a = c.before.before.before.args in (none_filled firstLabel a.store.now a.labels.now, refl)
+unfolding first_points
+loop-holds c = let a = c.before.before.before.args in (none_filled first_label a.store.now a.labels.now, refl)
 
 first-label-requires : tie.Need-first-label-requires invariant-loop decreases-loop
 first-label-requires c κs = search rules
@@ -44,9 +44,9 @@ add_left c =
     let s = l.before.before.before.before in
     omega (
       arith,
-      samples-more s.args.store.now l.loop.i c.counted.result c.before.first-label.result
-          c.before.first-label.ensures c.counted.ensures,
-      samples-few s.args.store.now (l.loop.i + 1),
+      samples_more s.args.store.now l.loop.i c.counted.result c.before.first_label_lem.result
+          c.before.first_label_lem.ensures c.counted.ensures,
+      samples_few s.args.store.now (l.loop.i + 1),
       l.loop.invariant.1,
     )
 
@@ -62,11 +62,11 @@ loop-again c =
     let l = f.before.before in
     let a = l.before.before.before.before.args in
     let g = l.loop.invariant.0 in (
-      one-filled firstLabel a.store.now a.labels.now f.first-label.result f.first-label.ensures
+      one_filled first_label a.store.now a.labels.now f.first_label_lem.result f.first_label_lem.ensures
           f.before.loop-test.true
           (omega (arith, g.long, l.before.if1.false, f.before.loop-test.true)) g,
       rw l.loop.invariant.1
-          (samples-more a.store.now l.loop.i c.counted.result f.first-label.result f.first-label.ensures
+          (samples_more a.store.now l.loop.i c.counted.result f.first_label_lem.result f.first_label_lem.ensures
           c.counted.ensures),
     )
 
@@ -79,8 +79,8 @@ returns-2 c =
     let a = l.before.before.before.before.args in
     let g = l.loop.invariant.0 in
     rw (le-leb (length a.store.now / 12) (length a.labels.now) l.before.if1.false) (
-      l.loop.invariant.1 ∙ samples-all a.store.now l.loop.i (omega (arith, g.few, c.loop-test.false)),
-      all-filled firstLabel a.store.now a.labels.now c.loop-test.false g,
+      l.loop.invariant.1 ∙ samples_all a.store.now l.loop.i (omega (arith, g.few, c.loop-test.false)),
+      all_filled first_label a.store.now a.labels.now c.loop-test.false g,
     )
 
 pub set-aside-spec : {M : Type 1} → statement M

@@ -12,7 +12,7 @@ use mir.Syntax.{w16}
 use mir.Val.{SFits, to_z, of_z}
 use mir.Facts.{to_z-of_z}
 use Rattle.boxes.specs.Boxes.{sides, product}
-use Rattle.range_hulls.proofs.OneVector.{equal-ends, other-ends, no-side}
+use Rattle.range_hulls.proofs.OneVector.{equal_ends, other_ends, no_side}
 use Rattle.range_hulls.proofs.one_vector.Statement.{statement}
 use Rattle.range_hulls.proofs.one_vector.Tie as tie
 
@@ -72,7 +72,7 @@ returns c =
     let r = c.before in
     let n = long r in
     sym ((turn r).loop.inv
-    ∙ other-ends (low r) (high r) (k r) (omega arith) (omega arith) (λ e. c.if1.true (ap (of_z w16) e)))
+    ∙ other_ends (low r) (high r) (k r) (omega arith) (omega arith) (λ e. c.if1.true (ap (of_z w16) e)))
 
 add-k : tie.Need-overflow-add-k invariant-loop decreases-loop
 add-k c = omega arith
@@ -85,14 +85,14 @@ loop-again c =
     let r = c.before in
     let n = long r in
     rw add-one ((turn r).loop.inv
-    ∙ equal-ends (low r) (high r) (k r) (omega arith) (omega arith) (same_number r c.if1.false))
+    ∙ equal_ends (low r) (high r) (k r) (omega arith) (omega arith) (same_number r c.if1.false))
 
 returns-2 : tie.Need-returns-2 invariant-loop decreases-loop
 returns-2 c =
     let b = c.before.before.before.before.args.b in
     let long-low : length b.low ≡ 8 = search rules in
     let long-high : length b.high ≡ 8 = search rules in
-    sym (c.before.loop.invariant ∙ no-side b.low b.high c.before.loop.k (omega arith) (omega arith))
+    sym (c.before.loop.invariant ∙ no_side b.low b.high c.before.loop.k (omega arith) (omega arith))
 
 pub one-vector-spec : {M : Type 1} → statement M
 one-vector-spec =

@@ -5,7 +5,7 @@ use lib.IntN.{ℤ}
 use lib.Ieee.{Float}
 use mir.Syntax.{w16}
 use mir.Facts.{to_z-of_z}
-use Rattle.integers.proofs.Signed.{read-lt}
+use Rattle.integers.proofs.Signed.{read_lt}
 use Rattle.range_hulls.proofs.range_between.Statement.{statement}
 use Rattle.range_hulls.proofs.range_between.Tie as tie
 
@@ -19,7 +19,7 @@ returns : tie.Need-returns
 returns c =
     let first = c.before in
     let s = first.before.before in
-    let less = read-lt w16 s.args.low s.args.high s.ranges.low s.ranges.high first.before.if1.true in
+    let less = read_lt w16 s.args.low s.args.high s.ranges.low s.ranges.high first.before.if1.true in
     let low = to_z-of_z s.ranges.low in
     let high = to_z-of_z s.ranges.high in
     rw (less, first.coefficient-of.ensures, c.coefficient-of2.ensures, low, high)
@@ -30,7 +30,7 @@ coefficient-of-requires-3 c κs = search rules
 returns-2 : tie.Need-returns-2
 returns-2 c =
     let s = c.before.before in
-    let less = read-lt w16 s.args.low s.args.high s.ranges.low s.ranges.high c.before.if1.false in
+    let less = read_lt w16 s.args.low s.args.high s.ranges.low s.ranges.high c.before.if1.false in
     let low = to_z-of_z s.ranges.low in
     rw (less, c.coefficient-of3.ensures, low)
 

@@ -8,17 +8,17 @@ use lib.ListN.{length, get_or, length-set}
 use mir.Syntax.{w16}
 use mir.Val.{SFits}
 use mir.Facts.{to_z-of_z}
-use Rattle.integers.specs.Integers.{minZ, maxZ}
+use Rattle.integers.specs.Integers.{min_z, max_z}
 use Rattle.range_search.specs.RangeSearch.{least, greatest}
-use Rattle.range_search.proofs.Found.{length-least, length-greatest}
-use Rattle.range_hulls.proofs.Widening.{first_of, first-all, lower-turn, higher-turn}
+use Rattle.range_search.proofs.Found.{length_least, length_greatest}
+use Rattle.range_hulls.proofs.Widening.{first_of, first_all, lower_turn, higher_turn}
 use Rattle.range_hulls.proofs.with_vector.Statement.{statement}
 use Rattle.range_hulls.proofs.with_vector.Tie as tie
 
 abbrev invariant-loop : tie.invariant-loop
 invariant-loop v low₀ high₀ k₀ low high k =
     (k ≤ 8) × (length low ≡ 8) × (length high ≡ 8)
-    × (low ≡ first_of low₀ (least low₀ v) (length-least low₀ v) k) × (high ≡ first_of high₀ (greatest high₀ v) (length-greatest high₀ v) k)
+    × (low ≡ first_of low₀ (least low₀ v) (length_least low₀ v) k) × (high ≡ first_of high₀ (greatest high₀ v) (length_greatest high₀ v) k)
 
 abbrev decreases-loop : tie.decreases-loop
 decreases-loop v low₀ high₀ k₀ low high k = 8 - k
@@ -87,13 +87,13 @@ loop-again c =
     let fl : SFits w16 (get_or l.loop.low k (pos 0)) = record { sfits = q.before.before.lower-arg.given } in
     let fv : SFits w16 (get_or v k (pos 0)) = record { sfits = q.before.lower-arg2.given } in
     let fh : SFits w16 (get_or l.loop.high k (pos 0)) = record { sfits = c.before.before.higher-arg.given } in
-    let smaller : q.lower.result ≡ minZ (get_or l.loop.low k (pos 0)) (get_or v k (pos 0)) = q.lower.ensures ∙ simp to_z-of_z in
-    let larger : c.higher.result ≡ maxZ (get_or l.loop.high k (pos 0)) (get_or v k (pos 0)) = c.higher.ensures ∙ simp to_z-of_z in (
+    let smaller : q.lower.result ≡ min_z (get_or l.loop.low k (pos 0)) (get_or v k (pos 0)) = q.lower.ensures ∙ simp to_z-of_z in
+    let larger : c.higher.result ≡ max_z (get_or l.loop.high k (pos 0)) (get_or v k (pos 0)) = c.higher.ensures ∙ simp to_z-of_z in (
       omega arith,
       search rules,
       search rules,
-      lower-turn a.ends.low v k (omega arith) (omega arith) fv l.loop.low q.lower.result l.loop.invariant.3 fl smaller,
-      higher-turn a.ends.high v k (omega arith) (omega arith) fv l.loop.high c.higher.result l.loop.invariant.4 fh larger,
+      lower_turn a.ends.low v k (omega arith) (omega arith) fv l.loop.low q.lower.result l.loop.invariant.3 fl smaller,
+      higher_turn a.ends.high v k (omega arith) (omega arith) fv l.loop.high c.higher.result l.loop.invariant.4 fh larger,
     )
 
 returns : tie.Need-returns invariant-loop decreases-loop
@@ -106,9 +106,9 @@ returns c =
     let ends_at : l.loop.k ≡ 8 = omega arith in
     rw (
       l.loop.invariant.3
-          ∙ first-all a.ends.low (least a.ends.low v) (length-least a.ends.low v) l.loop.k (omega arith),
+          ∙ first_all a.ends.low (least a.ends.low v) (length_least a.ends.low v) l.loop.k (omega arith),
       l.loop.invariant.4
-          ∙ first-all a.ends.high (greatest a.ends.high v) (length-greatest a.ends.high v) l.loop.k (omega arith),
+          ∙ first_all a.ends.high (greatest a.ends.high v) (length_greatest a.ends.high v) l.loop.k (omega arith),
     )
 
 pub with-vector-spec : {M : Type 1} → statement M

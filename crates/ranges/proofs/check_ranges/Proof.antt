@@ -1,6 +1,6 @@
 -- Check 8 after those of the job.
 use mathlib.Core.Path.{◌∙◌}
-use Rattle.ranges.specs.Ranges.{checkRanges}
+use Rattle.ranges.specs.Ranges.{check_ranges}
 use native.Mathlib.Omega.{arith}
 use borrow.Author.Rules.{rules}
 use Rattle.ranges.proofs.check_ranges.Statement.{statement}
@@ -16,7 +16,7 @@ in-order-requires : tie.Need-in-order-requires
 in-order-requires c κs = search rules
 
 returns : tie.Need-returns
-unfolding checkRanges
+unfolding check_ranges
 returns c = c.in_order.ensures ∙ rw (c.before.before.check-job.ensures, c.before.check-table.ensures)
 
 pub check-ranges-spec : {M : Type 1} → statement M

@@ -6,11 +6,11 @@ use Rattle.codes.specs.declared.Check.TheVariants.{Pass}
 use Rattle.boxes.specs.Boxes.{volume}
 use Rattle.points.specs.Points.{points_of}
 use Rattle.residuals.specs.Cost.{bound}
-use Rattle.costs.proofs.Passed.{decoded-for}
+use Rattle.costs.proofs.Passed.{decoded_for}
 use Rattle.branching.specs.Branching.{Evaluable}
-use Rattle.ranges.specs.Ranges.{checkLent}
+use Rattle.ranges.specs.Ranges.{check_lent}
 use Rattle.ranges.specs.Inside.{Limited}
-use Rattle.ranges.proofs.Accepted.{accepted, rows-lent, some-vector, limited, ended-from, promised-pass, promised-refused}
+use Rattle.ranges.proofs.Accepted.{accepted, rows_lent, some_vector, limited, ended_from, promised_pass, promised_refused}
 use native.Mathlib.Omega.{arith}
 use borrow.Author.Rules.{rules}
 use Rattle.ranges.proofs.ranges.Statement.{statement}
@@ -51,14 +51,14 @@ module _ (c : tie.After-enum-told) where
   abbrev begun : tie.Start
   begun = c.before.before.before.before
 
-  pass : checkLent begun.args.store.now begun.args.job begun.args.ceiling begun.args.table.now ≡ Pass
+  pass : check_lent begun.args.store.now begun.args.job begun.args.ceiling begun.args.table.now ≡ Pass
   pass = sym c.before.before.check-ranges.ensures ∙ c.enum_told.given.1
 
   rows : 16 ≤ length begun.args.table.now
-  rows = rows-lent begun.args.store.now begun.args.job begun.args.ceiling begun.args.table.now pass
+  rows = rows_lent begun.args.store.now begun.args.job begun.args.ceiling begun.args.table.now pass
 
   some : 1 ≤ volume begun.args.job.domain
-  some = some-vector begun.args.store.now begun.args.job begun.args.ceiling begun.args.table.now pass
+  some = some_vector begun.args.store.now begun.args.job begun.args.ceiling begun.args.table.now pass
 
 -- the store is decoded
 module _ (c : tie.After-decode) where
@@ -72,7 +72,7 @@ module _ (c : tie.After-decode) where
       record {
         checked = checked;
         decoded =
-            decoded-for a.store.now a.job.model checked c.before.power.ensures refl (search rules) c.decode.ensures;
+            decoded_for a.store.now a.job.model checked c.before.power.ensures refl (search rules) c.decode.ensures;
       }
 
   limit : Limited (bound (begun told).args.job.model (points_of (begun told).args.store.now)) (begun told).args.job.domain
@@ -122,8 +122,8 @@ returns c =
     let d = b.before.before.before.before in
     let e = told d in
     let a = (begun e).args in
-    promised-pass a.store.now a.job a.ceiling a.table.now (pass e) q.steps.last.1.1.1.1.0 q.steps.result
-    (ended-from a.store.now a.job a.ceiling a.table.now (pass e) b.begin.last.1.1.1.1.0
+    promised_pass a.store.now a.job a.ceiling a.table.now (pass e) q.steps.last.1.1.1.1.0 q.steps.result
+    (ended_from a.store.now a.job a.ceiling a.table.now (pass e) b.begin.last.1.1.1.1.0
     q.steps.last.1.1.1.1.0 b.begin.result q.steps.result b.begin.ensures q.steps.ensures)
     c.tell.result c.tell.ensures
 
@@ -132,7 +132,7 @@ returns-2 c =
     let w = c.before.before in
     let q = w.before.before in
     let a = q.before.before.args in
-    promised-refused a.store.now a.job a.ceiling a.table.now w.why.given.0.0 c.refusal.result
+    promised_refused a.store.now a.job a.ceiling a.table.now w.why.given.0.0 c.refusal.result
     (sym q.check-ranges.ensures ∙ w.why.given.1) c.refusal.ensures
 
 pub ranges-spec : {M : Type 1} → statement M

@@ -8,8 +8,8 @@ use lib.IntN.{ℤ, pos, nat_abs}
 use lib.ListN.{length, get_or}
 use mir.Syntax.{w16}
 use mir.Val.{SFits}
-use Rattle.integers.proofs.Parts.{abs-fits}
-use Rattle.integers.proofs.Tests.{le-or-lt}
+use Rattle.integers.proofs.Parts.{abs_fits}
+use Rattle.integers.proofs.Tests.{le_or_lt}
 use native.Mathlib.Omega.{arith}
 use Rattle.ranges.proofs.sixteen_bits.Statement.{statement}
 use Rattle.ranges.proofs.sixteen_bits.Tie as tie
@@ -45,7 +45,7 @@ loop-again c =
     let turn = c.before.before in
     let v = turn.before.args.v.now in
     let fits : SFits w16 (get_or v turn.loop.k (pos 0)) = record { sfits = c.size.given } in
-    below_more (λ (j : ℕ). nat_abs (get_or v j (pos 0)) ≤ 32768) turn.loop.k turn.loop.invariant (abs-fits w16 fits)
+    below_more (λ (j : ℕ). nat_abs (get_or v j (pos 0)) ≤ 32768) turn.loop.k turn.loop.invariant (abs_fits w16 fits)
 
 returns : tie.Need-returns invariant-loop decreases-loop
 returns c =
@@ -53,7 +53,7 @@ returns c =
     let v = turn.before.args.v.now in
     λ k. ⊎_elim
     (λ (past : length v ≤ k). rw (get_d_past v k past) (omega arith))
-    (λ (inside : k < length v). turn.loop.invariant k (omega arith)) (le-or-lt (length v) k)
+    (λ (inside : k < length v). turn.loop.invariant k (omega arith)) (le_or_lt (length v) k)
 
 pub sixteen-bits-spec : {M : Type 1} → statement M
 sixteen-bits-spec =

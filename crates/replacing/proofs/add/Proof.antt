@@ -1,5 +1,5 @@
 -- There is room, or not; the box is written if it is kept.
-use Rattle.replacing.proofs.Adding.{none_more, put-none, put_one}
+use Rattle.replacing.proofs.Adding.{none_more, put_none, put_one}
 use borrow.Author.Rules.{rules}
 use Rattle.replacing.proofs.add.Statement.{statement}
 use Rattle.replacing.proofs.add.Tie as tie
@@ -21,7 +21,7 @@ returns-2 : tie.Need-returns-2
 returns-2 c =
     let a = c.before.before.before.before.before.before.before.before.before.before.before.args in
     let put = c.before.before.before.before.before.put in
-    put-none a.late.now a.beside.now a.list a.child put.result _ _
+    put_none a.late.now a.beside.now a.list a.child put.result _ _
     c.before.before.before.before.before.before.before.before.if1.false put.ensures.0 put.ensures.1.0
     put.ensures.1.1 c.if2.true
 

@@ -7,8 +7,8 @@ use lib.ListN.{length}
 use Rattle.list_rows.proofs.Rows.{Whole}
 use Rattle.list_running.proofs.Entries.{one_answer}
 use Rattle.replacing.specs.Replacing.{Memory, memory}
-use Rattle.replacing.proofs.Adding.{two-added}
-use Rattle.replacing.proofs.Replacing.{added-long, late-long, entries-long, room-long}
+use Rattle.replacing.proofs.Adding.{two_added}
+use Rattle.replacing.proofs.Replacing.{added_long, late_long, entries_long, room_long}
 use borrow.Author.Rules.{rules}
 use Rattle.replacing.proofs.replace.Statement.{statement}
 use Rattle.replacing.proofs.replace.Tie as tie
@@ -77,12 +77,12 @@ module _ (c : tie.After-slice-known7) where
   start = begun rooms
 
   -- the halves have sixteen numbers each
-  left-whole : Whole start.args.br.left.half
-  left-whole =
+  left_whole : Whole start.args.br.left.half
+  left_whole =
       let half = start.good.1.1.1.1.1.1.1.1.0.1.1.1.1.0 in record { low = search (rules, half); high = search (rules, half) }
 
-  right-whole : Whole start.args.br.right.half
-  right-whole =
+  right_whole : Whole start.args.br.right.half
+  right_whole =
       let half = start.good.1.1.1.1.1.1.1.1.0.1.1.1.1.1.0 in record
       { low = search (rules, half); high = search (rules, half) }
 
@@ -93,12 +93,12 @@ module _ (c : tie.After-slice-known7) where
   two = c.before.before.before
 
   -- lengths after the box is taken out, after the left half is added, and after the right one
-  out-long : (length (left_over rooms).late ≡ length start.args.late.now) ×
+  out_long : (length (left_over rooms).late ≡ length start.args.late.now) ×
       (length (left_over rooms).beside ≡ length start.args.beside.now)
-  out-long =
+  out_long =
       let a = start.args in
       let h = left_over rooms in
-      late-long a.bounds.now a.leasts.now a.places.now a.late.now a.beside.now a.list a.found
+      late_long a.bounds.now a.leasts.now a.places.now a.late.now a.beside.now a.list a.found
       takes.take.result
       h.bounds h.leasts h.places h.late h.beside takes.take.ensures
 
@@ -106,25 +106,25 @@ module _ (c : tie.After-slice-known7) where
   entries-same =
       let a = start.args in
       let h = left_over rooms in
-      entries-long a.bounds.now a.leasts.now a.places.now a.late.now a.beside.now a.list a.found
+      entries_long a.bounds.now a.leasts.now a.places.now a.late.now a.beside.now a.list a.found
       takes.take.result
       h.bounds h.leasts h.places h.late h.beside takes.take.ensures
 
   one-long : (length one.add.last.0 ≡ length (left_over rooms).late) × (length one.add.last.1.0 ≡ length
       (left_over rooms).beside)
   one-long =
-      added-long (left_over rooms).late (left_over rooms).beside rooms.make-room.result start.args.br.left one.add.last.0
-      one.add.last.1.0 one.add.ensures.1.0 one.add.ensures.1.1 left-whole
+      added_long (left_over rooms).late (left_over rooms).beside rooms.make-room.result start.args.br.left one.add.last.0
+      one.add.last.1.0 one.add.ensures.1.0 one.add.ensures.1.1 left_whole
 
   two-long : (length two.add2.last.0 ≡ length one.add.last.0) × (length two.add2.last.1.0 ≡ length one.add.last.1.0)
   two-long =
-      added-long one.add.last.0 one.add.last.1.0 one.add.result start.args.br.right two.add2.last.0
-      two.add2.last.1.0 two.add2.ensures.1.0 two.add2.ensures.1.1 right-whole
+      added_long one.add.last.0 one.add.last.1.0 one.add.result start.args.br.right two.add2.last.0
+      two.add2.last.1.0 two.add2.ensures.1.0 two.add2.ensures.1.1 right_whole
 
   room-same : length rooms.make-room.last.1.0 ≡ length (left_over rooms).bounds
   room-same =
       let br = start.args.br in
-      (room-long (left_over rooms) takes.take.result br.mark br.stays rooms.make-room.result (roomy rooms)
+      (room_long (left_over rooms) takes.take.result br.mark br.stays rooms.make-room.result (roomy rooms)
       rooms.make-room.ensures).1
 
 same-length-5 : tie.Need-same-length-5
@@ -134,10 +134,10 @@ same-length-6 : tie.Need-same-length-6
 same-length-6 c = room-same c ∙ entries-same c
 
 same-length-7 : tie.Need-same-length-7
-same-length-7 c = (two-long c).0 ∙ (one-long c).0 ∙ (out-long c).0
+same-length-7 c = (two-long c).0 ∙ (one-long c).0 ∙ (out_long c).0
 
 same-length-8 : tie.Need-same-length-8
-same-length-8 c = (two-long c).1 ∙ (one-long c).1 ∙ (out-long c).1
+same-length-8 c = (two-long c).1 ∙ (one-long c).1 ∙ (out_long c).1
 
 returns-2 : tie.Need-returns-2
 returns-2 c =
@@ -145,7 +145,7 @@ returns-2 c =
     let h = roomy (rooms c) in
     let first = (one c).add in
     let second = (two c).add2 in
-    let both = two-added h (rooms c).make-room.result (start c).args.br.left (start c).args.br.right first.result
+    let both = two_added h (rooms c).make-room.result (start c).args.br.left (start c).args.br.right first.result
     first.last.0 first.last.1.0 second.result
     second.last.0 second.last.1.0
     first.ensures.0 first.ensures.1.0 first.ensures.1.1 second.ensures.0 second.ensures.1.0 second.ensures.1.1
@@ -158,7 +158,7 @@ returns-2 c =
             taken = (takes c).take.result;
             left_over = left_over (rooms c);
             takes = (takes c).take.ensures;
-            same-table = refl;
+            same_table = refl;
             ready = (rooms c).make-room.result;
             roomy = h;
             makes = (rooms c).make-room.ensures;

@@ -2,8 +2,8 @@
 use Prim.Native.Nat.{◌+◌, ◌/◌, ◌≤◌, ◌<◌, min}
 use native.Mathlib.Omega.{arith}
 use lib.ListN.{length}
-use Rattle.list_open_boxes.specs.OpenBoxes.{kept_at, roomIn}
-use Rattle.list_open_boxes.proofs.Picking.{number-few, one_at_most}
+use Rattle.list_open_boxes.specs.OpenBoxes.{kept_at, room_in}
+use Rattle.list_open_boxes.proofs.Picking.{number_few, one_at_most}
 use Rattle.replacing.proofs.Counting.{too_long, enough, all_stay, counted}
 use borrow.Author.Rules.{rules}
 use Rattle.replacing.proofs.too_many.Statement.{statement}
@@ -37,16 +37,16 @@ few c =
     let a = s.args in
     let mark = a.br.mark in
     let long : length a.table.now < 18446744073709551616 = search (rules, s.good.0) in
-    let late-long : length a.late.now < 18446744073709551616 = search (rules, s.good.1.1.0) in (
+    let late_long : length a.late.now < 18446744073709551616 = search (rules, s.good.1.1.0) in (
       omega (
         arith,
         c.before.keeping.ensures,
         c.keeping2.ensures,
-        number-few (kept_at a.table.now a.bounds.now mark) (min a.list.rows (roomIn a.table.now a.bounds.now)),
-        number-few (kept_at a.late.now a.beside.now mark) (min a.list.late (roomIn a.late.now a.beside.now)),
+        number_few (kept_at a.table.now a.bounds.now mark) (min a.list.rows (room_in a.table.now a.bounds.now)),
+        number_few (kept_at a.late.now a.beside.now mark) (min a.list.late (room_in a.late.now a.beside.now)),
       ),
       long,
-      late-long,
+      late_long,
     )
 
 add-more : tie.Need-overflow-add-more

@@ -4,11 +4,11 @@ use Prim.Native.Nat.{ℕ, ◌/◌, ◌≤◌}
 use native.Mathlib.Omega.{arith}
 use lib.ListN.{length, length-replicate}
 use Rattle.codes.specs.declared.Check.TheVariants.{Pass}
-use Rattle.costs.proofs.Passed.{decoded-for}
-use Rattle.search_checks.proofs.Passed.{Runs, runs-accepted, rows-accepted, entries-accepted}
-use Rattle.search.specs.Search.{checkLent}
+use Rattle.costs.proofs.Passed.{decoded_for}
+use Rattle.search_checks.proofs.Passed.{Runs, runs_accepted, rows_accepted, entries_accepted}
+use Rattle.search.specs.Search.{check_lent}
 use Rattle.branching.specs.Branching.{Evaluable}
-use Rattle.search.proofs.Accepted.{promised-pass, promised-refused}
+use Rattle.search.proofs.Accepted.{promised_pass, promised_refused}
 use borrow.Author.Rules.{rules}
 use Rattle.search.proofs.search.Statement.{statement}
 use Rattle.search.proofs.search.Tie as tie
@@ -24,20 +24,20 @@ module _ (c : tie.After-enum-told) where
   abbrev begun : tie.Start
   begun = c.before.before.before.before.before
 
-  pass : checkLent begun.args.store.now begun.args.job begun.args.table.now begun.args.bounds.now ≡ Pass
+  pass : check_lent begun.args.store.now begun.args.job begun.args.table.now begun.args.bounds.now ≡ Pass
   pass = sym c.before.before.check-search.ensures ∙ c.enum_told.given.1
 
   runs : Runs begun.args.store.now begun.args.job
   runs =
-      runs-accepted begun.args.store.now begun.args.job (length begun.args.table.now) (length begun.args.bounds.now) pass
+      runs_accepted begun.args.store.now begun.args.job (length begun.args.table.now) (length begun.args.bounds.now) pass
 
   rows : 16 ≤ length begun.args.table.now
   rows =
-      rows-accepted begun.args.store.now begun.args.job (length begun.args.table.now) (length begun.args.bounds.now) pass
+      rows_accepted begun.args.store.now begun.args.job (length begun.args.table.now) (length begun.args.bounds.now) pass
 
   entries : length begun.args.table.now / 16 ≤ length begun.args.bounds.now
   entries =
-      entries-accepted begun.args.store.now begun.args.job (length begun.args.table.now) (length begun.args.bounds.now)
+      entries_accepted begun.args.store.now begun.args.job (length begun.args.table.now) (length begun.args.bounds.now)
       pass
 
 slice-aggregate-decode : tie.Need-slice-aggregate-decode
@@ -69,7 +69,7 @@ module _ (c : tie.After-decode) where
       record {
         checked = (runs told).checked;
         decoded =
-            decoded-for a.store.now a.job.model (runs told).checked c.before.power.ensures refl (search rules)
+            decoded_for a.store.now a.job.model (runs told).checked c.before.power.ensures refl (search rules)
             c.decode.ensures;
       }
 
@@ -104,7 +104,7 @@ returns c =
     let r = c.before.before.before.before.before in
     let e = told r.before.before.before.before.before.before.before.before.before in
     let a = (begun e).args in
-    promised-pass a.store.now a.job a.table.now a.bounds.now (pass e) r.run.new.1.1.1.0
+    promised_pass a.store.now a.job a.table.now a.bounds.now (pass e) r.run.new.1.1.1.0
     r.run.new.1.1.1.1.0 r.run.result
     r.run.ensures
 
@@ -113,7 +113,7 @@ returns-2 c =
     let w = c.before.before in
     let q = w.before.before in
     let a = q.before.before.before.args in
-    promised-refused a.store.now a.job a.table.now a.bounds.now w.why.given.0.0 c.refusal.result
+    promised_refused a.store.now a.job a.table.now a.bounds.now w.why.given.0.0 c.refusal.result
     (sym q.check-search.ensures ∙ w.why.given.1) c.refusal.ensures
 
 pub search-spec : {M : Type 1} → statement M

@@ -2,10 +2,10 @@
 use mathlib.Core.Path.{◌≡◌, sym, ap₂, ◌∙◌}
 use mathlib.Core.List.{[], ◌∷◌}
 use Rattle.codes.specs.declared.Check.{Check}
-use Rattle.codes.specs.Codes.{inOrder}
-use Rattle.boxes.specs.Boxes.{checkBox, checkStart}
-use Rattle.model_checks.specs.Checks.{checkModel}
-use Rattle.search_checks.proofs.Passed.{stray-decides, first-refuses}
+use Rattle.codes.specs.Codes.{in_order}
+use Rattle.boxes.specs.Boxes.{check_box, check_start}
+use Rattle.model_checks.specs.Checks.{check_model}
+use Rattle.search_checks.proofs.Passed.{stray_decides, first_refuses}
 use borrow.Author.Rules.{rules}
 use Rattle.search_checks.proofs.check_job.Statement.{statement}
 use Rattle.search_checks.proofs.check_job.Tie as tie
@@ -35,7 +35,7 @@ enum-known-r : tie.Need-enum-known-r
 enum-known-r c = search rules
 
 abbrev both : Check → Check → Check
-both x y = inOrder (x ∷ y ∷ [])
+both x y = in_order (x ∷ y ∷ [])
 
 -- the first three, as the code makes them
 module _ (c : tie.After-in-order2) where
@@ -44,9 +44,9 @@ module _ (c : tie.After-in-order2) where
 
   first :
       let j = begun.args.job in
-      c.in-order2.result ≡ inOrder
-      (checkModel begun.args.store.now j.model
-      ∷ inOrder (checkBox j.model.n j.model.d j.domain ∷ checkStart j.domain j.start ∷ []) ∷ [])
+      c.in-order2.result ≡ in_order
+      (check_model begun.args.store.now j.model
+      ∷ in_order (check_box j.model.n j.model.d j.domain ∷ check_start j.domain j.start ∷ []) ∷ [])
   first =
       let two = c.before.before in
       c.in-order2.ensures
@@ -58,13 +58,13 @@ returns c =
     let told = c.before in
     let q = told.before.before in
     let a = (begun q).args in
-    c.check-stray.ensures ∙ sym (stray-decides a.store.now a.job (sym (first q) ∙ told.enum_told.given.1))
+    c.check-stray.ensures ∙ sym (stray_decides a.store.now a.job (sym (first q) ∙ told.enum_told.given.1))
 
 returns-2 : tie.Need-returns-2
 returns-2 c =
     let q = c.before.before.before in
     let a = (begun q).args in
-    sym (first-refuses a.store.now a.job c.before.r.given.0.0 (sym (first q) ∙ c.before.r.given.1))
+    sym (first_refuses a.store.now a.job c.before.r.given.0.0 (sym (first q) ∙ c.before.r.given.1))
 
 pub check-job-spec : {M : Type 1} → statement M
 check-job-spec =

@@ -2,9 +2,9 @@
 use mathlib.Core.Path.{ap₂, ◌∙◌}
 use mathlib.Core.List.{[], ◌∷◌}
 use Rattle.codes.specs.declared.Check.{Check}
-use Rattle.codes.specs.Codes.{inOrder}
-use Rattle.codes.proofs.Laws.{in-order-group}
-use Rattle.search_checks.specs.Checks.{checkSearch}
+use Rattle.codes.specs.Codes.{in_order}
+use Rattle.codes.proofs.Laws.{in_order_group}
+use Rattle.search_checks.specs.Checks.{check_search}
 use borrow.Author.Rules.{rules}
 use Rattle.search_checks.proofs.check_search.Statement.{statement}
 use Rattle.search_checks.proofs.check_search.Tie as tie
@@ -25,17 +25,17 @@ in-order-requires-2 : tie.Need-in-order-requires-2
 in-order-requires-2 c κs = search rules
 
 abbrev both : Check → Check → Check
-both x y = inOrder (x ∷ y ∷ [])
+both x y = in_order (x ∷ y ∷ [])
 
 returns : tie.Need-returns
-unfolding checkSearch
+unfolding check_search
 returns c =
     let made = c.before.before in
     c.in-order2.ensures
     ∙ ap₂ both
     (c.before.in_order.ensures ∙ ap₂ both made.before.before.check-job.ensures made.before.check-table.ensures)
     made.check-bounds.ensures
-    ∙ in-order-group (_ ∷ _ ∷ []) (_ ∷ [])
+    ∙ in_order_group (_ ∷ _ ∷ []) (_ ∷ [])
 
 pub check-search-spec : {M : Type 1} → statement M
 check-search-spec =

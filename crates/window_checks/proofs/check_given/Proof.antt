@@ -3,14 +3,14 @@ use mathlib.Core.Path.{◌≡◌, sym, ap₂, ◌∙◌}
 use mathlib.Core.List.{List, [], ◌∷◌}
 use lib.ListN.{length}
 use Rattle.codes.specs.declared.Check.{Check}
-use Rattle.codes.specs.Codes.{inOrder}
-use Rattle.codes.proofs.Laws.{after-pass, after-refusal, two-groups}
-use Rattle.scale.specs.Scale.{checkScale}
-use Rattle.boxes.specs.Shape.{checkShape}
-use Rattle.boxes.specs.Boxes.{checkBox, checkStart}
-use Rattle.points.specs.Points.{points_of, checkStore, checkStray}
-use Rattle.loss.specs.Loss.{checkLossFor}
-use Rattle.window_checks.specs.Checks.{checkGiven}
+use Rattle.codes.specs.Codes.{in_order}
+use Rattle.codes.proofs.Laws.{after_pass, after_refusal, two_groups}
+use Rattle.scale.specs.Scale.{check_scale}
+use Rattle.boxes.specs.Shape.{check_shape}
+use Rattle.boxes.specs.Boxes.{check_box, check_start}
+use Rattle.points.specs.Points.{points_of, check_store, check_stray}
+use Rattle.loss.specs.Loss.{check_loss_for}
+use Rattle.window_checks.specs.Checks.{check_given}
 use borrow.Author.Rules.{rules}
 use Rattle.window_checks.proofs.check_given.Statement.{statement}
 use Rattle.window_checks.proofs.check_given.Tie as tie
@@ -58,7 +58,7 @@ enum-known-r : tie.Need-enum-known-r
 enum-known-r c = search rules
 
 abbrev both : Check → Check → Check
-both x y = inOrder (x ∷ y ∷ [])
+both x y = in_order (x ∷ y ∷ [])
 
 -- the first six, as the code makes them
 module _ (c : tie.After-in-order5) where
@@ -69,18 +69,18 @@ module _ (c : tie.After-in-order5) where
   six =
       let a = begun.args in
       let m = a.job.model in
-      checkStore (length a.store.now)
-      ∷ checkShape m.n m.d
-      ∷ checkScale m.scale
-      ∷ checkLossFor a.k m.p m.eps
-      ∷ checkBox m.n m.d a.job.domain
-      ∷ checkStart a.job.domain a.job.start
+      check_store (length a.store.now)
+      ∷ check_shape m.n m.d
+      ∷ check_scale m.scale
+      ∷ check_loss_for a.k m.p m.eps
+      ∷ check_box m.n m.d a.job.domain
+      ∷ check_start a.job.domain a.job.start
       ∷ []
 
   abbrev stray : Check
-  stray = checkStray begun.args.job.model.d (points_of begun.args.store.now)
+  stray = check_stray begun.args.job.model.d (points_of begun.args.store.now)
 
-  first : c.in-order5.result ≡ inOrder six
+  first : c.in-order5.result ≡ in_order six
   first =
       let four = c.before in
       let region = four.before in
@@ -93,22 +93,22 @@ module _ (c : tie.After-in-order5) where
       ∙ ap₂ both
       (shape.in_order.ensures ∙ ap₂ both shape.before.before.check-store.ensures shape.before.check-shape.ensures)
       (numbers.in-order2.ensures ∙ ap₂ both numbers.before.before.check-scale.ensures numbers.before.check-loss-for.ensures)
-      ∙ two-groups (_ ∷ _ ∷ []) (_ ∷ _ ∷ []))
+      ∙ two_groups (_ ∷ _ ∷ []) (_ ∷ _ ∷ []))
       (region.in-order3.ensures ∙ ap₂ both start.before.check-box.ensures start.check-start.ensures)
-      ∙ two-groups (_ ∷ _ ∷ _ ∷ _ ∷ []) (_ ∷ _ ∷ [])
+      ∙ two_groups (_ ∷ _ ∷ _ ∷ _ ∷ []) (_ ∷ _ ∷ [])
 
 returns : tie.Need-returns
-unfolding checkGiven
+unfolding check_given
 returns c =
     let told = c.before in
     let q = told.before.before in
-    c.check-stray.ensures ∙ sym (after-pass (six q) (stray q) (sym (first q) ∙ told.enum_told.given.1))
+    c.check-stray.ensures ∙ sym (after_pass (six q) (stray q) (sym (first q) ∙ told.enum_told.given.1))
 
 returns-2 : tie.Need-returns-2
-unfolding checkGiven
+unfolding check_given
 returns-2 c =
     let q = c.before.before.before in
-    sym (after-refusal (six q) (stray q ∷ []) c.before.r.given.0.0 (sym (first q) ∙ c.before.r.given.1))
+    sym (after_refusal (six q) (stray q ∷ []) c.before.r.given.0.0 (sym (first q) ∙ c.before.r.given.1))
 
 pub check-given-spec : {M : Type 1} → statement M
 check-given-spec =

@@ -1,22 +1,22 @@
 -- The tests are the definition's.
 use borrow.Author.Tests.{le-leb, lt-leb}
 use native.Mathlib.Omega.{arith}
-use Rattle.window_checks.specs.Checks.{checkWindow}
+use Rattle.window_checks.specs.Checks.{check_window}
 use Rattle.window_checks.proofs.check_window.Statement.{statement}
 use Rattle.window_checks.proofs.check_window.Tie as tie
 
 returns : tie.Need-returns
-unfolding checkWindow
+unfolding check_window
 returns c = rw (lt-leb 1 c.before.args.k (omega (arith, c.if1.true)))
 
 returns-2 : tie.Need-returns-2
-unfolding checkWindow
+unfolding check_window
 returns-2 c =
     let a = c.before.before.args in
     rw (le-leb 1 a.k (omega (arith, c.before.if1.false)), lt-leb 1 a.h (omega (arith, c.if2.true)))
 
 returns-3 : tie.Need-returns-3
-unfolding checkWindow
+unfolding check_window
 returns-3 c =
     let a = c.before.before.before.args in
     rw (
@@ -26,7 +26,7 @@ returns-3 c =
     )
 
 returns-4 : tie.Need-returns-4
-unfolding checkWindow
+unfolding check_window
 returns-4 c =
     let a = c.before.before.before.args in
     rw (

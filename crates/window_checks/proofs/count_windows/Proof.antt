@@ -5,12 +5,12 @@ use Prim.Native.Nat.{ℕ, ◌/◌, ◌≤◌}
 use lib.ListN.{length}
 use Rattle.codes.specs.declared.Check.{Check}
 use Rattle.codes.specs.declared.Check.TheVariants.{Pass}
-use Rattle.codes.specs.Codes.{inOrder, unlessRefused}
-use Rattle.codes.proofs.Checks.{first-passed, others-passed}
-use Rattle.codes.proofs.Laws.{after-pass, after-refusal}
-use Rattle.window_checks.specs.Checks.{windowCount, checkGiven, checkWindow, checkLentFor, checkWindows}
-use Rattle.window_checks.proofs.Counting.{Windowed, windowed, count-few}
-use Rattle.window_checks.proofs.Passed.{records-few}
+use Rattle.codes.specs.Codes.{in_order, unless_refused}
+use Rattle.codes.proofs.Checks.{first_passed, others_passed}
+use Rattle.codes.proofs.Laws.{after_pass, after_refusal}
+use Rattle.window_checks.specs.Checks.{window_count, check_given, check_window, check_lent_for, check_windows}
+use Rattle.window_checks.proofs.Counting.{Windowed, windowed, count_few}
+use Rattle.window_checks.proofs.Passed.{records_few}
 use borrow.Author.Rules.{rules}
 use Rattle.window_checks.proofs.count_windows.Statement.{statement}
 use Rattle.window_checks.proofs.count_windows.Tie as tie
@@ -28,7 +28,7 @@ enum_told : tie.Need-enum-told
 enum_told c = search rules
 
 abbrev both : Check → Check → Check
-both x y = inOrder (x ∷ y ∷ [])
+both x y = in_order (x ∷ y ∷ [])
 
 -- checks 1 to 7 and 17, as the code makes them
 module _ (c : tie.After-in-order) where
@@ -38,15 +38,15 @@ module _ (c : tie.After-in-order) where
   abbrev two : List Check
   two =
       let a = begun.args in
-      checkGiven a.store.now a.job a.k ∷ checkWindow (length a.store.now / 12) a.k a.h ∷ []
+      check_given a.store.now a.job a.k ∷ check_window (length a.store.now / 12) a.k a.h ∷ []
 
   -- and those of what is lent
   abbrev lent : Check
   lent =
       let a = begun.args in
-      checkLentFor (windowCount (length a.store.now / 12) a.k a.h) a.numbers a.entries a.room
+      check_lent_for (window_count (length a.store.now / 12) a.k a.h) a.numbers a.entries a.room
 
-  first : c.in_order.result ≡ inOrder two
+  first : c.in_order.result ≡ in_order two
   first = c.in_order.ensures ∙ ap₂ both c.before.before.check-given.ensures c.before.check-window.ensures
 
 -- where they pass
@@ -54,18 +54,18 @@ module _ (c : tie.After-enum-told) where
   abbrev asked : tie.After-in-order
   asked = c.before.before
 
-  passed-two : inOrder (two asked) ≡ Pass
-  passed-two = sym (first asked) ∙ c.enum_told.given.1
+  passed_two : in_order (two asked) ≡ Pass
+  passed_two = sym (first asked) ∙ c.enum_told.given.1
 
   fits : Windowed (length (begun asked).args.store.now / 12) (begun asked).args.k (begun asked).args.h
   fits =
       let a = (begun asked).args in
-      windowed (length a.store.now / 12) a.k a.h (first-passed _ _ (others-passed _ _ passed-two))
+      windowed (length a.store.now / 12) a.k a.h (first_passed _ _ (others_passed _ _ passed_two))
 
   few : length (begun asked).args.store.now / 12 ≤ 4096
   few =
       let a = (begun asked).args in
-      records-few a.store.now a.job a.k (first-passed _ _ passed-two)
+      records_few a.store.now a.job a.k (first_passed _ _ passed_two)
 
 window-count-requires : tie.Need-window-count-requires
 window-count-requires c κs = ((fits c).few, (fits c).hops, few c)
@@ -74,27 +74,27 @@ unless-short-requires : tie.Need-unless-short-requires
 unless-short-requires c κs =
     let told = c.before in
     let a = (begun (asked told)).args in
-    rw c.window-count.ensures (count-few (length a.store.now / 12) a.k a.h (few told))
+    rw c.window-count.ensures (count_few (length a.store.now / 12) a.k a.h (few told))
 
 enum-known-r : tie.Need-enum-known-r
 enum-known-r c = search rules
 
 returns : tie.Need-returns
-unfolding checkWindows
+unfolding check_windows
 returns c =
     let count = c.before in
     let told = count.before in
     let a = (begun (asked told)).args in
     c.unless-short.ensures
-    ∙ ap (λ (n : ℕ). unlessRefused (checkLentFor n a.numbers a.entries a.room) n) count.window-count.ensures
-    ∙ ap (λ (check : Check). unlessRefused check (windowCount (length a.store.now / 12) a.k a.h))
-    (sym (after-pass (two (asked told)) (lent (asked told)) (passed-two told)))
+    ∙ ap (λ (n : ℕ). unless_refused (check_lent_for n a.numbers a.entries a.room) n) count.window-count.ensures
+    ∙ ap (λ (check : Check). unless_refused check (window_count (length a.store.now / 12) a.k a.h))
+    (sym (after_pass (two (asked told)) (lent (asked told)) (passed_two told)))
 
 returns-2 : tie.Need-returns-2
-unfolding checkWindows
+unfolding check_windows
 returns-2 c =
     let q = c.before.before.before in
-    rw (after-refusal (two q) (lent q ∷ []) c.before.r.given.0.0 (sym (first q) ∙ c.before.r.given.1)) refl
+    rw (after_refusal (two q) (lent q ∷ []) c.before.r.given.0.0 (sym (first q) ∙ c.before.r.given.1)) refl
 
 pub count-windows-spec : {M : Type 1} → statement M
 count-windows-spec =

@@ -2,9 +2,9 @@
 use mathlib.Core.Path.{◌≡◌, refl, sym, ap₂, ◌∙◌}
 use mathlib.Core.List.{[], ◌∷◌}
 use Rattle.codes.specs.declared.Check.{Check}
-use Rattle.codes.specs.Codes.{inOrder}
-use Rattle.codes.proofs.Laws.{in-order-group}
-use Rattle.window_checks.specs.Checks.{checkLentFor}
+use Rattle.codes.specs.Codes.{in_order}
+use Rattle.codes.proofs.Laws.{in_order_group}
+use Rattle.window_checks.specs.Checks.{check_lent_for}
 use borrow.Author.Rules.{rules}
 use Rattle.window_checks.proofs.unless_short.Statement.{statement}
 use Rattle.window_checks.proofs.unless_short.Tie as tie
@@ -31,22 +31,22 @@ enum-known-r : tie.Need-enum-known-r
 enum-known-r c = search rules
 
 abbrev both : Check → Check → Check
-both x y = inOrder (x ∷ y ∷ [])
+both x y = in_order (x ∷ y ∷ [])
 
 -- all three, as the code makes them
 module _ (c : tie.After-in-order2) where
   abbrev begun : tie.Start
   begun = c.before.before.before.before.before
 
-  checked : c.in-order2.result ≡ checkLentFor begun.args.count begun.args.numbers begun.args.entries begun.args.room
-  unfolding checkLentFor
+  checked : c.in-order2.result ≡ check_lent_for begun.args.count begun.args.numbers begun.args.entries begun.args.room
+  unfolding check_lent_for
   checked =
       let lent = c.before.before in
       c.in-order2.ensures
       ∙ ap₂ both
       (lent.in_order.ensures ∙ ap₂ both lent.before.before.check-table.ensures lent.before.check-bounds.ensures)
       c.before.check-room.ensures
-      ∙ in-order-group (_ ∷ _ ∷ []) (_ ∷ [])
+      ∙ in_order_group (_ ∷ _ ∷ []) (_ ∷ [])
 
 returns : tie.Need-returns
 returns c =

@@ -2,7 +2,7 @@
 use native.Mathlib.Omega.{arith}
 use native.Mathlib.Nat.{div-le_self}
 use Prim.Native.Nat.{◌-◌}
-use Rattle.window_checks.specs.Checks.{windowCount}
+use Rattle.window_checks.specs.Checks.{window_count}
 use borrow.Author.Rules.{rules}
 use Rattle.window_checks.proofs.window_count.Statement.{statement}
 use Rattle.window_checks.proofs.window_count.Tie as tie
@@ -17,7 +17,7 @@ add-result : tie.Need-overflow-add-result
 add-result c = omega (arith, div-le_self (c.args.records - c.args.k) c.args.h)
 
 returns : tie.Need-returns
-unfolding windowCount
+unfolding window_count
 returns c = search rules
 
 pub window-count-spec : {M : Type 1} → statement M

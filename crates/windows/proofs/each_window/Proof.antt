@@ -5,15 +5,15 @@ use Prim.Native.Nat.{◌+◌, ◌-◌, ◌*◌, ◌/◌, ◌≤◌, ◌<◌}
 use native.Mathlib.Omega.{arith}
 use lib.ListN.{length}
 use Rattle.codes.specs.declared.Check.TheVariants.{Pass}
-use Rattle.fields.proofs.Parts.{lent-size}
+use Rattle.fields.proofs.Parts.{lent_size}
 use Rattle.job_records.specs.Laws.{IsJob}
 use Rattle.window_runs.specs.Inside.{Turn}
-use Rattle.window_checks.specs.Checks.{windowCount}
-use Rattle.window_runs.specs.Windows.{checkPass}
-use Rattle.windows.proofs.Typed.{is-job}
-use Rattle.window_checks.proofs.Passed.{given, records-few, room-given, window-there}
-use Rattle.window_runs.proofs.Windowing.{window-lent}
-use Rattle.window_runs.proofs.Passing.{out-long, first-turn, next-turn, turn-accepted}
+use Rattle.window_checks.specs.Checks.{window_count}
+use Rattle.window_runs.specs.Windows.{check_pass}
+use Rattle.windows.proofs.Typed.{is_job}
+use Rattle.window_checks.proofs.Passed.{given, records_few, room_given, window_there}
+use Rattle.window_runs.proofs.Windowing.{window_lent}
+use Rattle.window_runs.proofs.Passing.{out_long, first_turn, next_turn, turn_accepted}
 use borrow.Author.Rules.{rules}
 use Rattle.windows.proofs.each_window.Statement.{statement}
 use Rattle.windows.proofs.each_window.Tie as tie
@@ -27,27 +27,27 @@ decreases-loop store k h count table₀ bounds₀ out₀ current₀ i₀ table b
 
 -- what holds at the beginning
 module _ (s : tie.Start invariant-loop decreases-loop) where
-  ok : checkPass s.args.store.now s.args.job s.args.k s.args.h s.args.table.now s.args.bounds.now
+  ok : check_pass s.args.store.now s.args.job s.args.k s.args.h s.args.table.now s.args.bounds.now
       s.args.out.now ≡ Pass
   ok = s.requires.0
 
-  all : s.args.count ≡ windowCount (length s.args.store.now / 12) s.args.k s.args.h
+  all : s.args.count ≡ window_count (length s.args.store.now / 12) s.args.k s.args.h
   all = s.pre.1
 
   job_is : IsJob s.args.job
-  job_is = is-job s.args.job _ s.good.1.0
+  job_is = is_job s.args.job _ s.good.1.0
 
   store-small : length s.args.store.now / 12 ≤ 4096
   store-small =
       let a = s.args in
-      records-few a.store.now a.job a.k
+      records_few a.store.now a.job a.k
       (given a.store.now a.job a.k a.h (length a.table.now) (length a.bounds.now) (length a.out.now) ok)
 
   room : 40 * s.args.count ≤ length s.args.out.now
   room =
       let a = s.args in
       rw all
-      (room-given a.store.now a.job a.k a.h (length a.table.now) (length a.bounds.now) (length a.out.now) ok)
+      (room_given a.store.now a.job a.k a.h (length a.table.now) (length a.bounds.now) (length a.out.now) ok)
 
   out-small : length s.args.out.now < 18446744073709551616
   out-small = search (rules, s.good.1.1.1.1.1.1.1.0)
@@ -56,30 +56,30 @@ loop-holds : tie.Need-loop-init invariant-loop decreases-loop
 loop-holds c =
     let s = c.before.before.before in
     let a = s.args in
-    first-turn a.store.now a.job a.k a.h a.table.now a.bounds.now a.out.now (ok s) a.count
+    first_turn a.store.now a.job a.k a.h a.table.now a.bounds.now a.out.now (ok s) a.count
 
 -- in a turn
 module _ (c : tie.In-loop invariant-loop decreases-loop) where
   abbrev begun : tie.Start invariant-loop decreases-loop
   begun = c.before.before.before.before.before
 
-  below : c.before.loop.i < windowCount (length begun.args.store.now / 12) begun.args.k begun.args.h
+  below : c.before.loop.i < window_count (length begun.args.store.now / 12) begun.args.k begun.args.h
   below = omega (arith, c.loop-test.true, all begun)
 
   there : 12 * (c.before.loop.i * begun.args.h) + 12 * begun.args.k ≤ length begun.args.store.now
   there =
       let a = begun.args in
-      window-there a.store.now a.job a.k a.h (length a.table.now) (length a.bounds.now) (length a.out.now)
+      window_there a.store.now a.job a.k a.h (length a.table.now) (length a.bounds.now) (length a.out.now)
       (ok begun) c.before.loop.i below
 
   placed : 40 * c.before.loop.i + 40 ≤ length begun.args.out.now
   placed = omega (arith, room begun, c.loop-test.true)
 
-  still-long : length c.before.loop.out ≡ length begun.args.out.now
-  still-long =
+  still_long : length c.before.loop.out ≡ length begun.args.out.now
+  still_long =
       let a = begun.args in
       let l = c.before.loop in
-      out-long a.store.now a.job a.k a.h a.table.now a.bounds.now a.out.now (ok begun) (job_is begun) l.i
+      out_long a.store.now a.job a.k a.h a.table.now a.bounds.now a.out.now (ok begun) (job_is begun) l.i
       (omega (arith, below)) l.table l.bounds l.out l.invariant.passed
 
 mul-from : tie.Need-overflow-mul-from invariant-loop decreases-loop
@@ -117,7 +117,7 @@ part-window-start-2 c = sub-window-2 c
 
 -- the place of the record in the output as it is
 has-place : (c : tie.In-loop invariant-loop decreases-loop) → 40 * c.before.loop.i + 40 ≤ length c.before.loop.out
-has-place c = omega (arith, placed c, still-long c)
+has-place c = omega (arith, placed c, still_long c)
 
 part-window-end-2 : tie.Need-slice-bounds-window-end-2 invariant-loop decreases-loop
 part-window-end-2 c = has-place c.before.before.before
@@ -128,10 +128,10 @@ window-requires c κs =
     let s = begun n in
     let a = s.args in
     let l = n.before.loop in (
-      turn-accepted a.store.now a.job a.k a.h a.table.now a.bounds.now a.out.now (ok s) a.count l.i
+      turn_accepted a.store.now a.job a.k a.h a.table.now a.bounds.now a.out.now (ok s) a.count l.i
           (below n) l.current l.table l.bounds l.out _ l.invariant
-          (window-lent a.store.now a.k a.h l.i),
-      lent-size l.out (40 * l.i) 40 (has-place n),
+          (window_lent a.store.now a.k a.h l.i),
+      lent_size l.out (40 * l.i) 40 (has-place n),
     )
 
 abbrev turn : tie.After-slice-known4 invariant-loop decreases-loop → tie.In-loop invariant-loop decreases-loop
@@ -150,9 +150,9 @@ loop-again c =
     let s = begun n in
     let a = s.args in
     let l = n.before.loop in
-    next-turn a.store.now a.job a.k a.h a.table.now a.bounds.now a.out.now (ok s) (job_is s) a.count (all s)
+    next_turn a.store.now a.job a.k a.h a.table.now a.bounds.now a.out.now (ok s) (job_is s) a.count (all s)
     l.i (below n) l.current l.table l.bounds l.out _ l.inv
-    (window-lent a.store.now a.k a.h l.i)
+    (window_lent a.store.now a.k a.h l.i)
     w.window.result w.window.new.1.1.0 w.window.new.1.1.1.0 w.window.new.1.1.1.1.0 w.window.ensures
     ((40 * l.i + 40) - 40 * l.i) (omega arith)
 
@@ -167,7 +167,7 @@ same-length-3 c =
     let s = c.before.before.before.before.before in
     let a = s.args in
     let l = c.before.loop in
-    out-long a.store.now a.job a.k a.h a.table.now a.bounds.now a.out.now (ok s) (job_is s) l.i
+    out_long a.store.now a.job a.k a.h a.table.now a.bounds.now a.out.now (ok s) (job_is s) l.i
     (omega (arith, l.invariant.few, all s)) l.table l.bounds l.out l.invariant.passed
 
 returns : tie.Need-returns invariant-loop decreases-loop

@@ -1,5 +1,5 @@
 -- The answer of an accepted job has a record that check 9 lets through, so that it is written.
-use Rattle.windows.proofs.Typed.{is-job}
+use Rattle.windows.proofs.Typed.{is_job}
 use Rattle.window_runs.proofs.Passing.{alone}
 use borrow.Author.Rules.{rules}
 use Rattle.windows.proofs.window.Statement.{statement}
@@ -32,7 +32,7 @@ returns c =
     let a = s.args in
     alone a.store.now a.job a.table.now q.search.new.1.1.0 a.bounds.now q.search.new.1.1.1.0
     a.place.now w.write-answer.new.1.0 q.search.result r.record_of.result w.write-answer.result s.requires.0
-    (is-job a.job _ s.well-formed.1.0) s.requires.1 q.search.ensures r.record_of.ensures w.write-answer.ensures
+    (is_job a.job _ s.well-formed.1.0) s.requires.1 q.search.ensures r.record_of.ensures w.write-answer.ensures
 
 pub window-spec : {M : Type 1} → statement M
 window-spec =

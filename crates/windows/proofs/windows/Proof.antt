@@ -3,11 +3,11 @@ use mathlib.Core.Path.{◌≡◌, sym, ◌∙◌}
 use lib.ListN.{length}
 use Prim.Native.Nat.{◌/◌}
 use Rattle.codes.specs.declared.Check.TheVariants.{Pass}
-use Rattle.window_checks.specs.Checks.{windowCount}
-use Rattle.window_checks.proofs.Passed.{value-passed, refusal-refused}
-use Rattle.window_runs.specs.Windows.{checkPass}
-use Rattle.window_runs.proofs.Passing.{promised-pass, promised-refused}
-use Rattle.windows.proofs.Typed.{is-job}
+use Rattle.window_checks.specs.Checks.{window_count}
+use Rattle.window_checks.proofs.Passed.{value_passed, refusal_refused}
+use Rattle.window_runs.specs.Windows.{check_pass}
+use Rattle.window_runs.proofs.Passing.{promised_pass, promised_refused}
+use Rattle.windows.proofs.Typed.{is_job}
 use borrow.Author.Rules.{rules}
 use Rattle.windows.proofs.windows.Statement.{statement}
 use Rattle.windows.proofs.windows.Tie as tie
@@ -25,12 +25,12 @@ module _ (c : tie.After-count) where
 
   counted :
       let a = begun.args in
-      (checkPass a.store.now a.job a.k a.h a.table.now a.bounds.now a.out.now ≡ Pass)
-      × (c.count.given.0.0 ≡ windowCount (length a.store.now / 12) a.k a.h)
+      (check_pass a.store.now a.job a.k a.h a.table.now a.bounds.now a.out.now ≡ Pass)
+      × (c.count.given.0.0 ≡ window_count (length a.store.now / 12) a.k a.h)
   counted =
       let a = begun.args in
-      value-passed (checkPass a.store.now a.job a.k a.h a.table.now a.bounds.now a.out.now)
-      (windowCount (length a.store.now / 12) a.k a.h) c.count.given.0.0
+      value_passed (check_pass a.store.now a.job a.k a.h a.table.now a.bounds.now a.out.now)
+      (window_count (length a.store.now / 12) a.k a.h) c.count.given.0.0
       (sym c.before.before.count-windows.ensures ∙ c.count.given.1)
 
 each-window-requires : tie.Need-each-window-requires
@@ -54,8 +54,8 @@ returns c =
     let count = w.before.before.before.before.before in
     let s = begun count in
     let a = s.args in
-    promised-pass a.store.now a.job a.k a.h a.table.now a.bounds.now a.out.now (counted count).0
-    (is-job a.job _ s.good.1.0) count.count.given.0.0 (counted count).1
+    promised_pass a.store.now a.job a.k a.h a.table.now a.bounds.now a.out.now (counted count).0
+    (is_job a.job _ s.good.1.0) count.count.given.0.0 (counted count).1
     w.each-window.new.1.1.1.1.1.0 w.each-window.new.1.1.1.1.1.1.0 w.each-window.new.1.1.1.1.1.1.1.0
     w.each-window.ensures
 
@@ -63,9 +63,9 @@ returns-2 : tie.Need-returns-2
 returns-2 c =
     let q = c.before.before.before in
     let a = q.before.before.before.before.args in
-    promised-refused a.store.now a.job a.k a.h a.table.now a.bounds.now a.out.now c.before.r.given.0.0
-    (refusal-refused (checkPass a.store.now a.job a.k a.h a.table.now a.bounds.now a.out.now)
-    (windowCount (length a.store.now / 12) a.k a.h) c.before.r.given.0.0
+    promised_refused a.store.now a.job a.k a.h a.table.now a.bounds.now a.out.now c.before.r.given.0.0
+    (refusal_refused (check_pass a.store.now a.job a.k a.h a.table.now a.bounds.now a.out.now)
+    (window_count (length a.store.now / 12) a.k a.h) c.before.r.given.0.0
     (sym q.count-windows.ensures ∙ c.before.r.given.1))
 
 pub windows-spec : {M : Type 1} → statement M

@@ -5,8 +5,8 @@ use Prim.Native.Nat.{ℕ, ◌+◌, ◌*◌, ◌-◌}
 use native.Mathlib.Omega.{arith}
 use lib.ListN.{length, take, drop}
 use Rattle.c_buffers.specs.Buffers.{filled}
-use Rattle.c_peel.specs.Calls.{roundNumbers}
-use Rattle.c_peel.proofs.Parts.{laid-part}
+use Rattle.c_peel.specs.Calls.{round_numbers}
+use Rattle.c_peel.proofs.Parts.{laid_part}
 use borrow.Author.Rules.{rules}
 use Rattle.c_peel.proofs.laying.lay.Statement.{statement}
 use Rattle.c_peel.proofs.laying.lay.Tie as tie
@@ -89,13 +89,13 @@ returns c =
     let places : a.k * 8 + 8 - a.k * 8 ≡ 8 = omega arith in
     let places-numbers : a.k * 6 + 6 - a.k * 6 ≡ 6 = omega arith in
     let kind = c.before.before.before.before.before.before.before.before.before.before.kind-number.ensures in
-    let told : c.before.before.before.before.before.before.before.before.before.before.kind-number.result ∷ a.a.cost ∷ a.a.bound ∷ a.a.count ∷ a.a.«open» ∷ a.a.peak ∷ [] ≡ roundNumbers a.a =
+    let told : c.before.before.before.before.before.before.before.before.before.before.kind-number.result ∷ a.a.cost ∷ a.a.bound ∷ a.a.count ∷ a.a.«open» ∷ a.a.peak ∷ [] ≡ round_numbers a.a =
     ap (λ (n : ℕ). n ∷ a.a.cost ∷ a.a.bound ∷ a.a.count ∷ a.a.«open» ∷ a.a.peak ∷ []) kind in (
-      laid-part a.vectors.now a.a.vector c.before.before.before.before.before.before.fill-coordinates.new.0 (a.k * 8)
+      laid_part a.vectors.now a.a.vector c.before.before.before.before.before.before.fill-coordinates.new.0 (a.k * 8)
           (a.k * 8 + 8 - a.k * 8) (omega (arith, places, eight))
           (omega (arith, s.requires.0, eight)) c.before.before.before.before.before.before.fill-coordinates.ensures,
       (
-        laid-part a.numbers.now (roundNumbers a.a) c.before.before.fill-numbers.new.0 (a.k * 6) (a.k * 6 + 6 - a.k * 6)
+        laid_part a.numbers.now (round_numbers a.a) c.before.before.fill-numbers.new.0 (a.k * 6) (a.k * 6 + 6 - a.k * 6)
             places-numbers s.requires.1
             (c.before.before.fill-numbers.ensures ∙ ap
             (λ (l : List ℕ). filled (take (a.k * 6 + 6 - a.k * 6) (drop (a.k * 6) a.numbers.now)) l) told),

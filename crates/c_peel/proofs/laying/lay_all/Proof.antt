@@ -7,14 +7,14 @@ use native.Mathlib.Omega.{arith}
 use lib.ListN.{length}
 use Rattle.search.specs.declared.Kind.TheVariants.{Solved}
 use Rattle.search.specs.declared.Answer.{Answer}
-use Rattle.c_peel.specs.Calls.{roundNumbers, vectors_of, numbersOf}
-use Rattle.c_peel.proofs.Parts.{Laid, none-laid, one-laid, still-long, all_laid}
+use Rattle.c_peel.specs.Calls.{round_numbers, vectors_of, numbers_of}
+use Rattle.c_peel.proofs.Parts.{Laid, none_laid, one_laid, still_long, all_laid}
 use Rattle.c_peel.proofs.laying.lay_all.Statement.{statement}
 use Rattle.c_peel.proofs.laying.lay_all.Tie as tie
 
 abbrev invariant-loop : tie.invariant-loop
 invariant-loop vectors₀ numbers₀ answers k₀ vectors numbers k =
-    (k ≤ 4) × Laid (λ a. a.vector) answers vectors₀ k (k * 8) vectors × Laid roundNumbers answers numbers₀ k (k * 6) numbers
+    (k ≤ 4) × Laid (λ a. a.vector) answers vectors₀ k (k * 8) vectors × Laid round_numbers answers numbers₀ k (k * 6) numbers
 
 abbrev decreases-loop : tie.decreases-loop
 decreases-loop vectors₀ numbers₀ answers k₀ vectors numbers k = 4 - k
@@ -22,7 +22,7 @@ decreases-loop vectors₀ numbers₀ answers k₀ vectors numbers k = 4 - k
 loop-holds : tie.Need-loop-init invariant-loop decreases-loop
 loop-holds c =
     let a = c.before.args in
-    (omega arith, none-laid (λ a. a.vector) a.t1 a.vectors.now, none-laid roundNumbers a.t1 a.numbers.now)
+    (omega arith, none_laid (λ a. a.vector) a.t1 a.vectors.now, none_laid round_numbers a.t1 a.numbers.now)
 
 mul-a : tie.Need-overflow-mul-a invariant-loop decreases-loop
 mul-a c = search rules
@@ -36,9 +36,9 @@ lay-requires c κs =
     let l = t.before in
     let s = l.before.before in
     let a = s.args in
-    let v = still-long (λ a. a.vector) a.t1 a.vectors.now l.loop.k (l.loop.k * 8) l.loop.vectors
+    let v = still_long (λ a. a.vector) a.t1 a.vectors.now l.loop.k (l.loop.k * 8) l.loop.vectors
     (omega (arith, s.requires.0, l.loop.invariant.0)) l.loop.invariant.1 in
-    let n = still-long roundNumbers a.t1 a.numbers.now l.loop.k (l.loop.k * 6) l.loop.numbers
+    let n = still_long round_numbers a.t1 a.numbers.now l.loop.k (l.loop.k * 6) l.loop.numbers
     (omega (arith, s.requires.1, l.loop.invariant.0)) l.loop.invariant.2 in
     (omega (arith, v, s.requires.0, t.loop-test.true), omega (arith, n, s.requires.1, t.loop-test.true))
 
@@ -61,10 +61,10 @@ loop-again c =
     let a = s.args in
     let four : length a.t1 ≡ 4 = search (rules, s.well-formed.0) in (
       omega (arith, t.loop-test.true),
-      one-laid (λ a. a.vector) a.t1 a.vectors.now l.loop.k (l.loop.k * 8) ((l.loop.k + 1) * 8) l.loop.vectors
+      one_laid (λ a. a.vector) a.t1 a.vectors.now l.loop.k (l.loop.k * 8) ((l.loop.k + 1) * 8) l.loop.vectors
           w.new.1.1.0 blank (omega (arith, four, t.loop-test.true)) (omega (arith, w.ensures.1.1)) w.ensures.0
           l.loop.invariant.1,
-      one-laid roundNumbers a.t1 a.numbers.now l.loop.k (l.loop.k * 6) ((l.loop.k + 1) * 6) l.loop.numbers
+      one_laid round_numbers a.t1 a.numbers.now l.loop.k (l.loop.k * 6) ((l.loop.k + 1) * 6) l.loop.numbers
           w.new.1.1.1.0 blank (omega (arith, four, t.loop-test.true)) (omega arith) w.ensures.1.0 l.loop.invariant.2,
     )
 
@@ -73,7 +73,7 @@ same_length c =
     let l = c.before in
     let s = l.before.before in
     let a = s.args in
-    still-long (λ a. a.vector) a.t1 a.vectors.now l.loop.k (l.loop.k * 8) l.loop.vectors
+    still_long (λ a. a.vector) a.t1 a.vectors.now l.loop.k (l.loop.k * 8) l.loop.vectors
     (omega (arith, s.requires.0, l.loop.invariant.0)) l.loop.invariant.1
 
 same-length-2 : tie.Need-same-length-2 invariant-loop decreases-loop
@@ -81,11 +81,11 @@ same-length-2 c =
     let l = c.before in
     let s = l.before.before in
     let a = s.args in
-    still-long roundNumbers a.t1 a.numbers.now l.loop.k (l.loop.k * 6) l.loop.numbers
+    still_long round_numbers a.t1 a.numbers.now l.loop.k (l.loop.k * 6) l.loop.numbers
     (omega (arith, s.requires.1, l.loop.invariant.0)) l.loop.invariant.2
 
 returns : tie.Need-returns invariant-loop decreases-loop
-unfolding vectors_of numbersOf
+unfolding vectors_of numbers_of
 returns c =
     let l = c.before in
     let s = l.before.before in
@@ -93,7 +93,7 @@ returns c =
     let four : length a.t1 ≡ 4 = search (rules, s.well-formed.0) in (
       all_laid (λ a. a.vector) a.t1 a.vectors.now l.loop.k (l.loop.k * 8) l.loop.vectors
           (omega (arith, four, c.loop-test.false)) (omega (arith, s.requires.0, c.loop-test.false)) l.loop.invariant.1,
-      all_laid roundNumbers a.t1 a.numbers.now l.loop.k (l.loop.k * 6) l.loop.numbers
+      all_laid round_numbers a.t1 a.numbers.now l.loop.k (l.loop.k * 6) l.loop.numbers
           (omega (arith, four, c.loop-test.false)) (omega (arith, s.requires.1, c.loop-test.false)) l.loop.invariant.2,
     )
 

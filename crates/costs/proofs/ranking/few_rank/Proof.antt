@@ -6,8 +6,8 @@ use native.Mathlib.Omega.{arith}
 use lib.ListN.{replicate, get_or-replicate}
 use lib.Ieee.{Float}
 use Rattle.eval_selection.specs.Selection.{selected}
-use Rattle.costs.specs.Calls.{exceedingBy}
-use Rattle.costs.proofs.Counting.{rank-in}
+use Rattle.costs.specs.Calls.{exceeding_by}
+use Rattle.costs.proofs.Counting.{rank_in}
 use borrow.Author.Rules.{rules}
 use Rattle.costs.proofs.ranking.few_rank.Statement.{statement}
 use Rattle.costs.proofs.ranking.few_rank.Tie as tie
@@ -16,7 +16,7 @@ use Rattle.costs.proofs.ranking.few_rank.Lts as lts
 use Rattle.eval_columns.proofs.chunk_count.Reads as chunk-count-reads
 use Rattle.eval_kernel.proofs.coordinates.Reads as coordinates-reads
 use Rattle.costs.proofs.ranking.kept_rank.Reads as kept-rank-reads
-use Rattle.eval_kernel.proofs.no_size.Reads as no-size-reads
+use Rattle.eval_kernel.proofs.no_size_lem.Reads as no-size-reads
 
 coordinates-requires : tie.Need-coordinates-requires
 coordinates-requires c κs = search rules
@@ -42,7 +42,7 @@ kept-rank-requires c κs =
       omega (arith, n.chunk_count.ensures),
       λ e i h.
           get_or-replicate 4 i _ [] (omega (arith, n.chunk_count.ensures, few))
-          ∙ ap (λ (x : Float). replicate 80 x) c.before.before.before.no_size.ensures,
+          ∙ ap (λ (x : Float). replicate 80 x) c.before.before.before.no_size_lem.ensures,
     )
 
 returns : tie.Need-returns
@@ -52,8 +52,8 @@ returns c =
     let a = s.args in
     let one = n.before.before.coordinates in
     let two = n.before.coordinates2 in
-    let by = exceedingBy a.over a.lanes.now one.result two.result a.m in
-    rank-in a.store.now s.requires.0 a.low a.high a.lanes.now one.result two.result
+    let by = exceeding_by a.over a.lanes.now one.result two.result a.m in
+    rank_in a.store.now s.requires.0 a.low a.high a.lanes.now one.result two.result
     one.ensures.0 two.ensures.0 one.ensures.1 two.ensures.1 a.over a.cap _
     (c.before.kept-rank.ensures ∙ ap (λ (k : ℕ). selected (by k) a.m.eps (min a.cap 4503599627370496)) n.chunk_count.ensures)
 

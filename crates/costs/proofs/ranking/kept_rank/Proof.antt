@@ -8,11 +8,11 @@ use native.Mathlib.Omega.{arith}
 use lib.ListN.{length, get_or, set}
 use lib.Seq.{length-take-le, get_or-set_other}
 use lib.Ieee.{Float}
-use Rattle.eval_kernel.specs.Kernel.{noSizes, chunkSize}
-use Rattle.costs.specs.Calls.{exceedingBy}
+use Rattle.eval_kernel.specs.Kernel.{no_sizes, chunk_size}
+use Rattle.costs.specs.Calls.{exceeding_by}
 use Rattle.integers.specs.Sums.{sum_of}
-use Rattle.costs.proofs.Counting.{chunk-counted, cap-reached, kept-selected}
-use Rattle.costs.proofs.Kept.{Sized, none-sized, one-sized}
+use Rattle.costs.proofs.Counting.{chunk_counted, cap_reached, kept_selected}
+use Rattle.costs.proofs.Kept.{Sized, none_sized, one_sized}
 use borrow.Author.Rules.{rules}
 use Rattle.costs.proofs.ranking.kept_rank.Statement.{statement}
 use Rattle.costs.proofs.ranking.kept_rank.Tie as tie
@@ -26,17 +26,17 @@ use Rattle.eval_selection.proofs.nth_largest.Reads as nth-largest-reads
 abbrev invariant-loop : tie.invariant-loop
 invariant-loop sizes₀ fill lanes count from to m over cap reached₀ t₀ sizes reached t =
     (t ≤ count)
-    × Sized (length sizes₀) (λ i k. chunkSize over (get_or lanes i []) from to m k) sizes t
+    × Sized (length sizes₀) (λ i k. chunk_size over (get_or lanes i []) from to m k) sizes t
     × (reached ≤ 80 * t)
-    × (reached ≤ exceedingBy over lanes from to m t (min cap 4503599627370496 - 1))
-    × (fill ≡ false → (i : ℕ) → t ≤ i → i < count → get_or sizes i [] ≡ noSizes)
+    × (reached ≤ exceeding_by over lanes from to m t (min cap 4503599627370496 - 1))
+    × (fill ≡ false → (i : ℕ) → t ≤ i → i < count → get_or sizes i [] ≡ no_sizes)
 
 abbrev decreases-loop : tie.decreases-loop
 decreases-loop sizes₀ fill lanes count from to m over cap reached₀ t₀ sizes reached t = count - t
 
 loop-holds : tie.Need-loop-init invariant-loop decreases-loop
-unfolding exceedingBy sum_of
-loop-holds c = (omega arith, none-sized _ _, omega arith, omega arith, λ e i h l. c.requires.3 e i l)
+unfolding exceeding_by sum_of
+loop-holds c = (omega arith, none_sized _ _, omega arith, omega arith, λ e i h l. c.requires.3 e i l)
 
 -- a turn's chunk has its place among the sizes
 inside-at : (c : tie.In-loop invariant-loop decreases-loop) → c.before.loop.t < length c.before.before.args.sizes.now
@@ -74,20 +74,20 @@ module _ (c : tie.After-chunk-sizes invariant-loop decreases-loop) where
   abbrev to : List Float
   to = start.args.to.now
 
-  abbrev sizes-of : ℕ → ℕ → Float
-  sizes-of i k = chunkSize start.args.over (get_or start.args.lanes.now i []) from to start.args.m k
+  abbrev sizes_of : ℕ → ℕ → Float
+  sizes_of i k = chunk_size start.args.over (get_or start.args.lanes.now i []) from to start.args.m k
 
   abbrev kept : List (List Float)
   kept = set p.loop.sizes p.loop.t c.chunk-sizes.new.0
 
-  sized : Sized (length start.args.sizes.now) sizes-of kept (p.loop.t + 1)
-  sized = one-sized _ p.loop.sizes p.loop.t p.loop.inv.1 c.chunk-sizes.new.0 (inside-at turn) c.chunk-sizes.ensures
+  sized : Sized (length start.args.sizes.now) sizes_of kept (p.loop.t + 1)
+  sized = one_sized _ p.loop.sizes p.loop.t p.loop.inv.1 c.chunk-sizes.new.0 (inside-at turn) c.chunk-sizes.ensures
 
 counted : (c : tie.After-reaching invariant-loop decreases-loop) →
     let l = c.before.before in
     let a = (start l).args in
     (p l).loop.reached + c.reaching.result
-    ≤ exceedingBy a.over a.lanes.now (from l) (to l) a.m ((p l).loop.t + 1) (min a.cap 4503599627370496 - 1)
+    ≤ exceeding_by a.over a.lanes.now (from l) (to l) a.m ((p l).loop.t + 1) (min a.cap 4503599627370496 - 1)
 counted c =
     let l = c.before.before in
     let a = (start l).args in
@@ -96,7 +96,7 @@ counted c =
       arith,
       (p l).loop.invariant.3,
       c.reaching.ensures.0,
-      chunk-counted a.over a.m a.lanes.now (from l) (to l) t (min a.cap 4503599627370496 - 1) (get_or (kept l) t [])
+      chunk_counted a.over a.m a.lanes.now (from l) (to l) t (min a.cap 4503599627370496 - 1) (get_or (kept l) t [])
           ((sized l).sizes t (omega arith)),
     )
 
@@ -129,7 +129,7 @@ returns c =
     let l = r.before.before in
     let a = (start l).args in
     c.least.ensures
-    ∙ cap-reached a.over a.m a.lanes.now (from l) (to l) a.m.eps (min a.cap 4503599627370496) ((p l).loop.t + 1) a.count
+    ∙ cap_reached a.over a.m a.lanes.now (from l) (to l) a.m.eps (min a.cap 4503599627370496) ((p l).loop.t + 1) a.count
     (omega (arith, (turn l).loop-test.true)) (omega arith) (omega (arith, counted r, c.before.if1.true))
 
 add-t : tie.Need-overflow-add-t invariant-loop decreases-loop
@@ -170,7 +170,7 @@ returns-2 c =
     let a = l.before.before.args in
     let v = l.before.loop.invariant in
     c.nth-largest.ensures
-    ∙ kept-selected a.over a.m a.lanes.now a.from.now a.to.now l.before.loop.sizes a.count
+    ∙ kept_selected a.over a.m a.lanes.now a.from.now a.to.now l.before.loop.sizes a.count
     (omega (arith, v.1.long, l.before.before.requires.0))
     (λ i h. v.1.sizes i (omega (arith, l.loop-test.false))) a.m.eps (min a.cap 4503599627370496)
 

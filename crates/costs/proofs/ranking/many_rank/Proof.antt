@@ -2,9 +2,9 @@
 use mathlib.Core.Path.{◌≡◌, ap, ◌∙◌}
 use Prim.Native.Nat.{ℕ, min}
 use Rattle.eval_selection.specs.Selection.{selected}
-use Rattle.costs.specs.Calls.{exceedingBy}
+use Rattle.costs.specs.Calls.{exceeding_by}
 use Rattle.costs.specs.Inside.{RankIn}
-use Rattle.costs.proofs.Counting.{rank-in}
+use Rattle.costs.proofs.Counting.{rank_in}
 use borrow.Author.Rules.{rules}
 use Rattle.costs.proofs.ranking.many_rank.Statement.{statement}
 use Rattle.costs.proofs.ranking.many_rank.Tie as tie
@@ -26,7 +26,7 @@ chunk-count-requires c κs = search rules
 
 ranked : (c : tie.After-chunk-count) (r : ℕ) →
     let a = c.before.before.before.before.args in
-    let by = exceedingBy a.over a.lanes.now c.before.before.coordinates.result c.before.coordinates2.result a.m in
+    let by = exceeding_by a.over a.lanes.now c.before.before.coordinates.result c.before.coordinates2.result a.m in
     r ≡ selected (by c.chunk_count.result) a.m.eps (min a.cap 4503599627370496)
     → RankIn a.over a.store.now a.lanes.now a.m a.low a.high a.cap r
 ranked c r e =
@@ -34,8 +34,8 @@ ranked c r e =
     let a = s.args in
     let one = c.before.before.coordinates in
     let two = c.before.coordinates2 in
-    let by = exceedingBy a.over a.lanes.now one.result two.result a.m in
-    rank-in a.store.now s.requires a.low a.high a.lanes.now one.result two.result
+    let by = exceeding_by a.over a.lanes.now one.result two.result a.m in
+    rank_in a.store.now s.requires a.low a.high a.lanes.now one.result two.result
     one.ensures.0 two.ensures.0 one.ensures.1 two.ensures.1 a.over a.cap r
     (e ∙ ap (λ (k : ℕ). selected (by k) a.m.eps (min a.cap 4503599627370496)) c.chunk_count.ensures)
 

@@ -5,12 +5,12 @@ use native.Mathlib.Nat.{min-eq_left}
 use native.Mathlib.Omega.{arith}
 use lib.IntN.{pos}
 use lib.Seq.{length-take-le}
-use Rattle.residuals.proofs.Sizes.{power-of}
-use Rattle.eval_whole.proofs.Laws.{cast-asks}
+use Rattle.residuals.proofs.Sizes.{power_of}
+use Rattle.eval_whole.proofs.Laws.{cast_asks}
 use Rattle.eval_columns.specs.Columns.{ChunkOf, chunks}
 use Rattle.eval_selection.specs.Selection.{selected}
-use Rattle.costs.specs.Calls.{DecodedFor, exceedingBy}
-use Rattle.costs.proofs.Counting.{kept-selected, rank-in}
+use Rattle.costs.specs.Calls.{DecodedFor, exceeding_by}
+use Rattle.costs.proofs.Counting.{kept_selected, rank_in}
 use Rattle.costs.proofs.Kept.{KeptSizes, none_kept, one_kept}
 use borrow.Author.Rules.{rules}
 use Rattle.costs.proofs.ranking.rank.Statement.{statement}
@@ -40,7 +40,7 @@ coordinates-requires-2 : tie.Need-coordinates-requires-2 invariant-loop decrease
 coordinates-requires-2 c κs = search rules
 
 int-to-float-most : tie.Need-int-to-float-most invariant-loop decreases-loop
-int-to-float-most c = cast-asks (pos 8589934592) (omega arith)
+int-to-float-most c = cast_asks (pos 8589934592) (omega arith)
 
 chunk-count-requires : tie.Need-chunk-count-requires invariant-loop decreases-loop
 chunk-count-requires c κs = search rules
@@ -87,7 +87,7 @@ loop-again c =
     let two = p.before.before in
     let s = two.before.before.before.before in
     let m = s.args.m in
-    let power = power-of m.scale two.before.before.power.result s.requires.scaled two.before.before.power.ensures in
+    let power = power_of m.scale two.before.before.power.result s.requires.scaled two.before.before.power.ensures in
     let decodes = c.before.before.before.before.before.decode-chunk in (
       omega (arith, turn.loop-test.true),
       one_kept s.args.store.now m s.args.over two.before.coordinates.result two.coordinates2.result p.loop.sizes
@@ -131,14 +131,14 @@ returns c =
     let limit = min 18446744073709551615 4503599627370496 in
     let r = c.nth-largest.result in
     let e =
-    rank-in store s.requires a.low a.high kept.lanes from to one.0 other.0 one.1 other.1 a.over 18446744073709551615 r
+    rank_in store s.requires a.low a.high kept.lanes from to one.0 other.0 one.1 other.1 a.over 18446744073709551615 r
     (c.nth-largest.ensures
-    ∙ kept-selected a.over a.m kept.lanes from to p.loop.sizes n
+    ∙ kept_selected a.over a.m kept.lanes from to p.loop.sizes n
     (omega (arith, kept.sized.long, p.before.chunk_count.ensures))
     (λ i h. kept.sized.sizes i (omega (arith, ended))) a.m.eps limit
-    ∙ ap (λ (k : ℕ). selected (exceedingBy a.over kept.lanes from to a.m k) a.m.eps limit) (all ∙ sym decoded.all))
+    ∙ ap (λ (k : ℕ). selected (exceeding_by a.over kept.lanes from to a.m k) a.m.eps limit) (all ∙ sym decoded.all))
     in
-    e.by-points decoded ∙ min-eq_left (omega (arith, e.small decoded))
+    e.by_points decoded ∙ min-eq_left (omega (arith, e.small decoded))
 
 pub rank-spec : {M : Type 1} → statement M
 rank-spec =

@@ -10,7 +10,7 @@ use Rattle.costs.proofs.ranking.short_rank.Tie as tie
 use Rattle.costs.proofs.ranking.short_rank.Reads as reads
 use Rattle.costs.proofs.ranking.short_rank.Lts as lts
 use Rattle.costs.proofs.ranking.kept_rank.Reads as kept-rank-reads
-use Rattle.eval_kernel.proofs.no_size.Reads as no-size-reads
+use Rattle.eval_kernel.proofs.no_size_lem.Reads as no-size-reads
 
 no-size-requires : tie.Need-no-size-requires
 no-size-requires c κs = search rules
@@ -24,7 +24,7 @@ kept-rank-requires c κs =
       s.requires.0,
       s.requires.1,
       omega (arith, s.requires.0),
-      λ e i h. get_or-replicate 8 i _ [] (omega (arith, s.requires.0)) ∙ ap (λ (x : Float). replicate 80 x) c.before.no_size.ensures,
+      λ e i h. get_or-replicate 8 i _ [] (omega (arith, s.requires.0)) ∙ ap (λ (x : Float). replicate 80 x) c.before.no_size_lem.ensures,
     )
 
 returns : tie.Need-returns

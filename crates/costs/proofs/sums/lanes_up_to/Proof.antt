@@ -3,10 +3,10 @@ use mathlib.Core.Path.{◌≡◌, refl, ap, ◌∙◌}
 use Prim.Native.Nat.{ℕ, ◌*◌, ◌-◌, ◌≤◌, min}
 use native.Mathlib.Omega.{arith}
 use Rattle.integers.specs.Sums.{sum_of}
-use Rattle.residuals.proofs.Sums.{sum_more, cap-stays}
-use Rattle.eval_columns.specs.Columns.{decodedChunks}
+use Rattle.residuals.proofs.Sums.{sum_more, cap_stays}
+use Rattle.eval_columns.specs.Columns.{decoded_chunks}
 use Rattle.costs.specs.Inside.{SumIn}
-use Rattle.costs.proofs.Summing.{lossAt, sum-in}
+use Rattle.costs.proofs.Summing.{loss_at, sum_in}
 use borrow.Author.Rules.{rules}
 use Rattle.costs.proofs.sums.lanes_up_to.Statement.{statement}
 use Rattle.costs.proofs.sums.lanes_up_to.Tie as tie
@@ -19,7 +19,7 @@ use Rattle.numbers.proofs.least.Reads as least-reads
 
 abbrev invariant-loop : tie.invariant-loop
 invariant-loop store lanes m over cap from to count total₀ t₀ total t =
-    (t ≤ count) × (total ≤ t * 36028797018963968) × (total ≡ sum_of (lossAt over lanes m from to) t)
+    (t ≤ count) × (total ≤ t * 36028797018963968) × (total ≡ sum_of (loss_at over lanes m from to) t)
 
 abbrev decreases-loop : tie.decreases-loop
 decreases-loop store lanes m over cap from to count total₀ t₀ total t = count - t
@@ -28,10 +28,10 @@ decreases-loop store lanes m over cap from to count total₀ t₀ total t = coun
 abbrev losses : tie.After-chunk-count invariant-loop decreases-loop → ℕ → ℕ
 losses c =
     let a = c.before.before.before.before.args in
-    lossAt a.over a.lanes.now a.m c.before.before.coordinates.result c.before.coordinates2.result
+    loss_at a.over a.lanes.now a.m c.before.before.coordinates.result c.before.coordinates2.result
 
 abbrev count : tie.After-chunk-count invariant-loop decreases-loop → ℕ
-count c = let a = c.before.before.before.before.args in decodedChunks a.store.now a.lanes.now
+count c = let a = c.before.before.before.before.args in decoded_chunks a.store.now a.lanes.now
 
 -- what is returned of them
 answer : (c : tie.After-chunk-count invariant-loop decreases-loop) (r : ℕ)
@@ -43,7 +43,7 @@ answer c r e =
     let a = s.args in
     let one = c.before.before.coordinates.ensures in
     let two = c.before.coordinates2.ensures in
-    sum-in a.store.now s.requires a.low a.high a.lanes.now _ _ one.0 two.0 one.1 two.1 a.over a.cap r e
+    sum_in a.store.now s.requires a.low a.high a.lanes.now _ _ one.0 two.0 one.1 two.1 a.over a.cap r e
 
 coordinates-requires : tie.Need-coordinates-requires invariant-loop decreases-loop
 coordinates-requires c κs = search rules
@@ -63,7 +63,7 @@ returns c =
     let p = c.before.before in
     let few : p.loop.t ≤ count p.before = omega (arith, p.loop.invariant.0, p.before.chunk_count.ensures) in
     let cap = p.before.before.before.before.before.args.cap in
-    answer p.before cap (cap-stays (losses p.before) p.loop.t (count p.before) cap few
+    answer p.before cap (cap_stays (losses p.before) p.loop.t (count p.before) cap few
     (omega (arith, c.if1.true, p.loop.invariant.2)))
 
 mul-chunk-loss : tie.Need-overflow-mul-chunk-loss invariant-loop decreases-loop

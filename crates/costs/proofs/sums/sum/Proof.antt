@@ -3,11 +3,11 @@ use mathlib.Core.List.{List}
 use Prim.Native.Nat.{◌*◌, ◌-◌, ◌≤◌}
 use native.Mathlib.Omega.{arith}
 use lib.IntN.{ℤ}
-use Rattle.residuals.proofs.Sums.{all-total}
-use Rattle.residuals.proofs.Sizes.{power-of}
+use Rattle.residuals.proofs.Sums.{all_total}
+use Rattle.residuals.proofs.Sizes.{power_of}
 use Rattle.eval_kernel.specs.Kernel.{Doubles}
-use Rattle.costs.specs.Inside.{sizesBy}
-use Rattle.costs.proofs.Summing.{Through, none-through, one-through}
+use Rattle.costs.specs.Inside.{sizes_by}
+use Rattle.costs.proofs.Summing.{Through, none_through, one_through}
 use borrow.Author.Rules.{rules}
 use Rattle.costs.proofs.sums.sum.Statement.{statement}
 use Rattle.costs.proofs.sums.sum.Tie as tie
@@ -42,7 +42,7 @@ chunk-count-requires c κs = search rules
 loop-holds : tie.Need-loop-init invariant-loop decreases-loop
 loop-holds c =
     let a = c.before.before.before.before.before.args in
-    (omega arith, omega arith, λ low high l h. none-through a.over a.m a.store.now low high)
+    (omega arith, omega arith, λ low high l h. none_through a.over a.m a.store.now low high)
 
 cast-decode-chunk : tie.Need-overflow-cast-decode-chunk invariant-loop decreases-loop
 cast-decode-chunk c =
@@ -80,11 +80,11 @@ loop-again c =
     let s = two.before.before.before.before in
     let m = s.args.m in
     let i = c.before.before.before.before.before.before.loop-test.true in
-    let power = power-of m.scale two.before.before.power.result s.requires.scaled two.before.before.power.ensures in (
+    let power = power_of m.scale two.before.before.power.result s.requires.scaled two.before.before.power.ensures in (
       omega arith,
       omega (arith, p.loop.invariant.1, c.chunk-loss.ensures.1),
       λ low high l h.
-          one-through s.requires s.args.store.now low high two.before.coordinates.result two.coordinates2.result l h
+          one_through s.requires s.args.store.now low high two.before.coordinates.result two.coordinates2.result l h
           s.args.over
           power c.before.before.before.before.decode-chunk.ensures.0 c.chunk-loss.ensures.0 (p.loop.invariant.2 low high l h),
     )
@@ -96,7 +96,7 @@ returns c =
     let s = two.before.before.before.before in
     let a = s.args in
     let few = s.requires.few in
-    all-total a.m (sizesBy a.over a.m a.low a.high) a.store.now
+    all_total a.m (sizes_by a.over a.m a.low a.high) a.store.now
     (p.loop.invariant.2 a.low a.high two.before.coordinates.ensures.1 two.coordinates2.ensures.1)
     (omega (arith, p.loop.invariant.0, c.loop-test.false, p.before.chunk_count.ensures))
 

@@ -1,13 +1,13 @@
--- The remainder and the quotient of the pair are the bytes that `signedAt` reads, in its order.
+-- The remainder and the quotient of the pair are the bytes that `signed_at` reads, in its order.
 use borrow.Author.Rules.{rules}
 use mathlib.Core.List.{[], ◌∷◌}
 use mathlib.Core.Path.{ap, ◌∙◌}
 use mir.Syntax.{w16}
 use mir.Val.{to_z}
 use mir.Facts.{to_z-of_z}
-use Rattle.fields.proofs.BigEndian.{pair-at}
-use Rattle.fields.specs.Fields.{fromBigEndian}
-use Rattle.points.specs.Points.{unsignedAt, signedAt}
+use Rattle.fields.proofs.BigEndian.{pair_at}
+use Rattle.fields.specs.Fields.{from_big_endian}
+use Rattle.points.specs.Points.{unsigned_at, signed_at}
 use Rattle.eval_columns.proofs.record.field.Statement.{statement}
 use Rattle.eval_columns.proofs.record.field.Tie as tie
 
@@ -24,14 +24,14 @@ signed16-requires : tie.Need-signed16-requires
 signed16-requires c κs = search rules
 
 returns : tie.Need-returns
-unfolding signedAt unsignedAt
+unfolding signed_at unsigned_at
 returns c =
     let pair = c.before.pair in
     let start = c.before.before.before in
     to_z-of_z (record { sfits = c.signed16.type-inv })
     ∙ c.signed16.ensures
-    ∙ (λ i. to_z w16 (fromBigEndian (pair.ensures.0 i ∷ pair.ensures.1 i ∷ [])))
-    ∙ ap (to_z w16) (pair-at start.args.s.now start.args.o start.requires)
+    ∙ (λ i. to_z w16 (from_big_endian (pair.ensures.0 i ∷ pair.ensures.1 i ∷ [])))
+    ∙ ap (to_z w16) (pair_at start.args.s.now start.args.o start.requires)
 
 pub field-spec : {M : Type 1} → statement M
 field-spec =

@@ -2,7 +2,7 @@
 use Prim.Native.Nat.{◌-◌, min}
 use native.Mathlib.Omega.{arith}
 use borrow.Author.Rules.{rules}
-use Rattle.eval_selection.proofs.Order.{Bracketed, whole-range, raised, lowered, found}
+use Rattle.eval_selection.proofs.Order.{Bracketed, whole_range, raised, lowered, found}
 use Rattle.eval_selection.proofs.bisection.bisected.Statement.{statement}
 use Rattle.eval_selection.proofs.bisection.bisected.Tie as tie
 use Rattle.eval_selection.proofs.bisection.bisected.Reads as reads
@@ -21,7 +21,7 @@ least-requires : tie.Need-least-requires invariant-loop decreases-loop
 least-requires c κs = search rules
 
 loop-holds : tie.Need-loop-init invariant-loop decreases-loop
-loop-holds c = whole-range _ _ c.least.ensures
+loop-holds c = whole_range _ _ c.least.ensures
 
 pivot-requires : tie.Need-pivot-requires invariant-loop decreases-loop
 pivot-requires c κs = (omega (arith, c.loop-test.true), omega (arith, c.before.loop.invariant.below))

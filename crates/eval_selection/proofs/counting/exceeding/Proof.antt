@@ -9,9 +9,9 @@ use lib.ListN.{length, get_or}
 use lib.Ieee.{Float, binary64, of_int}
 use Rattle.integers.specs.Sums.{sum_of}
 use Rattle.residuals.proofs.Sums.{sum_more}
-use Rattle.eval_whole.proofs.Laws.{cast-asks}
-use Rattle.eval_selection.specs.Selection.{exceedingIn, exceedingAll}
-use Rattle.eval_selection.proofs.Order.{sum-longer}
+use Rattle.eval_whole.proofs.Laws.{cast_asks}
+use Rattle.eval_selection.specs.Selection.{exceeding_in, exceeding_all}
+use Rattle.eval_selection.proofs.Order.{sum_longer}
 use Rattle.eval_selection.proofs.counting.exceeding.Statement.{statement}
 use Rattle.eval_selection.proofs.counting.exceeding.Tie as tie
 use Rattle.eval_selection.proofs.counting.exceeding.Reads as reads
@@ -19,7 +19,7 @@ use Rattle.eval_selection.proofs.counting.exceeding.Lts as lts
 use Rattle.eval_selection.proofs.counting.exceeding_in.Reads as exceeding-in-reads
 
 abbrev counts : Float → List (List Float) → ℕ → ℕ
-counts mark sizes t = exceedingIn mark (get_or sizes t [])
+counts mark sizes t = exceeding_in mark (get_or sizes t [])
 
 abbrev invariant-loop : tie.invariant-loop
 invariant-loop sizes a most mark enough count₀ t₀ count t =
@@ -43,7 +43,7 @@ counted c =
     )
 
 int-to-float-mark : tie.Need-int-to-float-mark invariant-loop decreases-loop
-int-to-float-mark c = cast-asks (pos c.before.args.a) (omega (arith, c.before.requires))
+int-to-float-mark c = cast_asks (pos c.before.args.a) (omega (arith, c.before.requires))
 
 loop-holds : tie.Need-loop-init invariant-loop decreases-loop
 unfolding sum_of
@@ -64,12 +64,12 @@ add-count c =
     record { fits = omega (arith, p.loop.invariant.1, c.exceeding-in.ensures.1, p.before.before.ranges.most) }
 
 returns : tie.Need-returns invariant-loop decreases-loop
-unfolding exceedingAll
+unfolding exceeding_all
 returns c =
     let p = c.before.before.before.before in
     let a = p.before.before.args in
     let f = counts (of_int binary64 (pos a.a)) a.sizes.now in
-    let longer = sum-longer f (p.loop.t + 1) (length a.sizes.now) (omega (arith, c.before.before.before.loop-test.true)) in
+    let longer = sum_longer f (p.loop.t + 1) (length a.sizes.now) (omega (arith, c.before.before.before.loop-test.true)) in
     (omega (arith, counted c.before, longer), λ h. omega (arith, c.if1.true))
 
 add-t : tie.Need-overflow-add-t invariant-loop decreases-loop
@@ -84,7 +84,7 @@ loop-again c =
     (omega arith, omega (arith, c.if1.false), counted c.before)
 
 returns-2 : tie.Need-returns-2 invariant-loop decreases-loop
-unfolding exceedingAll
+unfolding exceeding_all
 returns-2 c =
     let p = c.before in
     let a = p.before.before.args in

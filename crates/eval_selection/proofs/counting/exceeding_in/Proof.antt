@@ -8,7 +8,7 @@ use lib.Ieee.{Float, lt}
 use Rattle.integers.specs.Sums.{sum_of}
 use Rattle.residuals.proofs.Sums.{sum_more}
 use Rattle.eval_lanes.specs.Lanes.{lane}
-use Rattle.eval_selection.specs.Selection.{exceedingIn}
+use Rattle.eval_selection.specs.Selection.{exceeding_in}
 use borrow.Author.Rules.{rules}
 use Rattle.eval_selection.proofs.counting.exceeding_in.Statement.{statement}
 use Rattle.eval_selection.proofs.counting.exceeding_in.Tie as tie
@@ -62,7 +62,7 @@ loop-again c =
     )
 
 returns : tie.Need-returns invariant-loop decreases-loop
-unfolding exceedingIn
+unfolding exceeding_in
 returns c =
     let p = c.before in
     let a = p.before.before.before.args in

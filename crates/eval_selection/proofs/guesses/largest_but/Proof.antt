@@ -3,7 +3,7 @@ use Prim.Native.Nat.{◌-◌, ◌≤◌}
 use native.Mathlib.Omega.{arith}
 use lib.IntN.{pos}
 use borrow.Author.Rules.{rules}
-use Rattle.eval_whole.proofs.Laws.{cast-asks}
+use Rattle.eval_whole.proofs.Laws.{cast_asks}
 use Rattle.eval_selection.proofs.guesses.largest_but.Statement.{statement}
 use Rattle.eval_selection.proofs.guesses.largest_but.Tie as tie
 use Rattle.eval_selection.proofs.guesses.largest_but.Reads as reads
@@ -19,7 +19,7 @@ abbrev decreases-loop : tie.decreases-loop
 decreases-loop sizes skipped found₀ counter₀ found counter = skipped - counter
 
 int-to-float-largest-before : tie.Need-int-to-float-largest-before invariant-loop decreases-loop
-int-to-float-largest-before c = cast-asks (pos 4503599627370496) (omega arith)
+int-to-float-largest-before c = cast_asks (pos 4503599627370496) (omega arith)
 
 largest-before-requires : tie.Need-largest-before-requires invariant-loop decreases-loop
 largest-before-requires c κs = search rules

@@ -3,7 +3,7 @@ use Prim.Native.Nat.{◌-◌, ◌≤◌}
 use native.Mathlib.Omega.{arith}
 use lib.IntN.{pos}
 use lib.ListN.{length}
-use Rattle.eval_whole.proofs.Laws.{cast-asks}
+use Rattle.eval_whole.proofs.Laws.{cast_asks}
 use borrow.Author.Rules.{rules}
 use Rattle.eval_selection.proofs.guesses.tops.Statement.{statement}
 use Rattle.eval_selection.proofs.guesses.tops.Tie as tie
@@ -22,7 +22,7 @@ least-requires : tie.Need-least-requires invariant-loop decreases-loop
 least-requires c κs = search rules
 
 int-to-float-mark : tie.Need-int-to-float-mark invariant-loop decreases-loop
-int-to-float-mark c = cast-asks (pos c.before.least.result) (omega (arith, c.before.least.ensures))
+int-to-float-mark c = cast_asks (pos c.before.least.result) (omega (arith, c.before.least.ensures))
 
 loop-holds : tie.Need-loop-init invariant-loop decreases-loop
 loop-holds c = search rules

@@ -9,22 +9,22 @@ use Prim.Native.Nat.{ℕ, ◌+◌, ◌-◌, ◌≤◌}
 use native.Mathlib.Omega.{arith}
 use lib.ListN.{length, take, drop}
 use Rattle.frames.specs.Walk.{from}
-use Rattle.frames.specs.Frames.{recordsOf, clashes, checkClash}
-use Rattle.frames.proofs.Records.{records-end}
+use Rattle.frames.specs.Frames.{records_of, clashes, check_clash}
+use Rattle.frames.proofs.Records.{records_end}
 use Rattle.frames.proofs.Rising.{Rises, rises}
 use Rattle.frames.proofs.Walked.{Walked, Step, begun, ended, step}
 use Rattle.frames.proofs.count.count.Statement.{statement}
 use Rattle.frames.proofs.count.count.Tie as tie
 
-not-both : {A : Type 0} {t : Bool} → t ≡ true → t ≡ false → A
-not-both e k = let z : ◌≡◌ {A = ℕ} 0 1 = cc in absurd (omega arith)
+not_both : {A : Type 0} {t : Bool} → t ≡ true → t ≡ false → A
+not_both e k = let z : ◌≡◌ {A = ℕ} 0 1 = cc in absurd (omega arith)
 
 record Counting (first second : List ℕ) (i j n : ℕ) : Type 0 where
   walked : Walked first second i j n
   few : n ≤ i + j
   first-rises : Rises (from first i)
   second-rises : Rises (from second j)
-  clashes-left : clashes (recordsOf first) (recordsOf second) ≡ clashes (from first i) (from second j)
+  clashes_left : clashes (records_of first) (records_of second) ≡ clashes (from first i) (from second j)
 
 abbrev invariant-loop : tie.invariant-loop
 invariant-loop first second both i₀ j₀ n₀ i j n = Counting first second i j n
@@ -43,9 +43,9 @@ loop-holds c =
     record {
       walked = begun one two s.requires.0.whole s.requires.1.whole;
       few = omega arith;
-      first-rises = rises (recordsOf one) s.requires.0.rises;
-      second-rises = rises (recordsOf two) s.requires.1.rises;
-      clashes-left = refl;
+      first-rises = rises (records_of one) s.requires.0.rises;
+      second-rises = rises (records_of two) s.requires.1.rises;
+      clashes_left = refl;
     }
 
 add-loop : tie.Need-overflow-add-loop invariant-loop decreases-loop
@@ -118,13 +118,13 @@ compared c =
     simp (e, k) at c.same.ensures
 
 returns : tie.Need-returns invariant-loop decreases-loop
-unfolding checkClash
+unfolding check_clash
 returns c =
     let t = c.before.before.before.before in
     let l = t.before.before.before.before in
     let different : c.before.same.result ≡ false = not-true _ c.if2.true in
-    let found = (stepping t.before).clash-here t.if1.true (λ e. not-both ((compared c.before).1 e) different) in
-    rw (l.loop.invariant.clashes-left ∙ found)
+    let found = (stepping t.before).clash_here t.if1.true (λ e. not_both ((compared c.before).1 e) different) in
+    rw (l.loop.invariant.clashes_left ∙ found)
 
 add-i : tie.Need-overflow-add-i invariant-loop decreases-loop
 add-i c = omega (arith, stepping c.before)
@@ -162,22 +162,22 @@ loop-again c =
     record {
       walked = p.walked;
       few = omega (arith, p.forward, v.few);
-      first-rises = p.one-rises v.first-rises;
-      second-rises = p.two-rises v.second-rises;
-      clashes-left = v.clashes-left ∙ p.clashes-left v.first-rises v.second-rises (agreed c);
+      first-rises = p.one_rises v.first-rises;
+      second-rises = p.two_rises v.second-rises;
+      clashes_left = v.clashes_left ∙ p.clashes_left v.first-rises v.second-rises (agreed c);
     }
 
 returns-2 : tie.Need-returns-2 invariant-loop decreases-loop
-unfolding checkClash clashes
+unfolding check_clash clashes
 returns-2 c =
     let l = c.before in
     let a = l.before.before.before in
     let one = a.args.first.now in
     let two = a.args.second.now in
     let v = l.loop in
-    let none : clashes (from one v.i) (from two v.j) ≡ false = rw (records-end one v.i (omega arith)) in
+    let none : clashes (from one v.i) (from two v.j) ≡ false = rw (records_end one v.i (omega arith)) in
     let all = ended one two a.requires.0.whole a.requires.1.whole v.i v.j v.n v.invariant.walked (omega arith) in
-    rw (v.invariant.clashes-left, none, ← all)
+    rw (v.invariant.clashes_left, none, ← all)
 
 pub count_spec : {M : Type 1} → statement M
 count_spec =

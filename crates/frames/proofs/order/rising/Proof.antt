@@ -6,13 +6,13 @@ use Prim.Native.Nat.{◌+◌, ◌-◌, ◌%◌, ◌≤◌}
 use native.Mathlib.Omega.{arith}
 use lib.ListN.{length}
 use Rattle.frames.specs.Walk.{from}
-use Rattle.frames.specs.Frames.{frame_of, framesOf, rising}
-use Rattle.frames.proofs.Rising.{rising-on, rising-not, rising-end}
+use Rattle.frames.specs.Frames.{frame_of, frames_of, rising}
+use Rattle.frames.proofs.Rising.{rising_on, rising_not, rising_end}
 use Rattle.frames.proofs.order.rising.Statement.{statement}
 use Rattle.frames.proofs.order.rising.Tie as tie
 
 abbrev invariant-loop : tie.invariant-loop
-invariant-loop store i₀ i = (i ≤ length store) × (i % 12 ≡ 0) × (rising (framesOf store) ≡ rising (map frame_of (from store i)))
+invariant-loop store i₀ i = (i ≤ length store) × (i % 12 ≡ 0) × (rising (frames_of store) ≡ rising (map frame_of (from store i)))
 
 abbrev decreases-loop : tie.decreases-loop
 decreases-loop store i₀ i = length store - i
@@ -38,7 +38,7 @@ returns c =
     let l = k.before.before.before in
     let s = l.before.before.args.store.now in
     let h : l.loop.i + 24 ≤ length s = omega arith in
-    sym (l.loop.invariant.2 ∙ rising-not s l.loop.i h (omega (arith, k.frame2.ensures, k.before.frame.ensures)))
+    sym (l.loop.invariant.2 ∙ rising_not s l.loop.i h (omega (arith, k.frame2.ensures, k.before.frame.ensures)))
 
 add-i : tie.Need-overflow-add-i invariant-loop decreases-loop
 add-i c = search rules
@@ -52,14 +52,14 @@ loop-again c =
     let l = k.before.before.before in
     let s = l.before.before.args.store.now in
     let h : l.loop.i + 24 ≤ length s = omega arith in
-    let on = rising-on s l.loop.i h (omega (arith, k.frame2.ensures, k.before.frame.ensures)) in
+    let on = rising_on s l.loop.i h (omega (arith, k.frame2.ensures, k.before.frame.ensures)) in
     (omega arith, omega arith, l.loop.invariant.2 ∙ on)
 
 returns-2 : tie.Need-returns-2 invariant-loop decreases-loop
 returns-2 c =
     let l = c.before in
     let s = l.before.before in
-    sym (l.loop.invariant.2 ∙ rising-end s.args.store.now l.loop.i l.loop.invariant.1 s.requires (omega arith))
+    sym (l.loop.invariant.2 ∙ rising_end s.args.store.now l.loop.i l.loop.invariant.1 s.requires (omega arith))
 
 pub rising-spec : {M : Type 1} → statement M
 rising-spec =

@@ -10,36 +10,36 @@ use lib.IntN.{ℤ}
 use Rattle.jobs.specs.declared.Model.{Model}
 use Rattle.points.specs.declared.Point.{Point}
 use Rattle.points.specs.declared.Record.TheVariants.{Sample, Gap, Missing}
-use Rattle.points.specs.Points.{pointAt, isGap, sampleOrGap, pointAnswer}
-use Rattle.labels.specs.Labels.{sampleLabel, label}
+use Rattle.points.specs.Points.{point_at, is_gap, sample_or_gap, point_answer}
+use Rattle.labels.specs.Labels.{sample_label, label}
 use Rattle.labels.proofs.nearest.label_at.Statement.{statement}
 use Rattle.labels.proofs.nearest.label_at.Tie as tie
 
 -- what a record tells of a point's label
 module _ (m : Model) (v : List ℤ) (q : Point) where
-  of-sample : {p : Point} → sampleOrGap q ≡ Sample p → sampleLabel m v p ≡ label m v q
-  unfolding sampleOrGap label
-  of-sample {p} = by-gap (isGap q)
+  of-sample : {p : Point} → sample_or_gap q ≡ Sample p → sample_label m v p ≡ label m v q
+  unfolding sample_or_gap label
+  of-sample {p} = by_gap (is_gap q)
     where
-      by-gap : (gap : Bool) → cond gap (Gap q) (Sample q) ≡ Sample p → sampleLabel m v p ≡ cond gap 6 (sampleLabel m v q)
-      by-gap true e = let z : ◌≡◌ {A = ℕ} 0 1 = cc in absurd (omega arith)
-      by-gap false e = let same : p ≡ q = cc in ap (sampleLabel m v) same
+      by_gap : (gap : Bool) → cond gap (Gap q) (Sample q) ≡ Sample p → sample_label m v p ≡ cond gap 6 (sample_label m v q)
+      by_gap true e = let z : ◌≡◌ {A = ℕ} 0 1 = cc in absurd (omega arith)
+      by_gap false e = let same : p ≡ q = cc in ap (sample_label m v) same
 
-  of-gap : {p : Point} → sampleOrGap q ≡ Gap p → label m v q ≡ 6
-  unfolding sampleOrGap label
-  of-gap {p} = by-gap (isGap q)
+  of-gap : {p : Point} → sample_or_gap q ≡ Gap p → label m v q ≡ 6
+  unfolding sample_or_gap label
+  of-gap {p} = by_gap (is_gap q)
     where
-      by-gap : (gap : Bool) → cond gap (Gap q) (Sample q) ≡ Gap p → cond gap 6 (sampleLabel m v q) ≡ 6
-      by-gap true e = refl
-      by-gap false e = let z : ◌≡◌ {A = ℕ} 0 1 = cc in absurd (omega arith)
+      by_gap : (gap : Bool) → cond gap (Gap q) (Sample q) ≡ Gap p → cond gap 6 (sample_label m v q) ≡ 6
+      by_gap true e = refl
+      by_gap false e = let z : ◌≡◌ {A = ℕ} 0 1 = cc in absurd (omega arith)
 
-not-missing : (q : Point) → sampleOrGap q ≡ Missing → ⊥
-unfolding sampleOrGap
-not-missing q = by-gap (isGap q)
+not-missing : (q : Point) → sample_or_gap q ≡ Missing → ⊥
+unfolding sample_or_gap
+not-missing q = by_gap (is_gap q)
   where
-    by-gap : (gap : Bool) → cond gap (Gap q) (Sample q) ≡ Missing → ⊥
-    by-gap true e = let z : ◌≡◌ {A = ℕ} 0 1 = cc in absurd (omega arith)
-    by-gap false e = let z : ◌≡◌ {A = ℕ} 0 1 = cc in absurd (omega arith)
+    by_gap : (gap : Bool) → cond gap (Gap q) (Sample q) ≡ Missing → ⊥
+    by_gap true e = let z : ◌≡◌ {A = ℕ} 0 1 = cc in absurd (omega arith)
+    by_gap false e = let z : ◌≡◌ {A = ℕ} 0 1 = cc in absurd (omega arith)
 
 -- what was read
 module _ (c : tie.After-read-point) where
@@ -47,10 +47,10 @@ module _ (c : tie.After-read-point) where
   start = c.before.before
 
   abbrev here : Point
-  here = pointAt start.args.store.now start.args.i
+  here = point_at start.args.store.now start.args.i
 
-  found : c.read-point.result ≡ sampleOrGap here
-  unfolding pointAnswer
+  found : c.read-point.result ≡ sample_or_gap here
+  unfolding point_answer
   found = c.read-point.ensures ∙ simp (lt-ltb _ _ start.pre.1)
 
 read-point-requires : tie.Need-read-point-requires

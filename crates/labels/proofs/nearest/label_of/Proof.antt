@@ -8,10 +8,10 @@ use native.Mathlib.Numerals.{add-one}
 use native.Mathlib.Omega.{arith}
 use lib.Dec.{leb}
 use Rattle.residuals.specs.Cost.{least, size_at}
-use Rattle.labels.specs.Labels.{firstLeast, nearestLabel, fitting, sampleLabel}
+use Rattle.labels.specs.Labels.{first_least, nearest_label, fitting, sample_label}
 use Rattle.residuals.specs.Inside.{size_of}
-use Rattle.labels.proofs.Labelling.{first-least}
-use Rattle.residuals.proofs.Sizes.{sizes-at}
+use Rattle.labels.proofs.Labelling.{first_least_lem}
+use Rattle.residuals.proofs.Sizes.{sizes_at}
 use Rattle.labels.proofs.nearest.label_of.Statement.{statement}
 use Rattle.labels.proofs.nearest.label_of.Tie as tie
 
@@ -40,10 +40,10 @@ module _ (c : tie.After-nearest-line) where
       ◌≡◌ {A = ℕ → ℕ} (λ j. size_of a.q a.v.now (j * a.m.d) a.m.d a.power) sizes
   sizes-are =
       let a = start.args in
-      sizes-at a.m a.q a.power start.pre.4 a.v.now
+      sizes_at a.m a.q a.power start.pre.4 a.v.now
 
-  line-is : c.nearest-line.result.line ≡ firstLeast sizes start.args.m.n
-  line-is = c.nearest-line.ensures.0 ∙ ap (λ (f : ℕ → ℕ). firstLeast f start.args.m.n) sizes-are
+  line-is : c.nearest-line.result.line ≡ first_least sizes start.args.m.n
+  line-is = c.nearest-line.ensures.0 ∙ ap (λ (f : ℕ → ℕ). first_least f start.args.m.n) sizes-are
 
   size_is : c.nearest-line.result.size ≡ least sizes start.args.m.n
   size_is = c.nearest-line.ensures.1.0 ∙ ap (λ (f : ℕ → ℕ). least f start.args.m.n) sizes-are
@@ -52,21 +52,21 @@ module _ (c : tie.After-nearest-line) where
   fitting-is = c.nearest-line.ensures.1.1 ∙ ap (λ (f : ℕ → ℕ). fitting f start.args.m.eps start.args.m.n) sizes-are
 
   line_small : c.nearest-line.result.line < 4
-  line_small = omega (arith, line-is, (first-least sizes start.args.m.n start.pre.1).one_of, start.pre.2)
+  line_small = omega (arith, line-is, (first_least_lem sizes start.args.m.n start.pre.1).one_of, start.pre.2)
 
   -- the label, by both tests
-  label-if : {two near : Bool} → leb 2 (fitting sizes start.args.m.eps start.args.m.n) ≡ two →
+  label_if : {two near : Bool} → leb 2 (fitting sizes start.args.m.eps start.args.m.n) ≡ two →
       leb (least sizes start.args.m.n) start.args.m.eps ≡ near →
-      sampleLabel start.args.m start.args.v.now start.args.q
-      ≡ cond two 5 (cond near (suc (firstLeast sizes start.args.m.n)) 0)
-  unfolding sampleLabel nearestLabel
-  label-if e h = λ i. cond (e i) 5 (cond (h i) (suc (firstLeast sizes start.args.m.n)) 0)
+      sample_label start.args.m start.args.v.now start.args.q
+      ≡ cond two 5 (cond near (suc (first_least sizes start.args.m.n)) 0)
+  unfolding sample_label nearest_label
+  label_if e h = λ i. cond (e i) 5 (cond (h i) (suc (first_least sizes start.args.m.n)) 0)
 
 returns : tie.Need-returns
 returns c =
     let e = c.before.before in
     let two : 2 ≤ fitting (sizes e) (start e).args.m.eps (start e).args.m.n = omega (arith, fitting-is e, c.if1.true) in
-    sym (label-if e (le-leb _ _ two) refl)
+    sym (label_if e (le-leb _ _ two) refl)
 
 cast-if2 : tie.Need-overflow-cast-if2
 cast-if2 c = search rules
@@ -83,7 +83,7 @@ returns-2 c =
     let one : fitting (sizes e) (start e).args.m.eps (start e).args.m.n < 2 =
     omega (arith, fitting-is e, c.before.before.before.before.if1.false) in
     let h : least (sizes e) (start e).args.m.n ≤ (start e).args.m.eps = omega (arith, size_is e, c.before.if2.true) in
-    add-one e.nearest-line.result.line ∙ ap suc (line-is e) ∙ sym (label-if e (lt-leb _ _ one) (le-leb _ _ h))
+    add-one e.nearest-line.result.line ∙ ap suc (line-is e) ∙ sym (label_if e (lt-leb _ _ one) (le-leb _ _ h))
 
 returns-3 : tie.Need-returns-3
 returns-3 c =
@@ -91,7 +91,7 @@ returns-3 c =
     let one : fitting (sizes e) (start e).args.m.eps (start e).args.m.n < 2 =
     omega (arith, fitting-is e, c.before.before.before.if1.false) in
     let h : (start e).args.m.eps < least (sizes e) (start e).args.m.n = omega (arith, size_is e, c.if2.false) in
-    sym (label-if e (lt-leb _ _ one) (lt-leb _ _ h))
+    sym (label_if e (lt-leb _ _ one) (lt-leb _ _ h))
 
 pub label-of-spec : {M : Type 1} → statement M
 label-of-spec =

@@ -15,10 +15,10 @@ use mir.Val.{SFits, to_z, of_z}
 use mir.Facts.{to_z-of_z}
 use Rattle.points.specs.declared.Point.{Point}
 use Rattle.residuals.specs.Cost.{least}
-use Rattle.labels.specs.Labels.{firstLeast, fitting}
+use Rattle.labels.specs.Labels.{first_least, fitting}
 use Rattle.residuals.specs.Inside.{size_of}
-use Rattle.residuals.proofs.Least.{least_more, line-room}
-use Rattle.labels.proofs.Labelling.{first-least-more, fitting-more, once}
+use Rattle.residuals.proofs.Least.{least_more, line_room}
+use Rattle.labels.proofs.Labelling.{first_least_more, fitting_more, once}
 use Rattle.labels.proofs.nearest.nearest_line.Statement.{statement}
 use Rattle.labels.proofs.nearest.nearest_line.Tie as tie
 
@@ -29,39 +29,39 @@ sizes q v d power j = size_of q v (j * d) d power
 record Found (f : ℕ → ℕ) (ε n j line size count : ℕ) : Type 0 where
   some : 1 ≤ j
   within : j ≤ n
-  is-first : line ≡ firstLeast f j
-  is-least : size ≡ least f j
+  is-first : line ≡ first_least f j
+  is_least : size ≡ least f j
   are-fitting : count ≡ fitting f ε j
   few : count ≤ j
 
 module _ {f : ℕ → ℕ} {ε n j line size count : ℕ} (g : Found f ε n j line size count) (h : j < n) (other one : ℕ) (e : other ≡ f j)
     (c : one ≡ cond (leb other ε) 1 0) where
   counts : count + one ≡ fitting f ε (j + 1)
-  counts = ap₂ ◌+◌ g.are-fitting (c ∙ ap {B = ℕ} (λ (x : ℕ). cond (leb x ε) 1 0) e) ∙ sym (fitting-more f ε j)
+  counts = ap₂ ◌+◌ g.are-fitting (c ∙ ap {B = ℕ} (λ (x : ℕ). cond (leb x ε) 1 0) e) ∙ sym (fitting_more f ε j)
 
   no_more : count + one ≤ j + 1
   no_more = omega (arith, g.few, c, once (λ i. other) ε 0)
 
   closer : other < size → Found f ε n (j + 1) j other (count + one)
   closer k =
-      let t : f j < least f j = omega (arith, g.is-least, e) in
+      let t : f j < least f j = omega (arith, g.is_least, e) in
       record {
         some = omega arith;
         within = omega arith;
-        is-first = sym (first-least-more f j g.some ∙ simp (lt-ltb _ _ t));
-        is-least = omega (arith, least_more f j g.some);
+        is-first = sym (first_least_more f j g.some ∙ simp (lt-ltb _ _ t));
+        is_least = omega (arith, least_more f j g.some);
         are-fitting = counts;
         few = no_more;
       }
 
   no-closer : size ≤ other → Found f ε n (j + 1) line size (count + one)
   no-closer k =
-      let t : least f j ≤ f j = omega (arith, g.is-least, e) in
+      let t : least f j ≤ f j = omega (arith, g.is_least, e) in
       record {
         some = omega arith;
         within = omega arith;
-        is-first = g.is-first ∙ sym (first-least-more f j g.some ∙ simp (le-ltb _ _ t));
-        is-least = omega (arith, least_more f j g.some, g.is-least);
+        is-first = g.is-first ∙ sym (first_least_more f j g.some ∙ simp (le-ltb _ _ t));
+        is_least = omega (arith, least_more f j g.some, g.is_least);
         are-fitting = counts;
         few = no_more;
       }
@@ -79,7 +79,7 @@ size-of e fits found is = found ∙ ap nat_abs (to_z-of_z fits) ∙ is
 residual-requires : tie.Need-residual-requires invariant-loop decreases-loop
 residual-requires c κs =
     let a = c.args in
-    let r = line-room 0 a.n a.d 8 c.requires.1 c.requires.0 in
+    let r = line_room 0 a.n a.d 8 c.requires.1 c.requires.0 in
     (omega (arith, zero-mul a.d), c.requires.2)
 
 size-requires : tie.Need-size-requires invariant-loop decreases-loop
@@ -89,7 +89,7 @@ counted-requires : tie.Need-counted-requires invariant-loop decreases-loop
 counted-requires c κs = search rules
 
 loop-holds : tie.Need-loop-init invariant-loop decreases-loop
-unfolding least firstLeast fitting
+unfolding least first_least fitting
 loop-holds c =
     let e = c.before.before.residual in
     let a = c.before.before.before.args in
@@ -99,7 +99,7 @@ loop-holds c =
       some = omega arith;
       within = c.before.before.before.requires.1;
       is-first = refl;
-      is-least = size_is;
+      is_least = size_is;
       are-fitting = omega (arith, c.counted.ensures ∙ ap {B = ℕ} (λ (x : ℕ). cond (leb x a.eps) 1 0) size_is);
       few = omega (arith, c.counted.ensures, once (λ i. c.before.size.result) a.eps 0);
     }
@@ -109,7 +109,7 @@ room : (c : tie.In-loop invariant-loop decreases-loop) →
     c.before.loop.j * a.d + a.d ≤ 8
 room c =
     let s = c.before.before.before.before.before in
-    line-room c.before.loop.j s.args.n s.args.d 8 c.loop-test.true s.requires.0
+    line_room c.before.loop.j s.args.n s.args.d 8 c.loop-test.true s.requires.0
 
 mul-residual : tie.Need-overflow-mul-residual invariant-loop decreases-loop
 mul-residual c = record { fits = omega (arith, room c) }
@@ -165,8 +165,8 @@ returns c =
     let a = p.before.before.before.before.args in
     let e : p.loop.j ≡ a.n = omega (arith, p.loop.invariant.within) in
     let f = sizes a.q a.v.now a.d a.power in (
-      p.loop.invariant.is-first ∙ ap (firstLeast f) e,
-      (p.loop.invariant.is-least ∙ ap (least f) e, p.loop.invariant.are-fitting ∙ ap (fitting f a.eps) e),
+      p.loop.invariant.is-first ∙ ap (first_least f) e,
+      (p.loop.invariant.is_least ∙ ap (least f) e, p.loop.invariant.are-fitting ∙ ap (fitting f a.eps) e),
     )
 
 pub nearest-line-spec : {M : Type 1} → statement M

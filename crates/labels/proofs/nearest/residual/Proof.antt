@@ -9,7 +9,7 @@ use lib.IntN.{ℤ, pos, nat_abs, ◌+ℤ◌, ◌-ℤ◌, ◌*ℤ◌}
 use mir.Syntax.{w16, w64}
 use mir.Val.{to_z, of_z}
 use mir.Facts.{to_z-of_z}
-use Rattle.integers.proofs.Parts.{sum-parts, sub_parts, from_parts, pos-up, pos-dn}
+use Rattle.integers.proofs.Parts.{sum_parts, sub_parts, from_parts, pos_up, pos_dn}
 use Rattle.points.specs.Points.{xs}
 use Rattle.residuals.specs.Cost.{at}
 use Rattle.residuals.specs.Inside.{dot}
@@ -19,9 +19,9 @@ use Rattle.labels.proofs.nearest.residual.Tie as tie
 
 -- what is left of a number, one product after the other
 module _ (z : ℤ) (v : List ℤ) (b : ℕ) (x : List ℤ) where
-  no-product : z ≡ z -ℤ dot v b x 0
+  no_product : z ≡ z -ℤ dot v b x 0
   unfolding Σ
-  no-product = from_parts z (z -ℤ pos 0) (omega (arith, sub_parts z (pos 0), pos-up 0, pos-dn 0))
+  no_product = from_parts z (z -ℤ pos 0) (omega (arith, sub_parts z (pos 0), pos_up 0, pos_dn 0))
 
   one_product : (k : ℕ) → z -ℤ dot v b x k -ℤ at v (b + k) *ℤ at x k ≡ z -ℤ dot v b x (k + 1)
   unfolding Σ
@@ -29,7 +29,7 @@ module _ (z : ℤ) (v : List ℤ) (b : ℕ) (x : List ℤ) where
       let s = dot v b x k in
       let p = at v (b + k) *ℤ at x k in
       rw add-one
-      (from_parts (z -ℤ s -ℤ p) (z -ℤ (s +ℤ p)) (omega (arith, sub_parts (z -ℤ s) p, sub_parts z s, sub_parts z (s +ℤ p), sum-parts s p)))
+      (from_parts (z -ℤ s -ℤ p) (z -ℤ (s +ℤ p)) (omega (arith, sub_parts (z -ℤ s) p, sub_parts z s, sub_parts z (s +ℤ p), sum_parts s p)))
 
 abbrev invariant-loop : tie.invariant-loop
 invariant-loop q v b d power e₀ k₀ e k =
@@ -51,7 +51,7 @@ loop-holds c =
       back
           ∙ c.scaled.ensures.0
           ∙ ap (λ (z : ℤ). z *ℤ pos a.power) y
-          ∙ no-product (a.q.y *ℤ pos a.power) a.v.now a.b (xs a.q),
+          ∙ no_product (a.q.y *ℤ pos a.power) a.v.now a.b (xs a.q),
       omega (arith, ap nat_abs back, c.scaled.ensures.1),
     )
 
@@ -85,8 +85,8 @@ loop-again c =
     let a = p.before.before.before.args in
     let w = at a.v.now (a.b + p.loop.k) in
     let w-is : to_z w16 (of_z w16 w) ≡ w = to_z-of_z (record { sfits = x.before.without-arg.given }) in
-    let x-is : to_z w16 (of_z w16 x.x-at.result) ≡ at (xs a.q) p.loop.k =
-    to_z-of_z (record { sfits = x.x-at.type-inv }) ∙ x.x-at.ensures in
+    let x-is : to_z w16 (of_z w16 x.x_at.result) ≡ at (xs a.q) p.loop.k =
+    to_z-of_z (record { sfits = x.x_at.type-inv }) ∙ x.x_at.ensures in
     let back : to_z w64 (of_z w64 c.without.result) ≡ c.without.result = to_z-of_z (record { sfits = c.without.type-inv }) in (
       omega (arith, x.before.before.loop-test.true),
       back

@@ -6,8 +6,8 @@ use lib.IntN.{ℤ, nat_abs, ◌*ℤ◌}
 use mir.Syntax.{w16, w64}
 use mir.Val.{SFits, to_z, of_z}
 use mir.Facts.{to_z-of_z, sfits_widen}
-use Rattle.integers.proofs.Machine.{difference-fits, read-difference}
-use Rattle.integers.proofs.Parts.{size-sfits, abs-product, abs-sub}
+use Rattle.integers.proofs.Machine.{difference_fits, read_difference}
+use Rattle.integers.proofs.Parts.{size_sfits, abs_product, abs_sub}
 use Rattle.labels.proofs.nearest.without.Statement.{statement}
 use Rattle.labels.proofs.nearest.without.Tie as tie
 
@@ -22,10 +22,10 @@ module _ (c : tie.Start) where
   product = c.args.w *ℤ c.args.x
 
   small : nat_abs product ≤ 1073741824
-  small = abs-product w16 c.ranges.w c.ranges.x
+  small = abs_product w16 c.ranges.w c.ranges.x
 
   fits : SFits w64 product
-  fits = size-sfits w64 product (omega (arith, small))
+  fits = size_sfits w64 product (omega (arith, small))
 
   room : nat_abs c.args.e + nat_abs product < 2 ^ 63
   room = omega (arith, small, c.requires)
@@ -44,13 +44,13 @@ mul-result : tie.Need-overflow-mul-result
 mul-result c = rw (read c) (fits c)
 
 sub-result : tie.Need-overflow-sub-result
-sub-result c = rw (read c) (difference-fits w64 c.args.e (product c) (room c))
+sub-result c = rw (read c) (difference_fits w64 c.args.e (product c) (room c))
 
 returns : tie.Need-returns
 returns c =
     let e = c.args.e in
-    let difference = read-difference w64 e (product c) (room c) in
-    rw (read c, difference) (refl, omega (arith, abs-sub e (product c), small c))
+    let difference = read_difference w64 e (product c) (room c) in
+    rw (read c, difference) (refl, omega (arith, abs_sub e (product c), small c))
 
 pub without-spec : {M : Type 1} → statement M
 without-spec = tie.close (tie.spec cast-result cast-result-2 mul-result sub-result returns)

@@ -71,23 +71,23 @@ put-requires c κs =
     let p = stepping c.before.before in
     let l = c.before.before.before.before.before in
     let twelve = c.before.if1.true in
-    (omega (arith, p.walked.in-merged, l.loop.invariant.same_length), omega (arith, p.walked.in-first))
+    (omega (arith, p.walked.in_merged, l.loop.invariant.same_length), omega (arith, p.walked.in_first))
 
 put-requires-2 : tie.Need-put-requires-2 invariant-loop decreases-loop
 put-requires-2 c κs =
     let p = stepping c.before.before in
     let l = c.before.before.before.before.before in
-    let twelve = (p.from-two c.before.if1.false).0 in
-    (omega (arith, p.walked.in-merged, l.loop.invariant.same_length), omega (arith, p.walked.in-second))
+    let twelve = (p.from_two c.before.if1.false).0 in
+    (omega (arith, p.walked.in_merged, l.loop.invariant.same_length), omega (arith, p.walked.in_second))
 
 add-i : tie.Need-overflow-add-i invariant-loop decreases-loop
-add-i c = omega (arith, (stepping c.before).walked.in-first)
+add-i c = omega (arith, (stepping c.before).walked.in_first)
 
 add-j : tie.Need-overflow-add-j invariant-loop decreases-loop
-add-j c = omega (arith, (stepping c.before).walked.in-second)
+add-j c = omega (arith, (stepping c.before).walked.in_second)
 
 add-n : tie.Need-overflow-add-n invariant-loop decreases-loop
-add-n c = omega (arith, (stepping c.before).walked.in-merged)
+add-n c = omega (arith, (stepping c.before).walked.in_merged)
 
 loop-less : tie.Need-loop-smaller invariant-loop decreases-loop
 loop-less c = omega arith
@@ -102,7 +102,7 @@ wrote c =
     let p = stepping c.before in
     ⊎_elim
     (λ w. rw (p.from_one w.0.taken) (w.5 ∙ w.2.ensures))
-    (λ w. rw (p.from-two w.0.left).1 (w.5 ∙ w.2.ensures))
+    (λ w. rw (p.from_two w.0.left).1 (w.5 ∙ w.2.ensures))
     c.if1.branch
 
 loop-again : tie.Need-loop-preserved invariant-loop decreases-loop
@@ -114,12 +114,12 @@ loop-again c =
     let whole = merged a.first.now a.second.now in
     let n = l.loop.n + 12 in
     let e : c.if1.out ≡ take n whole ++ drop n a.out.now =
-    wrote c ∙ rw v.written (put_next whole a.out.now l.loop.n v.walked.in-merged) in
-    let k : length (take n whole) ≡ n = length-take-le n whole p.walked.in-merged in
+    wrote c ∙ rw v.written (put_next whole a.out.now l.loop.n v.walked.in_merged) in
+    let k : length (take n whole) ≡ n = length-take-le n whole p.walked.in_merged in
     record {
       walked = p.walked;
       written = e;
-      same_length = omega (arith, simp (length-append, length-drop) at (ap length e), p.walked.in-merged);
+      same_length = omega (arith, simp (length-append, length-drop) at (ap length e), p.walked.in_merged);
     }
 
 same_length : tie.Need-same-length invariant-loop decreases-loop
@@ -131,7 +131,7 @@ returns c =
     let l = c.before in
     let a = l.before.before.before.before.args in
     let v = l.loop.invariant in
-    let e : l.loop.n ≡ length (merged a.first.now a.second.now) = omega (arith, v.walked.in-merged) in
+    let e : l.loop.n ≡ length (merged a.first.now a.second.now) = omega (arith, v.walked.in_merged) in
     rw (v.written, e, take-length)
 
 pub write_spec : {M : Type 1} → statement M

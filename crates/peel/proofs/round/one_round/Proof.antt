@@ -4,7 +4,7 @@ use Prim.Native.Nat.{ℕ, ◌≤◌}
 use native.Mathlib.Numerals.{add-one}
 use lib.ListN.{length, take, replicate, length-replicate}
 use lib.Seq.{length-take-le}
-use Rattle.peel_rounds.proofs.Searching.{gathered-few, line-gathered, round-done}
+use Rattle.peel_rounds.proofs.Searching.{gathered_few, line_gathered, round_done}
 use borrow.Author.Rules.{rules}
 use Rattle.peel.proofs.round.one_round.Statement.{statement}
 use Rattle.peel.proofs.round.one_round.Tie as tie
@@ -20,7 +20,7 @@ few : (c : tie.After-gather) → c.gather.result ≤ length c.gather.new.1.1.0
 few c =
     let s = c.before.before.before.before.before.before in
     let a = s.args in
-    gathered-few a.store.now a.job a.i a.more a.labels.now a.table.now a.bounds.now s.requires
+    gathered_few a.store.now a.job a.i a.more a.labels.now a.table.now a.bounds.now s.requires
     (replicate {A = ℕ} 49152 0)
     c.gather.new.1.1.0 c.gather.result (length-replicate {A = ℕ} 49152 0) c.gather.ensures.0 c.gather.ensures.1
     c.gather.auto.1.1.0
@@ -47,7 +47,7 @@ remove-requires c κs =
     let q = c.before.before.before.before.before in
     let s = c.before.before.before.before.before.before.before.before.before.before.before.before.before.before.before.before in
     let a = s.args in
-    line-gathered a.store.now a.job a.i a.more a.labels.now a.table.now a.bounds.now s.pre
+    line_gathered a.store.now a.job a.i a.more a.labels.now a.table.now a.bounds.now s.pre
     (replicate {A = ℕ} 49152 0)
     g.gather.new.1.1.0 g.gather.result (length-replicate {A = ℕ} 49152 0) g.gather.ensures.0 g.gather.ensures.1
     q.search.result q.search.ensures.0
@@ -71,7 +71,7 @@ returns c =
     let d = c.before.before.before in
     let s = c.before.before.before.before.before.before.before.before.before.before.before.before.before.before.before.before.before.before.before.before in
     let a = s.args in
-    round-done a.store.now a.job a.i a.more a.labels.now a.table.now a.bounds.now s.pre
+    round_done a.store.now a.job a.i a.more a.labels.now a.table.now a.bounds.now s.pre
     (replicate {A = ℕ} 49152 0)
     g.gather.new.1.1.0 g.gather.result (length-replicate {A = ℕ} 49152 0) g.gather.ensures.0 g.gather.ensures.1
     q.search.result q.search.new.1.1.0 q.search.new.1.1.1.0 _ d.remove.result c.rounds-after.result

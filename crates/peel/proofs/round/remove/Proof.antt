@@ -8,8 +8,8 @@ use lib.Seq.{length-take-le}
 use Rattle.search.specs.declared.Kind.{Kind}
 use Rattle.search.specs.declared.Kind.TheVariants.{Solved}
 use Rattle.points_left.specs.Left.{relabelled, relabels}
-use Rattle.peel_rounds.specs.Going.{ifSolved, marksOf}
-use Rattle.peel_rounds.proofs.Searching.{marks-few, marks-front}
+use Rattle.peel_rounds.specs.Going.{if_solved, marks_of}
+use Rattle.peel_rounds.proofs.Searching.{marks_few, marks_front}
 use borrow.Author.Rules.{rules}
 use Rattle.peel.proofs.round.remove.Statement.{statement}
 use Rattle.peel.proofs.round.remove.Tie as tie
@@ -26,14 +26,14 @@ labels-requires c κs = search rules
 array-share-prefix-marks : tie.Need-array-share-prefix-marks
 array-share-prefix-marks c =
     let s = c.before.before.before.before.before.before.before.before in
-    let few = marks-few s.args.store.now s.args.m s.args.vector s.requires in
+    let few = marks_few s.args.store.now s.args.m s.args.vector s.requires in
     let whole : length c.before.before.labels.new.1.1.1.0 ≡ 4096 = c.before.before.labels.auto.1.1.1.0 in
     omega (arith, few, whole)
 
 slice-aggregate-mark : tie.Need-slice-aggregate-mark
 slice-aggregate-mark c =
     let s = c.before.before.before.before.before.before.before.before.before in
-    let few = marks-few s.args.store.now s.args.m s.args.vector s.requires in
+    let few = marks_few s.args.store.now s.args.m s.args.vector s.requires in
     let whole : length c.before.before.before.labels.new.1.1.1.0 ≡ 4096 = c.before.before.before.labels.auto.1.1.1.0 in
     sym (length-take-le (length s.args.store.now / 12) c.before.before.before.labels.new.1.1.1.0
     (omega (arith, few, whole)))
@@ -57,7 +57,7 @@ same_length c = search rules
 where-solved : (kind : Kind) (number removed : ℕ) (ls after marks told : List ℕ) → kind ≡ Solved → marks ≡ told →
     removed ≡ relabels ls marks →
     after ≡ relabelled number ls marks →
-    (removed ≡ ifSolved kind (relabels ls told) 0) × (after ≡ ifSolved kind (relabelled number ls told) ls)
+    (removed ≡ if_solved kind (relabels ls told) 0) × (after ≡ if_solved kind (relabelled number ls told) ls)
 where-solved kind number removed ls after marks told e w r l = rw e (r ∙ ap (relabels ls) w, l ∙ ap (relabelled number ls) w)
 
 returns : tie.Need-returns
@@ -66,9 +66,9 @@ returns c =
     let l = c.before.before.before.before.before.before.labels in
     let s = c.before.before.before.before.before.before.before.before.before.before.before.before in
     let a = s.args in
-    where-solved a.kind a.number w.result a.labels.now w.new.0 _ (marksOf a.store.now a.m a.vector)
+    where-solved a.kind a.number w.result a.labels.now w.new.0 _ (marks_of a.store.now a.m a.vector)
     c.before.before.before.before.before.before.before.before.enum_told.given.1
-    (marks-front a.store.now a.m a.vector s.requires _ l.new.1.1.1.0 (length-replicate {A = ℕ} 4096 0) l.ensures.1)
+    (marks_front a.store.now a.m a.vector s.requires _ l.new.1.1.1.0 (length-replicate {A = ℕ} 4096 0) l.ensures.1)
     w.ensures.0 w.ensures.1
 
 returns-2 : tie.Need-returns-2

@@ -3,10 +3,10 @@ use mathlib.Core.Path.{◌≡◌, refl, ap, ◌∙◌}
 use Prim.Native.Nat.{min}
 use Rattle.points.specs.Points.{points_of}
 use Rattle.residuals.specs.Cost.{cost, bound}
-use Rattle.residuals.proofs.Bounds.{bound-laws}
+use Rattle.residuals.proofs.Bounds.{bound_laws}
 use Rattle.list_rows.proofs.Rows.{Whole}
-use Rattle.branching.specs.Branching.{justAbove}
-use Rattle.branching.proofs.UpTo.{bound-found}
+use Rattle.branching.specs.Branching.{just_above}
+use Rattle.branching.proofs.UpTo.{bound_found}
 use Rattle.ranges.proofs.Beginning.{begun}
 use native.Mathlib.Omega.{arith}
 use borrow.Author.Rules.{rules}
@@ -51,11 +51,11 @@ returns c =
     let a = start.args in
     let C = cost a.m (points_of a.store.now) in
     let B = bound a.m (points_of a.store.now) in
-    let is_x : found.bound-in.result ≡ min (B a.domain) (justAbove a.ceiling) =
-    bound-found a.store.now a.m start.pre.0.checked a.domain _ _ (found.bound-in.ensures.1 start.pre.0.decoded)
+    let is_x : found.bound-in.result ≡ min (B a.domain) (just_above a.ceiling) =
+    bound_found a.store.now a.m start.pre.0.checked a.domain _ _ (found.bound-in.ensures.1 start.pre.0.decoded)
     ∙ ap (min (B a.domain)) above.just-above.ensures in
     rw p.push.ensures
-    (begun C B (bound-laws a.m (points_of a.store.now)) a.ceiling a.domain start.pre.2 (whole start) start.pre.3
+    (begun C B (bound_laws a.m (points_of a.store.now)) a.ceiling a.domain start.pre.2 (whole start) start.pre.3
     a.table.now start.pre.1 _ is_x test.test.result test.test.ensures _
     (c.costed.ensures ∙ rw n.no-hull.ensures) n.before.one-if.ensures refl n.before.one-if.ensures)
 

@@ -10,11 +10,11 @@ use Rattle.boxes.specs.declared.Box.{Box}
 use Rattle.boxes.specs.Laws.{Bounds}
 use Rattle.points.specs.Points.{points_of}
 use Rattle.residuals.specs.Cost.{cost, bound}
-use Rattle.residuals.proofs.Bounds.{bound-laws}
+use Rattle.residuals.proofs.Bounds.{bound_laws}
 use Rattle.ranges.specs.declared.step.State.{State}
-use Rattle.ranges.specs.Ranges.{rangesIn}
-use Rattle.ranges.proofs.Going.{Going, going-begins, going-finished, going-spent, going-steppable, going-full, going_on}
-use Rattle.ranges.proofs.Going.{going-counts}
+use Rattle.ranges.specs.Ranges.{ranges_in}
+use Rattle.ranges.proofs.Going.{Going, going_begins, going_finished, going_spent, going_steppable, going_full, going_on}
+use Rattle.ranges.proofs.Going.{going_counts}
 use native.Mathlib.Omega.{arith}
 use Rattle.ranges.proofs.run.steps.Statement.{statement}
 use Rattle.ranges.proofs.run.steps.Tie as tie
@@ -34,7 +34,7 @@ module _ (b : tie.Start invariant-loop decreases-loop) where
   B = bound b.args.job.model (points_of b.args.store.now)
 
   laws : Bounds C B
-  laws = bound-laws b.args.job.model (points_of b.args.store.now)
+  laws = bound_laws b.args.job.model (points_of b.args.store.now)
 
   budget-fits : b.args.job.budget ≤ 4294967295
   budget-fits = search (rules, b.good.1.1.0)
@@ -61,7 +61,7 @@ left c = eqb-false (s c.before.before).count (begun c.before.before).args.job.bu
 loop-holds : tie.Need-loop-init invariant-loop decreases-loop
 loop-holds c =
     let b = c.before.before in
-    going-begins (C b) (B b) b.args.ceiling b.args.job.budget b.args.job.domain b.args.table.now b.args.first
+    going_begins (C b) (B b) b.args.ceiling b.args.job.budget b.args.job.domain b.args.table.now b.args.first
     b.requires.1
 
 ended-requires : tie.Need-ended-requires invariant-loop decreases-loop
@@ -71,12 +71,12 @@ same_length : tie.Need-same-length invariant-loop decreases-loop
 same_length c = (turn c.before.before).loop.inv.within.long
 
 returns : tie.Need-returns invariant-loop decreases-loop
-unfolding rangesIn
+unfolding ranges_in
 returns c =
     let k = c.before.before in
     let b = begun k in
     rw c.ended.ensures
-    (going-finished (C b) (B b) b.args.ceiling b.args.job.budget b.args.job.domain b.args.table.now (laws b)
+    (going_finished (C b) (B b) b.args.ceiling b.args.job.budget b.args.job.domain b.args.table.now (laws b)
     b.pre.0.2 b.pre.0.3 b.pre.0.1 (s k) (turn k).loop.table (turn k).loop.invariant
     (eqb-true (s k).«open» 0 c.before.if1.true))
 
@@ -87,13 +87,13 @@ same-length-2 : tie.Need-same-length-2 invariant-loop decreases-loop
 same-length-2 c = (turn c.before.before.before).loop.inv.within.long
 
 returns-2 : tie.Need-returns-2 invariant-loop decreases-loop
-unfolding rangesIn
+unfolding ranges_in
 returns-2 c =
     let e = c.before.before in
     let k = e.before in
     let b = begun k in
     rw c.ended2.ensures
-    (going-spent (C b) (B b) b.args.ceiling b.args.job.budget b.args.job.domain b.args.table.now (laws b)
+    (going_spent (C b) (B b) b.args.ceiling b.args.job.budget b.args.job.domain b.args.table.now (laws b)
     b.pre.0.2 b.pre.0.3 b.pre.0.1 (s k) (turn k).loop.table (turn k).loop.invariant (some e)
     (eqb-true (s k).count b.args.job.budget c.before.if2.true))
 
@@ -104,7 +104,7 @@ step-requires c κs =
     let k = e.before in
     let b = begun k in (
       b.pre.0.0,
-      going-steppable (C b) (B b) b.args.ceiling b.args.job.budget b.args.job.domain b.args.table.now (laws b)
+      going_steppable (C b) (B b) b.args.ceiling b.args.job.budget b.args.job.domain b.args.table.now (laws b)
           b.pre.0.2 b.pre.0.3 b.pre.0.1 (s k) (turn k).loop.table (turn k).loop.invariant (some e) (left two)
           (budget-fits b),
     )
@@ -118,7 +118,7 @@ same-length-3 c =
     ap length (q.step.ensures.kept c.before.if3.true) ∙ (turn q.before.before.before.before).loop.inv.within.long
 
 returns-3 : tie.Need-returns-3 invariant-loop decreases-loop
-unfolding rangesIn
+unfolding ranges_in
 returns-3 c =
     let q = c.before.before.before in
     let two = q.before.before in
@@ -126,7 +126,7 @@ returns-3 c =
     let k = e.before in
     let b = begun k in
     rw c.ended3.ensures
-    (going-full (C b) (B b) b.args.ceiling b.args.job.budget b.args.job.domain b.args.table.now (laws b)
+    (going_full (C b) (B b) b.args.ceiling b.args.job.budget b.args.job.domain b.args.table.now (laws b)
     b.pre.0.2 b.pre.0.3 b.pre.0.1 (s k) (turn k).loop.table (turn k).loop.invariant (some e) (left two) q.step.result
     q.step.new.1.1.1.1.0 q.step.ensures c.before.if3.true)
 
@@ -137,7 +137,7 @@ loop-less c =
     let e = two.before in
     let k = e.before in
     let b = begun k in
-    going-counts (C b) (B b) b.args.ceiling b.args.job.budget b.args.job.domain b.args.table.now (laws b)
+    going_counts (C b) (B b) b.args.ceiling b.args.job.budget b.args.job.domain b.args.table.now (laws b)
     b.pre.0.2 b.pre.0.3 b.pre.0.1 (s k) (turn k).loop.table (turn k).loop.invariant (some e) (left two) q.step.result
     q.step.new.1.1.1.1.0 q.step.ensures c.before.if3.false
 

@@ -1,4 +1,4 @@
--- The halves of the last row, each tested by its bound up to one more than the ceiling: `full-step` and `made-step`.
+-- The halves of the last row, each tested by its bound up to one more than the ceiling: `full_step` and `made_step`.
 use mathlib.Core.Path.{◌≡◌, refl, sym, ap, ◌∙◌}
 use mathlib.Core.List.{List}
 use mathlib.Core.Bool.{Bool, true, false, cond}
@@ -7,17 +7,17 @@ use lib.IntN.{ℤ}
 use Rattle.codes.specs.declared.Check.TheVariants.{Pass}
 use Rattle.boxes.specs.declared.Box.{Box}
 use Rattle.boxes.specs.declared.Halves.{Halves}
-use Rattle.boxes.specs.Split.{left_half, right_half, cutAnswer, halvesUnlessRefused}
+use Rattle.boxes.specs.Split.{left_half, right_half, cut_answer, halves_unless_refused}
 use Rattle.boxes.specs.Laws.{Bounds}
-use Rattle.boxes.proofs.Splitting.{cut-passes}
+use Rattle.boxes.proofs.Splitting.{cut_passes}
 use Rattle.points.specs.Points.{points_of}
 use Rattle.residuals.specs.Cost.{cost, bound}
-use Rattle.residuals.proofs.Bounds.{bound-laws}
+use Rattle.residuals.proofs.Bounds.{bound_laws}
 use Rattle.branching.specs.declared.HalfBounds.{HalfBounds}
-use Rattle.branching.specs.Branching.{justAbove, boundsUpTo}
+use Rattle.branching.specs.Branching.{just_above, bounds_up_to}
 use Rattle.ranges.specs.declared.step.State.{State}
-use Rattle.ranges.specs.Inside.{lastIn, Steppable}
-use Rattle.ranges.proofs.Stepping.{full-step, made-step, number_is}
+use Rattle.ranges.specs.Inside.{last_in, Steppable}
+use Rattle.ranges.proofs.Stepping.{full_step, made_step, number_is}
 use native.Mathlib.Omega.{arith}
 use borrow.Author.Rules.{rules}
 use Rattle.ranges.proofs.step.step.Statement.{statement}
@@ -89,25 +89,25 @@ module _ (c : tie.After-test2) where
   steppable : Steppable B K t s
   steppable = start.pre.1
 
-  is_row : row.read-row.result ≡ lastIn t s
+  is_row : row.read-row.result ≡ last_in t s
   is_row = row.read-row.ensures
 
-  cuts : halved.cut.result ≡ halvesUnlessRefused Pass (lastIn t s)
-  cuts = halved.cut.ensures ∙ ap cutAnswer is_row ∙ cut-passes (lastIn t s) steppable.two
+  cuts : halved.cut.result ≡ halves_unless_refused Pass (last_in t s)
+  cuts = halved.cut.ensures ∙ ap cut_answer is_row ∙ cut_passes (last_in t s) steppable.two
 
-  is-left : halved.cut.result.left ≡ left_half (lastIn t s)
+  is-left : halved.cut.result.left ≡ left_half (last_in t s)
   is-left = ap (λ (h : Halves). h.left) cuts
 
-  is_right : halved.cut.result.right ≡ right_half (lastIn t s)
+  is_right : halved.cut.result.right ≡ right_half (last_in t s)
   is_right = ap (λ (h : Halves). h.right) cuts
 
-  bounds : found.half-bounds.result ≡ boundsUpTo B halved.cut.result.left halved.cut.result.right (justAbove K)
+  bounds : found.half-bounds.result ≡ bounds_up_to B halved.cut.result.left halved.cut.result.right (just_above K)
   bounds =
       found.half-bounds.ensures.1 start.pre.0 (is-left ∙ ap left_half (sym is_row)) (is_right ∙ ap right_half (sym is_row))
-      ∙ ap (boundsUpTo B halved.cut.result.left halved.cut.result.right) above.just-above.ensures
+      ∙ ap (bounds_up_to B halved.cut.result.left halved.cut.result.right) above.just-above.ensures
 
   laws : Bounds C B
-  laws = bound-laws start.args.m (points_of start.args.store.now)
+  laws = bound_laws start.args.m (points_of start.args.store.now)
 
 add-between : tie.Need-add-between
 add-between c =
@@ -151,7 +151,7 @@ returns c =
     let o = c.before in
     let q = o.before.before in
     let h = steppable q in
-    full-step (C q) (B q) (K q) (t q) (s q) h (laws q) _ _ (is-left q) (is_right q) _ _
+    full_step (C q) (B q) (K q) (t q) (s q) h (laws q) _ _ (is-left q) (is_right q) _ _
     (ap (λ (x : HalfBounds). x.left) (bounds q)) (ap (λ (x : HalfBounds). x.right) (bounds q))
     (first q).test.result q.test2.result (first q).test.ensures q.test2.ensures
     _ _ o.before.one-if.ensures o.one-if2.ensures (omega arith) _ refl
@@ -186,7 +186,7 @@ returns-2 c =
     let p1 = p2.before.before.before in
     let o = p1.before.before.before in
     let q = o.before.before in
-    made-step (C q) (B q) (K q) (t q) (s q) (steppable q) (laws q) _ _ (is-left q) (is_right q) _ _
+    made_step (C q) (B q) (K q) (t q) (s q) (steppable q) (laws q) _ _ (is-left q) (is_right q) _ _
     (ap (λ (x : HalfBounds). x.left) (bounds q)) (ap (λ (x : HalfBounds). x.right) (bounds q))
     (first q).test.result q.test2.result (first q).test.ensures q.test2.ensures
     _ _ o.before.one-if.ensures o.one-if2.ensures (omega arith) _ _ p1.push.ensures p2.push2.ensures

@@ -4,7 +4,7 @@ use Prim.Native.Nat.{◌<◌}
 use native.Mathlib.Omega.{arith}
 use Rattle.points.specs.Points.{points_of}
 use Rattle.residuals.specs.Cost.{cost, bound}
-use Rattle.branching.proofs.UpTo.{whole-cost}
+use Rattle.branching.proofs.UpTo.{whole_cost}
 use Rattle.list_rows.proofs.Rows.{Whole}
 use Rattle.search.proofs.Beginning.{begun}
 use borrow.Author.Rules.{rules}
@@ -36,7 +36,7 @@ module _ (c : tie.After-cost-in) where
       let a = first.args in
       let e = c.cost-in.ensures.1 in
       let ok = first.pre.0 in
-      whole-cost a.store.now a.job.model ok.checked a.job.start c.cost-in.result (e.0 ok.decoded)
+      whole_cost a.store.now a.job.model ok.checked a.job.start c.cost-in.result (e.0 ok.decoded)
       (e.1 ok.decoded)
 
   fits : c.cost-in.result < 18446744073709551615

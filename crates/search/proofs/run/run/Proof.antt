@@ -3,11 +3,11 @@ use mathlib.Core.Path.{◌≡◌}
 use lib.ListN.{length}
 use Rattle.points.specs.Points.{points_of}
 use Rattle.residuals.specs.Cost.{bound}
-use Rattle.list_rows.specs.Rows.{rowCount}
+use Rattle.list_rows.specs.Rows.{row_count}
 use Rattle.replacing.specs.Replacing.{Memory, memory}
 use Rattle.search.specs.Inside.{Ran}
 use Rattle.search.specs.Search.{searched}
-use Rattle.search.proofs.Going.{late-same}
+use Rattle.search.proofs.Going.{late_same}
 use Rattle.search.proofs.Ending.{ran}
 use borrow.Author.Rules.{rules}
 use Rattle.search.proofs.run.run.Statement.{statement}
@@ -51,26 +51,26 @@ module _ (c : tie.After-answer) where
 
   done :
       let a = start.args in
-      Ran (bound a.job.model (points_of a.store.now)) (searched a.store.now a.job (rowCount a.table.now)) a.table.now
+      Ran (bound a.job.model (points_of a.store.now)) (searched a.store.now a.job (row_count a.table.now)) a.table.now
       a.bounds.now c.answer.result settles.settle.last.0 settles.settle.last.1.0
   done =
       let a = start.args in
       let m = settles.settle in
-      ran (bound a.job.model (points_of a.store.now)) (searched a.store.now a.job (rowCount a.table.now)) first
+      ran (bound a.job.model (points_of a.store.now)) (searched a.store.now a.job (row_count a.table.now)) first
       went.steps.result last went.steps.ensures m.result m.last.0 m.last.1.0 m.last.1.1.0 m.last.1.1.1.0
       m.ensures c.answer.result c.answer.ensures
 
   same-late : (length last.late ≡ length start.args.late.now) × (length last.beside ≡ length start.args.beside.now)
   same-late =
       let a = start.args in
-      late-same (memory a.table.now a.bounds.now a.leasts.now a.places.now a.late.now a.beside.now) last
+      late_same (memory a.table.now a.bounds.now a.leasts.now a.places.now a.late.now a.beside.now) last
       (start.pre.6, start.pre.7) went.steps.ensures.late
 
 same_length : tie.Need-same-length
 same_length c = (done c).long
 
 same-length-2 : tie.Need-same-length-2
-same-length-2 c = (done c).long-entries
+same-length-2 c = (done c).long_entries
 
 same-length-3 : tie.Need-same-length-3
 same-length-3 c = (same-late c).0

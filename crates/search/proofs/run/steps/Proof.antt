@@ -10,14 +10,14 @@ use borrow.Author.Tests.{eqb-true, eqb-false}
 use Rattle.jobs.specs.declared.Job.{Job}
 use Rattle.points.specs.Points.{points_of}
 use Rattle.residuals.specs.Cost.{cost, bound}
-use Rattle.residuals.proofs.Bounds.{bound-laws}
-use Rattle.incumbent.specs.Incumbent.{solvedBy}
+use Rattle.residuals.proofs.Bounds.{bound_laws}
+use Rattle.incumbent.specs.Incumbent.{solved_by}
 use Rattle.list_running.specs.declared.Found.{Found}
 use Rattle.replacing.specs.Replacing.{Memory, memory, LateLong}
 use Rattle.search.specs.declared.step.State.{State}
 use Rattle.search.specs.Search.{searched}
-use Rattle.search.proofs.Going.{Run, Ready, Going, going-begins, low-le, going-solved, going-spent, going-steppable, going-full}
-use Rattle.search.proofs.Going.{going_on, going-counts, as_long, late-same}
+use Rattle.search.proofs.Going.{Run, Ready, Going, going_begins, low_le, going_solved, going_spent, going_steppable, going_full}
+use Rattle.search.proofs.Going.{going_on, going_counts, as_long, late_same}
 use borrow.Author.Rules.{rules}
 use Rattle.search.proofs.run.steps.Statement.{statement}
 use Rattle.search.proofs.run.steps.Tie as tie
@@ -54,14 +54,14 @@ module _ (s : tie.Start invariant-loop decreases-loop) where
   ready : Ready run
   ready =
       record {
-        laws = bound-laws s.args.job.model (points_of s.args.store.now);
+        laws = bound_laws s.args.job.model (points_of s.args.store.now);
         inside = s.pre.0.3;
         some = s.pre.0.1;
         enough = s.pre.0.2;
       }
 
-  late-long : LateLong first
-  late-long =
+  late_long : LateLong first
+  late_long =
       let a = s.args in
       (s.pre.1.stands a.table.now a.bounds.now a.leasts.now a.places.now s.pre.0.4 s.pre.0.5).late
 
@@ -93,15 +93,15 @@ module _ (c : tie.After-lowest invariant-loop decreases-loop) where
 
   still-late : (length turn.loop.late ≡ length begun.args.late.now)
       × (length turn.loop.beside ≡ length begun.args.beside.now)
-  still-late = late-same (first begun) held (late-long begun) turn.loop.inv.stands.late
+  still-late = late_same (first begun) held (late_long begun) turn.loop.inv.stands.late
 
 -- and where the search is not solved
 module _ (c : tie.Else1 invariant-loop decreases-loop) where
   abbrev lows : tie.After-lowest invariant-loop decreases-loop
   lows = c.before.before.before.before.before.before
 
-  unsolved : solvedBy (j lows).t (gap lows) (s lows).list.number ≡ false
-  unsolved = sym c.before.before.before.is-solved.ensures ∙ c.if1.false
+  unsolved : solved_by (j lows).t (gap lows) (s lows).list.number ≡ false
+  unsolved = sym c.before.before.before.is_solved_lem.ensures ∙ c.if1.false
 
 -- and where the count is another number than the budget
 left : (c : tie.Else2 invariant-loop decreases-loop) → (s (lows c.before)).count ≡ (j (lows c.before)).budget → ⊥
@@ -110,7 +110,7 @@ left c = eqb-false (s (lows c.before)).count (j (lows c.before)).budget c.if2.fa
 loop-holds : tie.Need-loop-init invariant-loop decreases-loop
 loop-holds c =
     let s = c.before.before.before.before in
-    going-begins (run s) s.args.first s.requires.0.4 s.requires.0.5 s.requires.1
+    going_begins (run s) s.args.first s.requires.0.4 s.requires.0.5 s.requires.1
 
 -- the memory after a step
 abbrev stepped : tie.After-step invariant-loop decreases-loop → Memory
@@ -125,7 +125,7 @@ sub-is-solved : tie.Need-overflow-sub-is-solved invariant-loop decreases-loop
 sub-is-solved c =
     let o = c.before.before in
     let l = turn o in
-    low-le (run (begun o)) (ready (begun o)) (s o) (held o) l.loop.inv (low o) o.lowest.ensures
+    low_le (run (begun o)) (ready (begun o)) (s o) (held o) l.loop.inv (low o) o.lowest.ensures
 
 is-solved-requires : tie.Need-is-solved-requires invariant-loop decreases-loop
 is-solved-requires c κs = search rules
@@ -137,7 +137,7 @@ same_length : tie.Need-same-length invariant-loop decreases-loop
 same_length c = (turn c.before.before.before.before.before.before.before).loop.inv.within.long
 
 same-length-2 : tie.Need-same-length-2 invariant-loop decreases-loop
-same-length-2 c = (turn c.before.before.before.before.before.before.before).loop.inv.within.long-entries
+same-length-2 c = (turn c.before.before.before.before.before.before.before).loop.inv.within.long_entries
 
 same-length-3 : tie.Need-same-length-3 invariant-loop decreases-loop
 same-length-3 c = (still-late c.before.before.before.before.before.before.before).0
@@ -150,8 +150,8 @@ unfolding searched
 returns c =
     let o = c.before.before.before.before.before.before.before in
     let l = turn o in
-    rw c.ended.ensures (going-solved (run (begun o)) (ready (begun o)) (s o) (held o) l.loop.inv (low o) o.lowest.ensures
-    (sym c.before.before.before.before.is-solved.ensures ∙ c.before.if1.true))
+    rw c.ended.ensures (going_solved (run (begun o)) (ready (begun o)) (s o) (held o) l.loop.inv (low o) o.lowest.ensures
+    (sym c.before.before.before.before.is_solved_lem.ensures ∙ c.before.if1.true))
 
 ended-requires-2 : tie.Need-ended-requires-2 invariant-loop decreases-loop
 ended-requires-2 c κs = search rules
@@ -160,7 +160,7 @@ same-length-5 : tie.Need-same-length-5 invariant-loop decreases-loop
 same-length-5 c = (turn (lows c.before.before)).loop.inv.within.long
 
 same-length-6 : tie.Need-same-length-6 invariant-loop decreases-loop
-same-length-6 c = (turn (lows c.before.before)).loop.inv.within.long-entries
+same-length-6 c = (turn (lows c.before.before)).loop.inv.within.long_entries
 
 same-length-7 : tie.Need-same-length-7 invariant-loop decreases-loop
 same-length-7 c = (still-late (lows c.before.before)).0
@@ -174,7 +174,7 @@ returns-2 c =
     let o = lows c.before.before in
     let l = turn o in
     rw c.ended2.ensures
-    (going-spent (run (begun o)) (ready (begun o)) (s o) (held o) l.loop.inv (low o) o.lowest.ensures (unsolved c.before.before)
+    (going_spent (run (begun o)) (ready (begun o)) (s o) (held o) l.loop.inv (low o) o.lowest.ensures (unsolved c.before.before)
     (eqb-true (s o).count (j o).budget c.before.if2.true))
 
 step-requires : tie.Need-step-requires invariant-loop decreases-loop
@@ -183,7 +183,7 @@ step-requires c κs =
     let o = lows two.before in
     let l = turn o in (
       (begun o).pre.0.0,
-      going-steppable (run (begun o)) (ready (begun o)) (s o) (held o) l.loop.inv (low o) o.lowest.ensures (unsolved two.before)
+      going_steppable (run (begun o)) (ready (begun o)) (s o) (held o) l.loop.inv (low o) o.lowest.ensures (unsolved two.before)
           (left two)
           (search (rules, (begun o).good.1.1.0)),
     )
@@ -203,7 +203,7 @@ same-length-10 c =
     let q = c.before.before.before.before.before.before.before.before in
     (as_long (held (lows q.before.before.before.before.before.before.before.before)) (stepped q)
     (q.step.ensures.kept c.before.if3.true)).1
-    ∙ (turn (lows q.before.before.before.before.before.before.before.before)).loop.inv.within.long-entries
+    ∙ (turn (lows q.before.before.before.before.before.before.before.before)).loop.inv.within.long_entries
 
 same-length-11 : tie.Need-same-length-11 invariant-loop decreases-loop
 same-length-11 c =
@@ -227,7 +227,7 @@ returns-3 c =
     let o = lows two.before in
     let l = turn o in
     rw c.ended3.ensures
-    (going-full (run (begun o)) (ready (begun o)) (s o) (held o) l.loop.inv (low o) o.lowest.ensures (unsolved two.before)
+    (going_full (run (begun o)) (ready (begun o)) (s o) (held o) l.loop.inv (low o) o.lowest.ensures (unsolved two.before)
     (left two) q.step.result
     (stepped q)
     q.step.ensures c.before.if3.true)
@@ -238,7 +238,7 @@ loop-less c =
     let two = q.before.before.before.before.before.before.before in
     let o = lows two.before in
     let l = turn o in
-    going-counts (run (begun o)) (ready (begun o)) (s o) (held o) l.loop.inv (low o) o.lowest.ensures (unsolved two.before)
+    going_counts (run (begun o)) (ready (begun o)) (s o) (held o) l.loop.inv (low o) o.lowest.ensures (unsolved two.before)
     (left two) q.step.result
     (stepped q)
     q.step.ensures c.before.if3.false

@@ -10,10 +10,10 @@ use Rattle.boxes.specs.declared.Box.{Box}
 use Rattle.points.specs.Points.{points_of}
 use Rattle.residuals.specs.Cost.{cost, bound}
 use Rattle.branching.specs.Branching.{Cut}
-use Rattle.list_rows.specs.Rows.{rowCount}
+use Rattle.list_rows.specs.Rows.{row_count}
 use Rattle.list_rows.proofs.Rows.{Whole}
-use Rattle.replacing.specs.Replacing.{Memory, memory, boxFound}
-use Rattle.search.proofs.Stepping.{step-full, step-done}
+use Rattle.replacing.specs.Replacing.{Memory, memory, box_found}
+use Rattle.search.proofs.Stepping.{step_full, step_done}
 use borrow.Author.Rules.{rules}
 use Rattle.search.proofs.step.step.Statement.{statement}
 use Rattle.search.proofs.step.step.Tie as tie
@@ -42,7 +42,7 @@ module _ (c : tie.After-cut-box) where
   held =
       let a = start.args in memory a.table.now a.bounds.now a.leasts.now a.places.now a.late.now a.beside.now
 
-  made : Cut C B (boxFound held start.args.found) start.args.s.mark c.cut-box.result
+  made : Cut C B (box_found held start.args.found) start.args.s.mark c.cut-box.result
   made =
       let found = c.before.before.box-found.ensures in
       let h = start.pre.1 in
@@ -52,15 +52,15 @@ module _ (c : tie.After-cut-box) where
       (λ e. let some = eqb-false s.count _ e in rw found (h.costed (omega arith))))
 
   -- there are fewer rows than 2^60
-  few : rowCount start.args.table.now < 1152921504606846976
+  few : row_count start.args.table.now < 1152921504606846976
   few = let long : length start.args.table.now < 18446744073709551616 = search (rules, start.good.1.1.1.0) in omega arith
 
   -- the halves have sixteen numbers each
-  left-whole : Whole c.cut-box.result.left.half
-  left-whole = let half = c.cut-box.type-inv.1.1.1.1.0 in record { low = search (rules, half); high = search (rules, half) }
+  left_whole : Whole c.cut-box.result.left.half
+  left_whole = let half = c.cut-box.type-inv.1.1.1.1.0 in record { low = search (rules, half); high = search (rules, half) }
 
-  right-whole : Whole c.cut-box.result.right.half
-  right-whole = let half = c.cut-box.type-inv.1.1.1.1.1.0 in record { low = search (rules, half); high = search (rules, half) }
+  right_whole : Whole c.cut-box.result.right.half
+  right_whole = let half = c.cut-box.type-inv.1.1.1.1.1.0 in record { low = search (rules, half); high = search (rules, half) }
 
 -- the memory after it
 abbrev after : tie.After-replace → Memory
@@ -87,7 +87,7 @@ returns c =
     let cut = c.before.before.before.before.before.before.before.before.before.before.before.before.before.before.before in
     let a = (start cut).args in
     rw c.no_room.ensures
-    (step-full (C cut) (B cut) (held cut) a.s a.found (start cut).requires.1 cut.cut-box.result (made cut) q.replace.result
+    (step_full (C cut) (B cut) (held cut) a.s a.found (start cut).requires.1 cut.cut-box.result (made cut) q.replace.result
     (after q)
     q.replace.ensures c.before.if1.true)
 
@@ -118,9 +118,9 @@ returns-2 c =
     let q = c.before.before.before.before.before.before.before.before.before.before.before in
     let cut = c.before.before.before.before.before.before.before.before.before.before.before.before.before.before.before.before.before.before in
     let a = (start cut).args in
-    step-done (C cut) (B cut) (held cut) a.s a.found (start cut).pre.1 cut.cut-box.result (made cut) q.replace.result
+    step_done (C cut) (B cut) (held cut) a.s a.found (start cut).pre.1 cut.cut-box.result (made cut) q.replace.result
     (after q)
-    q.replace.ensures c.before.before.before.before.if1.false (left-whole cut) (right-whole cut) (few cut) _ c.larger.result
+    q.replace.ensures c.before.before.before.before.if1.false (left_whole cut) (right_whole cut) (few cut) _ c.larger.result
     (omega arith) (omega (arith, c.larger.ensures))
 
 pub step_spec : {M : Type 1} → statement M
