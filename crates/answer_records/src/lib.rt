@@ -1,4 +1,5 @@
 // Answer records: from an answer to its 40 bytes and back, with check 9.
+#![tactic(auto)]
 ghost use Rattle.std.specs.Prelude.{◌≡◌, ◌≤◌, length};
 ghost use Rattle.integers.specs.Lists.{over};
 ghost use Rattle.codes.specs.declared.Check.TheVariants.{Refuse};
@@ -9,7 +10,7 @@ use codes::{Check, Refusal};
 use fields::{get_number, get_number32, get_vector, put_number, put_vector};
 
 // An answer as its record holds it. Any value of these types may arrive; check 9 refuses what is out of range.
-#[derive(Drop)]
+#[derive(Clone, Copy)]
 pub struct AnswerRecord {
     pub vector: [i16; 8],
     pub cost: u64,
@@ -22,7 +23,7 @@ pub struct AnswerRecord {
 }
 
 // What reading an answer record comes to: at a refusal the answer is all 0.
-#[derive(Drop)]
+#[derive(Clone, Copy)]
 pub struct AnswerRead {
     pub check: Check,
     pub answer: AnswerRecord,

@@ -1,5 +1,6 @@
 // Fit L and its neighbours: beacons taken into stores of any length, a line for each. A store of 0s and a beacon of 1s, so that the 1s
 // afterwards are what was stored.
+#![tactic(auto)]
 ghost use Rattle.std.specs.Prelude.{◌≡◌, ◌≤◌, length};
 
 use codes::Outcome;

@@ -1,4 +1,5 @@
 // One split budget for several boards: job after job, each with its store and its share of the splits, in one table.
+#![tactic(auto)]
 ghost use Rattle.std.specs.Prelude.{◌≡◌, length};
 ghost use Rattle.codes.specs.declared.Check.TheVariants.{Pass};
 ghost use Rattle.sharing.specs.Sharing.{SharedTable, SharedBounds};
@@ -9,7 +10,7 @@ use codes::{Check, Refusal};
 use search::Answer;
 
 // What a call comes to: each job's answer or refusal, and the budget that it got. Slots without a job are refused by 18.
-#[derive(Drop)]
+#[derive(Clone, Copy)]
 pub struct BoardAnswers {
     pub check: Check,
     pub answers: [Answer; 8],

@@ -52,6 +52,7 @@ comes_before (there v w {vs} {ws} e h) =
     heads v w vs ws T (λ k. tt) (λ k. absurd (omega arith)) (λ k. comes_before h)
 
 never_itself : (v : List ℤ) → Comes v v → ⊥
+never_itself [] h = elim h [ ]
 never_itself (v ∷ vs) (here x y h) = omega arith
 never_itself (v ∷ vs) (there x y e h) = never_itself vs h
 
@@ -63,6 +64,7 @@ earlier_along (there u v p h) (there y w q k) = there u w (omega arith) (earlier
 
 -- what comes after a vector of a box comes after its low vector
 low_earlier : {v ls hs w : List ℤ} → Between v ls hs → Comes v w → Comes ls w
+low_earlier {w = w} Rattle.boxes.specs.Boxes.empty h = elim h [ ]
 low_earlier (side {l = l} p q b) (here x w h) = here l w (omega (arith, le_parts p))
 low_earlier (side {l = l} p q b) (there x w e h) =
     ⊎_elim (λ k. there l w (omega (arith, le_parts p)) (low_earlier b h)) (λ k. here l w (omega arith))

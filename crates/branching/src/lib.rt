@@ -1,4 +1,5 @@
 // A box is cut: the bounds of its halves, the best vector after it, and which halves are kept.
+#![tactic(auto)]
 ghost use Rattle.std.specs.Prelude.{◌≡◌, false, ◌≤◌, ◌<◌};
 ghost use Rattle.boxes.specs.Boxes.{volume};
 ghost use Rattle.boxes.specs.Split.{left_half, right_half};
@@ -14,14 +15,14 @@ use incumbent::{Child, Mark, ahead, child_of};
 use jobs::Model;
 
 // A bound of each half of a box.
-#[derive(Drop)]
+#[derive(Clone, Copy)]
 pub struct HalfBounds {
     pub left: u64,
     pub right: u64,
 }
 
 // What a box that is cut leaves: the best vector after it, whether it is the one from before, and the tested halves.
-#[derive(Drop)]
+#[derive(Clone, Copy)]
 pub struct Branches {
     pub mark: Mark,
     pub stays: bool,

@@ -1,4 +1,5 @@
 // The program bus: reads a store and a driver's accesses from standard input and writes a byte for each read.
+#![tactic(auto)]
 ghost use Rattle.std.specs.Prelude.{◌≡◌, length};
 
 // One byte more than the longest input, so that a longer one shows: two bytes, 4,096 records and 16,384 accesses. The contracts give

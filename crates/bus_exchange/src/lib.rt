@@ -1,4 +1,5 @@
 // All of the program bus on slices: a store and a driver's accesses in, a byte for each read out.
+#![tactic(auto)]
 ghost use Rattle.std.specs.Prelude.{◌≡◌, [], ◌/◌, ◌≤◌, ◌<◌, length};
 ghost use Rattle.integers.specs.Lists.{over};
 ghost use Rattle.registers.specs.Registers.{job_in, written};
@@ -22,7 +23,7 @@ fn bounds_space() -> [u64; 2048]
 }
 
 // The registers, and how many replies there are.
-#[derive(Drop)]
+#[derive(Clone, Copy)]
 struct Progress {
     registers: Registers,
     count: usize,

@@ -1,4 +1,5 @@
 // The registers of the fitter on the data bus: 136 bytes, the board's own state.
+#![tactic(auto)]
 ghost use Rattle.std.specs.Prelude.{◌≡◌, ◌<◌, length, set};
 ghost use Rattle.codes.specs.Codes.{if_passed};
 ghost use Rattle.registers.specs.Runs.{refusal_number};
@@ -9,7 +10,7 @@ ghost use Rattle.bus_registers.specs.Written.{AnswerCertified, TableWritten, Bou
 use bus_runs::Shown;
 use codes::Check;
 
-#[derive(Drop)]
+#[derive(Clone, Copy)]
 pub struct Registers {
     pub bytes: [u8; 136],
 }

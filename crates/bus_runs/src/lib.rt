@@ -1,4 +1,5 @@
 // A run of the fitter on the data bus: the search of a job record, and what the registers show of it.
+#![tactic(auto)]
 ghost use Rattle.std.specs.Prelude.{◌≡◌, length};
 ghost use Rattle.job_records.specs.Jobs.{read_job};
 ghost use Rattle.bus_runs.specs.Lent.{shown_of, TableRun, BoundsRun, RunCertified};
@@ -9,7 +10,7 @@ use jobs::{Job, Model};
 use search::{Answer, Kind};
 
 // What the registers show of a run: its check, and its answer record, zeros after a refusal.
-#[derive(Drop)]
+#[derive(Clone, Copy)]
 pub struct Shown {
     pub check: Check,
     pub answer: [u8; 40],

@@ -1,4 +1,5 @@
 // The registers of the fitter on the data bus for C: the caller keeps their 136 bytes.
+#![tactic(auto)]
 ghost use Rattle.std.specs.Prelude.{◌≡◌, length};
 ghost use Rattle.c_boundary.specs.Boundary.{code_of, value_after, if_accepted};
 ghost use Rattle.registers.specs.Registers.{cleared};

@@ -1,4 +1,5 @@
 // Peeling for C.
+#![tactic(auto)]
 mod laying;
 
 ghost use Rattle.std.specs.Prelude.{◌≡◌, length};

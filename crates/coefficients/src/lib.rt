@@ -1,4 +1,5 @@
 // Single-precision lines: the coefficients w / 2^S of a line, written and read back, equal to their definition in every bit.
+#![tactic(auto)]
 ghost use Rattle.std.specs.Prelude.{◌≡◌, ◌≤◌, [], ◌∷◌, map, drop, to_bits};
 ghost use Rattle.std.specs.Float.{binary32};
 ghost use Rattle.integers.specs.Integers.{all_zero};
@@ -13,7 +14,7 @@ ghost use Rattle.coefficients.specs.Lines.{check_grid, not_read, coordinates_if,
 use codes::{Check, Refusal};
 
 // The four coefficients of a line, handed over together.
-#[derive(Drop)]
+#[derive(Clone, Copy)]
 pub struct Line {
     pub c1: f32,
     pub c2: f32,
@@ -22,21 +23,21 @@ pub struct Line {
 }
 
 // A line written. Refused: four +0.
-#[derive(Drop)]
+#[derive(Clone, Copy)]
 pub struct Written {
     pub check: Check,
     pub line: Line,
 }
 
 // A line read back. Refused: zeros.
-#[derive(Drop)]
+#[derive(Clone, Copy)]
 pub struct Coordinates {
     pub check: Check,
     pub w: [i16; 4],
 }
 
 // What one pattern stands for: the number that has it, and 0 if none has.
-#[derive(Drop)]
+#[derive(Clone, Copy)]
 struct Reading {
     found: bool,
     w: i16,

@@ -1,5 +1,6 @@
 // Text at a place of a buffer: words, numbers in decimal, and coordinates joined by commas. Each function keeps everything else and
 // answers the place behind what it wrote. Where there might be no room it writes nothing and answers the place that it was given.
+#![tactic(auto)]
 ghost use Rattle.std.specs.Prelude.{◌++◌, ◌≡◌, ◌+◌, ◌-◌, ◌≤◌, ◌<◌, length, take};
 ghost use Rattle.decimal.specs.Put.{Put, PutIfRoom};
 ghost use Rattle.decimal.specs.Text.{byte, decimal, joined};

@@ -1,4 +1,5 @@
 // The ends of a residual over a box, and its least size.
+#![tactic(auto)]
 ghost use Rattle.std.specs.Prelude.{◌≡◌, min};
 ghost use Rattle.std.specs.Float.{binary64};
 ghost use Rattle.std.specs.Float.Ieee.{add, sub, mul};
@@ -9,7 +10,7 @@ ghost use Rattle.eval_box_ends.specs.Ends.{least_end, opposite_end, nearest};
 use eval_whole::{larger, smaller};
 
 // emin and −emax, by which the least size takes no change of sign.
-#[derive(Drop)]
+#[derive(Clone, Copy)]
 pub struct Ends {
     pub least: f64,
     pub opposite: f64,

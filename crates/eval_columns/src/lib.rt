@@ -1,4 +1,5 @@
 // The records of a store decoded into columns of doubles, chunk by chunk.
+#![tactic(auto)]
 mod record;
 
 ghost use Rattle.std.specs.Prelude.{[], ◌≡◌, ℕ, ◌+◌, ◌*◌, ◌-◌, ◌/◌, ◌≤◌, ◌<◌, min, length, get_or};

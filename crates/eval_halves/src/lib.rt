@@ -1,5 +1,6 @@
 // The sums of losses over both halves of a box, which have every line in common but the one that is cut: the sizes of the others are found
 // once.
+#![tactic(auto)]
 ghost use Rattle.std.specs.Prelude.{◌≡◌, ℕ, ◌<◌};
 ghost use Rattle.residuals.specs.Inside.{box_of};
 ghost use Rattle.eval_lanes.specs.Lanes.{lane};
@@ -12,7 +13,7 @@ use jobs::Model;
 use numbers::least;
 
 // The sum of losses over each half.
-#[derive(Drop)]
+#[derive(Clone, Copy)]
 pub struct Sums {
     pub left: u64,
     pub right: u64,

@@ -1,4 +1,5 @@
 // Points side by side, in double precision.
+#![tactic(auto)]
 ghost use Rattle.std.specs.Prelude.{◌≡◌, length};
 
 // Eighty points in five columns: x1 to x4, and y times 2^S.

@@ -14,7 +14,7 @@ const NONE: u64 = 18446744073709551615;
 // What is known between counts. So many cuts may still be guessed, and `next` is planned; `count` is the last count, `under` the last above
 // q and `over` the last other: those at the ends of the interval. `guess` was found in tops, where the next is looked for if at most
 // `near` sizes lie between it and the upper end.
-#[derive(Drop)]
+#[derive(Clone, Copy)]
 pub struct Trail {
     pub left: u64,
     pub next: u64,

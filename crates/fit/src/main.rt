@@ -1,4 +1,5 @@
 // The program fit: reads a job record and a store from standard input and writes one line.
+#![tactic(auto)]
 ghost use Rattle.std.specs.Prelude.{◌≡◌, length};
 
 // One byte more than the longest input, so that a longer one shows. The contracts give lengths alone: the proof of `main` needs no more.

@@ -1,11 +1,12 @@
 // The best vector so far: the one test by which a vector becomes best and a box is kept, and the one by which a search is solved.
+#![tactic(auto)]
 ghost use Rattle.std.specs.Prelude.{◌≡◌};
 ghost use Rattle.incumbent.specs.Incumbent.{ahead_of, child_of, solved_by};
 
 use boxes::Box;
 
 // What a vector with its cost, or a box with its bound and its low vector, is held against: the best vector, its cost C, and t.
-#[derive(Drop)]
+#[derive(Clone, Copy)]
 pub struct Mark {
     pub t: u64,
     pub cost: u64,
@@ -13,7 +14,7 @@ pub struct Mark {
 }
 
 // A box that is to be open if it is kept, with its bound, which has to be exact only then.
-#[derive(Drop)]
+#[derive(Clone, Copy)]
 pub struct Child {
     pub half: Box,
     pub bound: u64,

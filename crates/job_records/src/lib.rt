@@ -1,4 +1,5 @@
 // Job records: from a job to its 72 bytes and back.
+#![tactic(auto)]
 ghost use Rattle.std.specs.Prelude.{◌≡◌, ◌≤◌, length};
 ghost use Rattle.integers.specs.Lists.{over};
 ghost use Rattle.codes.specs.declared.Check.TheVariants.{Refuse};
@@ -11,7 +12,7 @@ use fields::{get_number, get_number32, get_vector, put_number, put_vector};
 use jobs::{Job, Model};
 
 // What reading a job record comes to: at a refusal the job is all 0.
-#[derive(Drop)]
+#[derive(Clone, Copy)]
 pub struct JobRead {
     pub check: Check,
     pub job: Job,

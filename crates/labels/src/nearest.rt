@@ -53,7 +53,7 @@ fn residual(q: Point, v: &[i16; 8], b: usize, d: usize, power: u16) -> i64
 }
 
 // A line and its |e|, and how many of the lines fit.
-#[derive(Drop)]
+#[derive(Clone, Copy)]
 pub struct Nearest {
     pub line: usize,
     pub size: u64,

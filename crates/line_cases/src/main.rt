@@ -1,4 +1,5 @@
 // Lines of coefficients at the edges: a line of output for each, the four patterns or the number of the refusal.
+#![tactic(auto)]
 use codes::Check;
 
 fn refused(r: codes::Refusal) {

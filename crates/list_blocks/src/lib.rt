@@ -1,5 +1,6 @@
 // The first smallest of many numbers, of which some were taken out, by blocks of which each has its first smallest known: these are read,
 // and where one is taken out the numbers of its block.
+#![tactic(auto)]
 ghost use Rattle.std.specs.Prelude.{◌≡◌, ◌≤◌, ◌<◌, min, length};
 ghost use Rattle.list_blocks.specs.Blocks.{block_start, InBlock, LeastsFound, SpotOf, TakenAway};
 
@@ -16,7 +17,7 @@ pub type Places = [usize; 64];
 pub const GONE: u64 = 18446744073709551615;
 
 // The place of the first smallest number, its block, and the number.
-#[derive(Drop)]
+#[derive(Clone, Copy)]
 pub struct Spot {
     pub at: usize,
     pub block: usize,

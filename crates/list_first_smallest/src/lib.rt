@@ -1,10 +1,11 @@
 // The first smallest of the numbers of a list.
+#![tactic(auto)]
 ghost use Rattle.std.specs.Prelude.{◌≡◌, ◌≤◌, min, length};
 ghost use Rattle.list_first_smallest.specs.FirstSmallest.{FirstLeast, LowestOf, entry_at};
 
 // The place of the first smallest entry and the entry, L: of boxes, the first with the smallest bound; where the list is empty, L is the
 // cost.
-#[derive(Drop)]
+#[derive(Clone, Copy)]
 pub struct Lowest {
     pub at: usize,
     pub bound: u64,

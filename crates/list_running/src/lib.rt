@@ -1,6 +1,7 @@
 // The open boxes while a search runs. The first rows of the table hold boxes, but for those that were taken out since: a row is gone where
 // its entry says so. The newest boxes are late: they stand in a short table of their own, with a list of their bounds beside it. So a split
 // moves few rows; those of the table close up where the late ones are moved in.
+#![tactic(auto)]
 ghost use Rattle.std.specs.Prelude.{◌≡◌, ◌-◌};
 ghost use Rattle.list_running.specs.Listing.{FoundBy, SettledBy, TakenBy};
 
@@ -10,7 +11,7 @@ use list_first_smallest::{Lowest, lower_bound};
 
 // How many rows of the table are in use, gone ones too, and in how many blocks; how many boxes are late, and the first smallest of their
 // bounds; how many boxes are open in all.
-#[derive(Drop)]
+#[derive(Clone, Copy)]
 pub struct Listing {
     pub rows: usize,
     pub blocks: usize,
@@ -20,7 +21,7 @@ pub struct Listing {
 }
 
 // The first box with the smallest bound: whether it is a late one, its row, and L.
-#[derive(Drop)]
+#[derive(Clone, Copy)]
 pub struct Found {
     pub late: bool,
     pub spot: Spot,

@@ -1,4 +1,5 @@
 // Peeling: one line after another, each solved on the points that the lines before it left.
+#![tactic(auto)]
 mod round;
 
 ghost use Rattle.std.specs.Prelude.{◌≡◌, cond, ◌≤◌, eqb, length};
@@ -13,7 +14,7 @@ use jobs::Job;
 use search::{Answer, Kind};
 
 // "the answers of all rounds run are given": so many of the slots hold them, in order. At a refusal there are none.
-#[derive(Drop)]
+#[derive(Clone, Copy)]
 pub struct Peeled {
     pub check: Check,
     pub rounds: usize,

@@ -9,7 +9,7 @@ use jobs::{Job, Model};
 use search::{Answer, Kind};
 
 // What a round comes to: its answer, and how many rounds may follow.
-#[derive(Drop)]
+#[derive(Clone, Copy)]
 pub struct Ran {
     pub answer: Answer,
     pub more: usize,

@@ -1,4 +1,5 @@
 // The points left of a store, by their labels: a label of 0 says that no round has removed the point.
+#![tactic(auto)]
 ghost use Rattle.std.specs.Prelude.{cond, ◌&&◌, map, ◌≡◌, ◌+◌, ◌*◌, ◌/◌, ◌≤◌, ◌<◌, leb, eqb, length, take, drop};
 ghost use Rattle.integers.specs.Lists.{over};
 ghost use Rattle.points.specs.Points.{point_at, points_of};

@@ -1,4 +1,5 @@
 // The least and the greatest value of each coordinate among the vectors found, and the range of each coefficient that they tell.
+#![tactic(auto)]
 ghost use Rattle.std.specs.Prelude.{◌≡◌, ◌<◌, eqb};
 ghost use Rattle.integers.specs.Integers.{min_z, max_z};
 ghost use Rattle.boxes.specs.Boxes.{volume};
@@ -10,21 +11,21 @@ use boxes::Box;
 use coefficients::coefficient_of;
 
 // What was found so far: the box of the least and the greatest values, or nothing.
-#[derive(Drop)]
+#[derive(Clone, Copy)]
 pub struct Hull {
     pub found: bool,
     pub ends: Box,
 }
 
 // "The answer for a coefficient is one single-precision value, a low and a high value, or none."
-#[derive(Drop)]
+#[derive(Clone, Copy)]
 pub enum Range {
     One(f32),
     Between(f32, f32),
     Nothing,
 }
 
-#[derive(Drop)]
+#[derive(Clone, Copy)]
 pub struct Slot {
     pub range: Range,
 }

@@ -1,5 +1,6 @@
 // The range of every coefficient: the least and the greatest value that each used coordinate has among all vectors of a job's box that cost
 // at most a ceiling.
+#![tactic(auto)]
 mod run;
 mod step;
 
@@ -16,7 +17,7 @@ use jobs::{Job, Model};
 use range_hulls::{Hull, Range, Slot, slots};
 
 // What the search comes to. "The search is finished when no box is open"; "a search that isn't finished answers spent or full".
-#[derive(Drop)]
+#[derive(Clone, Copy)]
 pub enum Kind {
     Finished,
     Spent,
@@ -26,7 +27,7 @@ pub enum Kind {
 
 // The range of each coordinate, with the splits counted, the open boxes and the peak of their number. Only a finished search tells ranges;
 // at a refusal the numbers are 0.
-#[derive(Drop)]
+#[derive(Clone, Copy)]
 pub struct Answer {
     pub kind: Kind,
     pub slots: [Slot; 8],

@@ -18,7 +18,7 @@ use jobs::{Job, Model};
 use range_hulls::Hull;
 
 // What the steps come to.
-#[derive(Drop)]
+#[derive(Clone, Copy)]
 pub struct End {
     pub kind: Kind,
     pub state: State,

@@ -15,7 +15,7 @@ use numbers::larger;
 use range_hulls::{Hull, one_vector, widened};
 
 // The state of the search, but for the open boxes, which are the first rows of the table.
-#[derive(Drop)]
+#[derive(Clone, Copy)]
 pub struct State {
     pub hull: Hull,
     pub open: usize,
@@ -24,14 +24,14 @@ pub struct State {
 }
 
 // What a step comes to: the state after one more split, or the same state where there is no room for it.
-#[derive(Drop)]
+#[derive(Clone, Copy)]
 pub struct Stepped {
     pub full: bool,
     pub state: State,
 }
 
 // Of a box: it is one vector that costs at most the ceiling; or it has more vectors, and is kept.
-#[derive(Drop)]
+#[derive(Clone, Copy)]
 pub struct Tested {
     pub counts: bool,
     pub kept: bool,

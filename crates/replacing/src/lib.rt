@@ -1,4 +1,5 @@
 // What a step does to the list: the box that was found goes, the others that are kept stay, and its halves that are kept follow.
+#![tactic(auto)]
 ghost use Rattle.std.specs.Prelude.{◌≡◌, cond};
 ghost use Rattle.incumbent.specs.Incumbent.{ahead_of};
 ghost use Rattle.list_running.specs.Listing.{box_in, nearer};
@@ -16,7 +17,7 @@ use list_running::{Found, Listing};
 const LATE: usize = 126;
 
 // What a step leaves of the list, or that there is no room for it.
-#[derive(Drop)]
+#[derive(Clone, Copy)]
 pub struct Replaced {
     pub full: bool,
     pub list: Listing,

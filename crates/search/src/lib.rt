@@ -1,4 +1,5 @@
 // The search: branch and bound over the boxes of a lent table, with the certificate of its answer.
+#![tactic(auto)]
 mod run;
 mod step;
 
@@ -13,7 +14,7 @@ use list_blocks::{Leasts, Places};
 use search_checks::check_search;
 
 // What a search comes to.
-#[derive(Drop)]
+#[derive(Clone, Copy)]
 pub enum Kind {
     Solved,
     Spent,
@@ -22,7 +23,7 @@ pub enum Kind {
 }
 
 // "The answer carries vector, C, L, count, open boxes and peak." At a refusal they are all 0.
-#[derive(Drop)]
+#[derive(Clone, Copy)]
 pub struct Answer {
     pub kind: Kind,
     pub vector: [i16; 8],

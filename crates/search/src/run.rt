@@ -69,7 +69,7 @@ fn answer(kind: Kind, s: State, low: u64) -> Answer
 }
 
 // What the steps come to: the answer's kind, L, and the state.
-#[derive(Drop)]
+#[derive(Clone, Copy)]
 pub struct End {
     pub kind: Kind,
     pub low: u64,

@@ -16,7 +16,7 @@ use numbers::larger;
 use replacing::{box_found, replace};
 
 // The state of a search but for what stands in the tables.
-#[derive(Drop)]
+#[derive(Clone, Copy)]
 pub struct State {
     pub mark: Mark,
     pub list: Listing,
@@ -25,7 +25,7 @@ pub struct State {
 }
 
 // What a step comes to: the state after one more split, or the same state where there is no room for it.
-#[derive(Drop)]
+#[derive(Clone, Copy)]
 pub struct Stepped {
     pub full: bool,
     pub state: State,

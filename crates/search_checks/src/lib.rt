@@ -1,4 +1,5 @@
 // The checks of a search.
+#![tactic(auto)]
 ghost use Rattle.std.specs.Prelude.{◌≡◌, ◌/◌, leb};
 ghost use Rattle.codes.specs.Codes.{pass_if};
 ghost use Rattle.codes.specs.declared.Refusal.{Refusal};

@@ -1,1 +1,2 @@
 // One split budget for several jobs: definitions and laws, no code.
+#![tactic(auto)]

@@ -12,33 +12,33 @@ use borrow.Author.Rules.{rules}
 use Rattle.c_buffers.proofs.coordinates_of.Statement.{statement}
 use Rattle.c_buffers.proofs.coordinates_of.Tie as tie
 
-returns : tie.Need-returns
-returns c = rw (ne_eqb (length c.before.args.w.now) 4 c.if1.true) refl
+returns : tie.Need-returns-then-w-ne4
+returns c = rw (ne_eqb (length c.args.w.now) 4 c.if-w-ne4.true) refl
 
-shared-slice-copy-out-t5 : tie.Need-shared-slice-copy-out-t5
+shared-slice-copy-out-t5 : tie.Need-bounds-w-0
 shared-slice-copy-out-t5 c = search rules
 
-shared-slice-copy-out-t7 : tie.Need-shared-slice-copy-out-t7
+shared-slice-copy-out-t7 : tie.Need-bounds-w-1
 shared-slice-copy-out-t7 c = search rules
 
-shared-slice-copy-out-t9 : tie.Need-shared-slice-copy-out-t9
+shared-slice-copy-out-t9 : tie.Need-bounds-w-2
 shared-slice-copy-out-t9 c = search rules
 
-shared-slice-copy-out-t11 : tie.Need-shared-slice-copy-out-t11
+shared-slice-copy-out-t11 : tie.Need-bounds-w-3
 shared-slice-copy-out-t11 c = search rules
 
-returns-2 : tie.Need-returns-2
+returns-2 : tie.Need-returns
 returns-2 c =
     let test = c.before.before.before.before in
-    let w = test.before.args.w.now in
-    let f₃ : SFits w16 (get_or w 3 (pos 0)) = record { sfits = c.t11.given } in
-    let f₂ : SFits w16 (get_or w 2 (pos 0)) = record { sfits = c.before.t9.given } in
-    let f₁ : SFits w16 (get_or w 1 (pos 0)) = record { sfits = c.before.before.t7.given } in
-    let f₀ : SFits w16 (get_or w 0 (pos 0)) = record { sfits = c.before.before.before.t5.given } in
-    rw (eq-eqb (length w) 4 test.if1.false) (simp to_z-of_z (elements_rest (pos 0) w 0 4 (omega arith)))
+    let w = test.args.w.now in
+    let f₃ : SFits w16 (get_or w 3 (pos 0)) = record { sfits = c.result-4-1.given } in
+    let f₂ : SFits w16 (get_or w 2 (pos 0)) = record { sfits = c.result-3-1.given } in
+    let f₁ : SFits w16 (get_or w 1 (pos 0)) = record { sfits = c.result-2-1.given } in
+    let f₀ : SFits w16 (get_or w 0 (pos 0)) = record { sfits = c.result-1.given } in
+    rw (eq-eqb (length w) 4 test.if-w-ne4.false) (simp to_z-of_z (elements_rest (pos 0) w 0 4 (omega arith)))
 
-pub coordinates-of-spec : {M : Type 1} → statement M
-coordinates-of-spec =
+pub coordinates_of_spec : {M : Type 1} → statement M
+coordinates_of_spec =
     tie.close
     (tie.spec
     returns

@@ -10,63 +10,63 @@ use Rattle.c_buffers.proofs.Filling.{laid, laid_more, laid_whole}
 use Rattle.c_buffers.proofs.fill_bytes.Statement.{statement}
 use Rattle.c_buffers.proofs.fill_bytes.Tie as tie
 
-abbrev invariant-loop : tie.invariant-loop
+abbrev invariant-loop : tie.invariant-loop-k
 invariant-loop out₀ bytes k₀ out k = (k ≤ length bytes) × (out ≡ laid out₀ bytes k) × (length out ≡ length out₀) × (length out₀ ≡ length bytes)
 
-abbrev decreases-loop : tie.decreases-loop
+abbrev decreases-loop : tie.decreases-loop-k
 decreases-loop out₀ bytes k₀ out k = length bytes - k
 
-returns : tie.Need-returns invariant-loop decreases-loop
-returns c = rw (ne_eqb (length c.before.args.out.now) (length c.before.args.bytes.now) c.if1.true)
+returns : tie.Need-returns-then-out-bytes invariant-loop decreases-loop
+returns c = rw (ne_eqb (length c.args.out.now) (length c.args.bytes.now) c.if-out-bytes.true)
 
-loop-holds : tie.Need-loop-init invariant-loop decreases-loop
+loop-holds : tie.Need-loop-k-init invariant-loop decreases-loop
 loop-holds c =
-    let same : length c.before.args.out.now ≡ length c.before.args.bytes.now = search rules in
+    let same : length c.args.out.now ≡ length c.args.bytes.now = search rules in
     (omega arith, refl, refl, same)
 
-shared-slice-read-out : tie.Need-shared-slice-read-out invariant-loop decreases-loop
+shared-slice-read-out : tie.Need-bounds-bytes-k invariant-loop decreases-loop
 shared-slice-read-out c = search rules
 
-slice-write-out : tie.Need-slice-write-out invariant-loop decreases-loop
+slice-write-out : tie.Need-bounds-out-k invariant-loop decreases-loop
 slice-write-out c = search rules
 
-add-k : tie.Need-overflow-add-k invariant-loop decreases-loop
+add-k : tie.Need-overflow_add-k invariant-loop decreases-loop
 add-k c = search rules
 
-loop-less : tie.Need-loop-smaller invariant-loop decreases-loop
+loop-less : tie.Need-loop-k-smaller invariant-loop decreases-loop
 loop-less c = search rules
 
-loop-again : tie.Need-loop-preserved invariant-loop decreases-loop
+loop-again : tie.Need-loop-k-preserved invariant-loop decreases-loop
 loop-again c =
     let l = c.before.before in
-    let a = l.before.before.args in
-    let k = l.loop.k in
+    let a = l.args in
+    let k = l.loop-k.k in
     let inside : k < length a.out.now = omega arith in
     let more : k < length a.bytes.now = omega arith in (
       omega arith,
-      rw (l.loop.invariant.1, add-one) (laid_more a.out.now a.bytes.now k 0 inside more),
-      simp length-set l.loop.invariant.2,
-      l.loop.invariant.3,
+      rw (l.loop-k.invariant.1, add-one) (laid_more a.out.now a.bytes.now k 0 inside more),
+      simp length-set l.loop-k.invariant.2,
+      l.loop-k.invariant.3,
     )
 
-same_length : tie.Need-same-length invariant-loop decreases-loop
-same_length c = c.before.loop.invariant.2
+same_length : tie.Need-shape_of-out invariant-loop decreases-loop
+same_length c = c.loop-k.invariant.2
 
-returns-2 : tie.Need-returns-2 invariant-loop decreases-loop
+returns-2 : tie.Need-returns invariant-loop decreases-loop
 returns-2 c =
-    let a = c.before.before.before.args in
-    let same = c.before.loop.invariant.3 in
-    let e : c.before.loop.k ≡ length a.bytes.now = omega arith in
+    let a = c.args in
+    let same = c.loop-k.invariant.3 in
+    let e : c.loop-k.k ≡ length a.bytes.now = omega arith in
     rw (
-      c.before.loop.invariant.1,
+      c.loop-k.invariant.1,
       e,
       laid_whole a.out.now a.bytes.now same,
       eq-eqb (length a.out.now) (length a.bytes.now)
           same,
     )
 
-pub fill-bytes-spec : {M : Type 1} → statement M
-fill-bytes-spec =
+pub fill_bytes_spec : {M : Type 1} → statement M
+fill_bytes_spec =
     tie.close
     (tie.spec
     invariant-loop

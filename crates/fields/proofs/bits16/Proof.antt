@@ -28,34 +28,34 @@ negative : (w : ℤ) → SFits w16 w → lt_z w (pos 0) ≡ true → Negative w
 negative (pos n) f e = absurd (omega (arith, lt_z_true (pos n) (pos 0) e, pos_up n, pos_dn n, pos_up 0, pos_dn 0))
 negative (negsuc m) f e = record { size = m; is = refl; small = f.sfits }
 
-module _ (c : tie.Then1) where
-  below_zero : Negative c.before.args.w
-  below_zero = negative c.before.args.w c.before.ranges.w (rw (to_z-of_z c.before.ranges.w) at c.if1.true)
+module _ (c : tie.Then-w-lt0) where
+  below_zero : Negative c.args.w
+  below_zero = negative c.args.w c.ranges.w (rw (to_z-of_z c.ranges.w) at c.if-w-lt0.true)
 
-  flipped : negsuc 0 -ℤ to_z w16 (of_z w16 c.before.args.w) ≡ pos below_zero.size
-  flipped = ap (λ (z : ℤ). negsuc 0 -ℤ z) (to_z-of_z c.before.ranges.w ∙ below_zero.is) ∙ minus_one below_zero.size
+  flipped : negsuc 0 -ℤ to_z w16 (of_z w16 c.args.w) ≡ pos below_zero.size
+  flipped = ap (λ (z : ℤ). negsuc 0 -ℤ z) (to_z-of_z c.ranges.w ∙ below_zero.is) ∙ minus_one below_zero.size
 
-  fits : SFits w16 (negsuc 0 -ℤ to_z w16 (of_z w16 c.before.args.w))
+  fits : SFits w16 (negsuc 0 -ℤ to_z w16 (of_z w16 c.args.w))
   fits = rw flipped (record { sfits = below_zero.small })
 
-  back : to_z w16 (of_z w16 (negsuc 0 -ℤ to_z w16 (of_z w16 c.before.args.w))) ≡ pos below_zero.size
+  back : to_z w16 (of_z w16 (negsuc 0 -ℤ to_z w16 (of_z w16 c.args.w))) ≡ pos below_zero.size
   back = to_z-of_z fits ∙ flipped
 
-sub-result : tie.Need-overflow-sub-result
+sub-result : tie.Need-overflow_sub-result
 sub-result c = fits c
 
-cast-result : tie.Need-overflow-cast-result
+cast-result : tie.Need-overflow_cast-result
 cast-result c = rw (back c) (tt, record { fits = omega (arith, (below_zero c).small) })
 
-sub-result-2 : tie.Need-overflow-sub-result-2
+sub-result-2 : tie.Need-overflow_sub-result-then-w-lt0
 sub-result-2 c = rw (back c) (omega (arith, (below_zero c).small))
 
-cast-result-2 : tie.Need-overflow-cast-result-2
+cast-result-2 : tie.Need-overflow_cast-result-else-w-lt0
 cast-result-2 c =
-    let read = to_z-of_z c.before.ranges.w in
-    rw read (not_negative c.before.args.w (rw read at c.if1.false), Fits-nat_abs tt c.before.ranges.w)
+    let read = to_z-of_z c.ranges.w in
+    rw read (not_negative c.args.w (rw read at c.if-w-lt0.false), Fits-nat_abs tt c.ranges.w)
 
-returns : tie.Need-returns
+returns : tie.Need-returns-then-w-lt0
 returns c =
     let m = (below_zero c).size in
     let e : 65535 - m ≡ 2 ^ 16 - suc m = omega arith in
@@ -65,11 +65,11 @@ at-least-zero : (w : ℤ) → T (non_neg w) → nat_abs w ≡ of_z w16 w
 at-least-zero (pos n) h = refl
 at-least-zero (negsuc n) h = absurd h
 
-returns-2 : tie.Need-returns-2
+returns-2 : tie.Need-returns-else-w-lt0
 returns-2 c =
-    let read = to_z-of_z c.before.ranges.w in
-    rw read (at-least-zero c.before.args.w (not_negative c.before.args.w (rw read at c.if1.false)))
+    let read = to_z-of_z c.ranges.w in
+    rw read (at-least-zero c.args.w (not_negative c.args.w (rw read at c.if-w-lt0.false)))
 
-pub bits16-spec : {M : Type 1} → statement M
-bits16-spec =
+pub bits16_spec : {M : Type 1} → statement M
+bits16_spec =
     tie.close (tie.spec sub-result cast-result sub-result-2 cast-result-2 returns returns-2)

@@ -27,58 +27,58 @@ byte_more : (part : List ℕ) (j k x : ℕ) → j < length part
 unfolding big_endian
 byte_more part j k x h = set_before part (big_endian k x) j (x / 256 ^ k % 256) h
 
-abbrev invariant-loop : tie.invariant-loop
+abbrev invariant-loop : tie.invariant-loop-i
 invariant-loop part₀ x rest₀ i₀ part rest i =
     (i ≤ length part₀) × (part ≡ take i part₀ ++ big_endian (length part₀ - i) x) × (rest ≡ x / 256 ^ (length part₀ - i))
 
-abbrev decreases-loop : tie.decreases-loop
+abbrev decreases-loop : tie.decreases-loop-i
 decreases-loop part₀ x rest₀ i₀ part rest i = i
 
-loop-holds : tie.Need-loop-init invariant-loop decreases-loop
+loop-holds : tie.Need-loop-i-init invariant-loop decreases-loop
 unfolding big_endian
 loop-holds c = let part = c.args.part.now in
     let none : length part - length part ≡ 0 = omega arith in
     (omega arith, rw (none, take-length part) (sym (append-nil part)), rw none (sym (div-one c.args.x)))
 
-sub-i : tie.Need-overflow-sub-i invariant-loop decreases-loop
+sub-i : tie.Need-overflow_sub-i invariant-loop decreases-loop
 sub-i c = omega arith
 
-cast-part : tie.Need-overflow-cast-part invariant-loop decreases-loop
+cast-part : tie.Need-overflow_cast-part invariant-loop decreases-loop
 cast-part c = omega arith
 
-slice-write-part : tie.Need-slice-write-part invariant-loop decreases-loop
+slice-write-part : tie.Need-bounds-part-i invariant-loop decreases-loop
 slice-write-part c = let p = c.before in
-    let a = p.before.args in
-    omega (arith, kept-long a.part.now p.loop.i a.x p.loop.invariant.0, ap length p.loop.invariant.1)
+    let a = p.args in
+    omega (arith, kept-long a.part.now p.loop-i.i a.x p.loop-i.invariant.0, ap length p.loop-i.invariant.1)
 
-loop-less : tie.Need-loop-smaller invariant-loop decreases-loop
+loop-less : tie.Need-loop-i-smaller invariant-loop decreases-loop
 loop-less c = omega arith
 
-loop-again : tie.Need-loop-preserved invariant-loop decreases-loop
+loop-again : tie.Need-loop-i-preserved invariant-loop decreases-loop
 loop-again c = let p = c.before in
-    let a = p.before.args in
+    let a = p.args in
     let part = a.part.now in
-    let j = p.loop.i - 1 in
-    let k = length part - p.loop.i in
-    let next : p.loop.i ≡ suc j = omega arith in
+    let j = p.loop-i.i - 1 in
+    let k = length part - p.loop-i.i in
+    let next : p.loop-i.i ≡ suc j = omega arith in
     let more : length part - j ≡ suc k = omega arith in (
       omega arith,
-      rw (more, p.loop.invariant.2, p.loop.invariant.1)
+      rw (more, p.loop-i.invariant.2, p.loop-i.invariant.1)
           (ap (λ (n : ℕ). set (take n part ++ big_endian k a.x) j (a.x / 256 ^ k % 256)) next ∙ byte_more part j k a.x (omega arith)),
-      rw (more, p.loop.invariant.2, div-div-eq-div-mul, pow-suc),
+      rw (more, p.loop-i.invariant.2, div-div-eq-div-mul, pow-suc),
     )
 
-same_length : tie.Need-same-length invariant-loop decreases-loop
+same_length : tie.Need-shape_of-part invariant-loop decreases-loop
 same_length c = let p = c.before in
-    let a = p.before.args in
-    omega (arith, kept-long a.part.now p.loop.i a.x p.loop.invariant.0, ap length p.loop.invariant.1)
+    let a = p.args in
+    omega (arith, kept-long a.part.now p.loop-i.i a.x p.loop-i.invariant.0, ap length p.loop-i.invariant.1)
 
 returns : tie.Need-returns invariant-loop decreases-loop
-returns c = let none : c.before.loop.i ≡ 0 = omega arith in
-    c.before.loop.invariant.1 ∙ rw (none, sub-zero)
+returns c = let none : c.loop-i.i ≡ 0 = omega arith in
+    c.loop-i.invariant.1 ∙ rw (none, sub-zero)
 
-pub fill-number-spec : {M : Type 1} → statement M
-fill-number-spec =
+pub fill_number_spec : {M : Type 1} → statement M
+fill_number_spec =
     tie.close
     (tie.spec
     invariant-loop

@@ -13,16 +13,16 @@ module _ (at k len : ℕ) (h : k ≤ len) where
   same_test true e = lt-ltb (len - k) at (omega (arith, ltb-true len (at + k) e))
   same_test false e = le-ltb (len - k) at (omega (arith, ltb-false len (at + k) e))
 
-returns : tie.Need-returns
+returns : tie.Need-returns-then-len-k
 returns c =
-    let a = c.before.args in
+    let a = c.args in
     let h : a.len < a.at + a.k = omega arith in
     sym (lt-ltb a.len (a.at + a.k) h)
 
-returns-2 : tie.Need-returns-2
+returns-2 : tie.Need-returns
 returns-2 c =
-    let a = c.before.args in
+    let a = c.args in
     same_test a.at a.k a.len (omega arith) (ltb a.len (a.at + a.k)) refl
 
-pub outside-spec : {M : Type 1} → statement M
-outside-spec = tie.close (tie.spec returns returns-2)
+pub outside_spec : {M : Type 1} → statement M
+outside_spec = tie.close (tie.spec returns returns-2)

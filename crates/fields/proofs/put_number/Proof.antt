@@ -14,47 +14,47 @@ use Rattle.fields.proofs.put_number.Tie as tie
 outside-requires : tie.Need-outside-requires
 outside-requires c κs = search rules
 
-returns : tie.Need-returns
+returns : tie.Need-returns-then-outside
 unfolding with_field
 returns c =
-    let a = c.before.before.before.args in
-    simp (length_big_endian, not_inside a.bytes.now a.at a.k c.before.outside.ensures c.if1.true)
+    let a = c.args in
+    simp (length_big_endian, not_inside a.bytes.now a.at a.k c.outside.ensures c.if-outside.true)
 
-lies-there : (c : tie.Else1) → let a = c.before.before.before.args in a.at + a.k ≤ length a.bytes.now
+lies-there : (c : tie.Else-outside) → let a = c.args in a.at + a.k ≤ length a.bytes.now
 lies-there c =
-    let a = c.before.before.before.args in
-    lies_inside a.bytes.now a.at a.k c.before.outside.ensures c.if1.false
+    let a = c.args in
+    lies_inside a.bytes.now a.at a.k c.outside.ensures c.if-outside.false
 
-add-fill-number : tie.Need-overflow-add-fill-number
+add-fill-number : tie.Need-overflow_add-at
 add-fill-number c = omega (arith, lies-there c)
 
-sub-fill-number : tie.Need-overflow-sub-fill-number
+sub-fill-number : tie.Need-slice_bounds-fill_number-count
 sub-fill-number c = search rules
 
-part-fill-number-start : tie.Need-slice-bounds-fill-number-start
+part-fill-number-start : tie.Need-slice_bounds-fill_number-start
 part-fill-number-start c = search rules
 
-part-fill-number-end : tie.Need-slice-bounds-fill-number-end
+part-fill-number-end : tie.Need-slice_bounds-fill_number-end
 part-fill-number-end c = omega (arith, lies-there c)
 
-fill-number-requires : tie.Need-fill-number-requires
+fill-number-requires : tie.Need-fill_number-requires
 fill-number-requires c κs = search rules
 
-same_length : tie.Need-same-length
+same_length : tie.Need-shape_of-bytes
 same_length c = search rules
 
-returns-2 : tie.Need-returns-2
+returns-2 : tie.Need-returns
 unfolding with_field
 returns-2 c =
     let fill = c.before.before in
-    let a = fill.before.before.before.before.before.args in
+    let a = fill.args in
     let h = lies-there fill.before.before in
     let whole : (a.at + a.k) - a.at ≡ a.k = omega arith in
-    let filled = fill.fill-number.ensures ∙ ap (λ (n : ℕ). big_endian n a.x) (lent_size a.bytes.now a.at a.k h) in
+    let filled = fill.fill_number.ensures ∙ ap (λ (n : ℕ). big_endian n a.x) (lent_size a.bytes.now a.at a.k h) in
     rw (length_big_endian a.k a.x, le-leb _ _ h, filled, whole)
 
-pub put-number-spec : {M : Type 1} → statement M
-put-number-spec =
+pub put_number_spec : {M : Type 1} → statement M
+put_number_spec =
     tie.close
     (tie.spec
     outside-requires

@@ -43,87 +43,87 @@ coordinate-stored v p t b n k inside s =
           (big_endian 2 (of_z w16 (get_or v k (pos 0)))),
     ) s
 
-abbrev invariant-loop : tie.invariant-loop
+abbrev invariant-loop : tie.invariant-loop-k
 invariant-loop bytes₀ at v k₀ bytes k =
     (at + 16 ≤ length bytes₀)
     × (k ≤ 8)
     × Stored (take at bytes₀ ++ vector_bytes (take k v)) (at + 2 * k) bytes₀ bytes × (length bytes ≡ length bytes₀)
 
-abbrev decreases-loop : tie.decreases-loop
+abbrev decreases-loop : tie.decreases-loop-k
 decreases-loop bytes₀ at v k₀ bytes k = 8 - k
 
 outside-requires : tie.Need-outside-requires invariant-loop decreases-loop
 outside-requires c κs = search rules
 
-returns : tie.Need-returns invariant-loop decreases-loop
+returns : tie.Need-returns-then-outside invariant-loop decreases-loop
 unfolding with_field
 returns c =
-    let a = c.before.before.before.args in
-    rw (vector_long a.t3 (search rules), not_inside a.bytes.now a.at 16 c.before.outside.ensures c.if1.true)
+    let a = c.args in
+    rw (vector_long a.v (search rules), not_inside a.bytes.now a.at 16 c.outside.ensures c.if-outside.true)
 
-loop-holds : tie.Need-loop-init invariant-loop decreases-loop
+loop-holds : tie.Need-loop-k-init invariant-loop decreases-loop
 unfolding vector_bytes
 loop-holds c =
-    let a = c.before.before.before.args in
-    let h = lies_inside a.bytes.now a.at 16 c.before.outside.ensures c.if1.false in
+    let a = c.args in
+    let h = lies_inside a.bytes.now a.at 16 c.outside.ensures c.if-outside.false in
     (h, omega arith, begun a.bytes.now a.at (omega arith), refl)
 
-mul-put-number : tie.Need-overflow-mul-put-number invariant-loop decreases-loop
+mul-put-number : tie.Need-overflow_mul-k invariant-loop decreases-loop
 mul-put-number c = omega arith
 
-add-put-number : tie.Need-overflow-add-put-number invariant-loop decreases-loop
+add-put-number : tie.Need-overflow_add-at invariant-loop decreases-loop
 add-put-number c = omega arith
 
-mul-bits16 : tie.Need-overflow-mul-bits16 invariant-loop decreases-loop
+mul-bits16 : tie.Need-offset_bounds-v-k invariant-loop decreases-loop
 mul-bits16 c = omega arith
 
-array-copy-out-bits16 : tie.Need-array-copy-out-bits16 invariant-loop decreases-loop
+array-copy-out-bits16 : tie.Need-bounds-v-k invariant-loop decreases-loop
 array-copy-out-bits16 c = omega arith
 
 bits16-requires : tie.Need-bits16-requires invariant-loop decreases-loop
 bits16-requires c κs = search rules
 
-put-number-requires : tie.Need-put-number-requires invariant-loop decreases-loop
+put-number-requires : tie.Need-put_number-requires invariant-loop decreases-loop
 put-number-requires c κs = search rules
 
-add-k : tie.Need-overflow-add-k invariant-loop decreases-loop
+add-k : tie.Need-overflow_add-k invariant-loop decreases-loop
 add-k c = omega arith
 
-loop-less : tie.Need-loop-smaller invariant-loop decreases-loop
+loop-less : tie.Need-loop-k-smaller invariant-loop decreases-loop
 loop-less c = omega arith
 
-loop-again : tie.Need-loop-preserved invariant-loop decreases-loop
+loop-again : tie.Need-loop-k-preserved invariant-loop decreases-loop
 loop-again c =
     let put = c.before.before in
     let p = put.before.before.before.before.before in
-    let k = p.loop.k in
-    let a = p.before.before.before.before.args in
-    let v = a.t3 in
+    let k = p.loop-k.k in
+    let a = p.args in
+    let v = a.v in
     let eight : length v ≡ 8 = search rules in
-    let read = to_z-of_z {w = w16} {z = get_or v k (pos 0)} (record { sfits = put.before.before.bits16-arg.given }) in
-    let bits = put.before.bits16.ensures ∙ ap (of_z w16) read in
-    let stored = number_then p.loop.invariant.2 2 (of_z w16 (get_or v k (pos 0))) (omega arith) (rw bits at put.put-number.ensures) in
+    let read = to_z-of_z {w = w16} {z = get_or v k (pos 0)} (record { sfits = put.bits16-arg-1.given }) in
+    let bits = put.bits16.ensures ∙ ap (of_z w16) read in
+    let stored = number_then p.loop-k.invariant.2 2 (of_z w16 (get_or v k (pos 0))) (omega arith) (rw bits at put.put_number.ensures) in
     let t = a.bytes.now in
-    let more = coordinate-stored v (take a.at t) t put.put-number.new.0 a.at k (omega arith) stored in
+    let more = coordinate-stored v (take a.at t) t put.put_number.new.0 a.at k (omega arith) stored in
     (omega arith, omega arith, more, omega arith)
 
-same_length : tie.Need-same-length invariant-loop decreases-loop
+same_length : tie.Need-shape_of-bytes invariant-loop decreases-loop
 same_length c = omega arith
 
-returns-2 : tie.Need-returns-2 invariant-loop decreases-loop
+returns-2 : tie.Need-returns invariant-loop decreases-loop
 unfolding with_field
 returns-2 c =
     let p = c.before in
-    let a = p.before.before.before.before.args in
+    let a = p.args in
     let t = a.bytes.now in
-    let full : p.loop.k ≡ 8 = omega arith in
-    let eight : length a.t3 ≡ 8 = search rules in
-    let placed = rw (full, take_all 8 a.t3 (omega arith)) at p.loop.invariant.2.is in
-    let joined = append_assoc (take a.at t) (vector_bytes a.t3) (drop (a.at + 16) t) in
-    rw (vector_long a.t3 eight, le-leb _ _ p.loop.invariant.0) (placed ∙ rw (drop-drop 16 a.at t) joined)
+    let full : p.loop-k.k ≡ 8 = omega arith in
+    let eight : length a.v ≡ 8 = search rules in
+    let placed = rw (full, take_all 8 a.v (omega arith)) at p.loop-k.invariant.2.is in
+    let joined = append_assoc (take a.at t) (vector_bytes a.v) (drop (a.at + 16) t) in
+    rw (vector_long a.v eight, le-leb _ _ p.loop-k.invariant.0) (placed ∙ rw (drop-drop 16 a.at t) joined)
 
-pub put-vector-spec : {M : Type 1} → statement M
-put-vector-spec =
+pub put_vector_spec : {M : Type 1} → statement M
+put_vector_spec =
     tie.close
     (tie.spec
     invariant-loop

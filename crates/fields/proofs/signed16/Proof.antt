@@ -28,40 +28,32 @@ module _ (n : ℕ) (h : 32768 ≤ n) (k : n < 65536) where
       let m : 65535 - n < 2 ^ 15 = omega arith in
       ap (λ (z : ℤ). negsuc 0 -ℤ z) (to_z_pos w16 m) ∙ minus_one (65535 - n)
 
-unsigned16-requires : tie.Need-unsigned16-requires
+unsigned16-requires : tie.Need-unsigned16-bits-requires
 unsigned16-requires c κs = search rules
 
-cast-result : tie.Need-overflow-cast-result
+cast-result : tie.Need-overflow_cast-result
 cast-result c = search rules
 
-sub-result : tie.Need-overflow-sub-result
+sub-result : tie.Need-overflow_sub-result
 sub-result c = search rules
 
-cast-result-2 : tie.Need-overflow-cast-result-2
+cast-result-2 : tie.Need-overflow_cast-result-else-bits-lt32768
 cast-result-2 c = search rules
 
-sub-result-2 : tie.Need-overflow-sub-result-2
-sub-result-2 c = rw (computed c.before.unsigned16.result c.if1.false (search rules)) (record { sfits = omega arith })
+sub-result-2 : tie.Need-overflow_sub-result-else-bits-lt32768
+sub-result-2 c = rw (computed c.unsigned16-bits.result c.if-bits-lt32768.false (search rules)) (record { sfits = omega arith })
 
-returns : tie.Need-returns
-returns c = ap (to_z w16) c.before.unsigned16.ensures
+returns : tie.Need-returns-then-bits-lt32768
+returns c = ap (to_z w16) c.unsigned16-bits.ensures
 
-returns-2 : tie.Need-returns-2
+returns-2 : tie.Need-returns-else-bits-lt32768
 returns-2 c =
-    let n = c.before.unsigned16 in
     to_z-of_z (sub-result-2 c)
-    ∙ computed n.result c.if1.false (search rules)
-    ∙ sym (negative n.result c.if1.false (search rules))
-    ∙ ap (to_z w16) n.ensures
+    ∙ computed c.unsigned16-bits.result c.if-bits-lt32768.false (search rules)
+    ∙ sym (negative c.unsigned16-bits.result c.if-bits-lt32768.false (search rules))
+    ∙ ap (to_z w16) c.unsigned16-bits.ensures
 
-pub signed16-spec : {M : Type 1} → statement M
-signed16-spec =
+pub signed16_spec : {M : Type 1} → statement M
+signed16_spec =
     tie.close
-    (tie.spec
-    unsigned16-requires
-    cast-result
-    sub-result
-    cast-result-2
-    sub-result-2
-    returns
-    returns-2)
+    (tie.spec unsigned16-requires cast-result sub-result cast-result-2 sub-result-2 returns returns-2)

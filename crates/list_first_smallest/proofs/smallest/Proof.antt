@@ -8,49 +8,59 @@ use Rattle.list_first_smallest.proofs.Least.{least_start, least_new, least_kept}
 use Rattle.list_first_smallest.proofs.smallest.Statement.{statement}
 use Rattle.list_first_smallest.proofs.smallest.Tie as tie
 
-abbrev invariant-loop : tie.invariant-loop
+abbrev invariant-loop : tie.invariant-loop-i
 invariant-loop bounds n low₀ at₀ i₀ low at i = (i ≤ n) × FirstLeast bounds i at × (low ≡ entry_at bounds at)
 
-abbrev decreases-loop : tie.decreases-loop
+abbrev decreases-loop : tie.decreases-loop-i
 decreases-loop bounds n low₀ at₀ i₀ low at i = n - i
 
-shared-slice-read-low : tie.Need-shared-slice-read-low invariant-loop decreases-loop
+shared-slice-read-low : tie.Need-bounds-bounds-0 invariant-loop decreases-loop
 shared-slice-read-low c = omega arith
 
-loop-holds : tie.Need-loop-init invariant-loop decreases-loop
-loop-holds c = (omega arith, least_start c.before.args.bounds.now, refl)
+loop-holds : tie.Need-loop-i-init invariant-loop decreases-loop
+loop-holds c = (omega arith, least_start c.args.bounds.now, refl)
 
-mul-x : tie.Need-overflow-mul-x invariant-loop decreases-loop
+mul-x : tie.Need-offset_bounds-bounds-i invariant-loop decreases-loop
 mul-x c = omega arith
 
-shared-slice-read-x : tie.Need-shared-slice-read-x invariant-loop decreases-loop
+shared-slice-read-x : tie.Need-bounds-bounds-i invariant-loop decreases-loop
 shared-slice-read-x c = omega arith
 
-add-i : tie.Need-overflow-add-i invariant-loop decreases-loop
+add-i : tie.Need-overflow_add-i invariant-loop decreases-loop
 add-i c = omega arith
 
-loop-less : tie.Need-loop-smaller invariant-loop decreases-loop
+loop-less : tie.Need-loop-i-smaller invariant-loop decreases-loop
 loop-less c = omega arith
 
-loop-again : tie.Need-loop-preserved invariant-loop decreases-loop
+loop-again : tie.Need-loop-i-preserved invariant-loop decreases-loop
 loop-again c =
     let l = c.before.before.before in
-    let d = l.before.before.args.bounds.now in
-    let i = l.loop.i in
-    let at = l.loop.at in
-    let inv = l.loop.invariant in
+    let d = l.args.bounds.now in
+    let i = l.loop-i.i in
+    let at = l.loop-i.at in
+    let inv = l.loop-i.invariant in
     ⊎_elim
     (λ w. rw (w.1, w.2) (omega arith, least_new d i at inv.1 (omega (arith, w.0.taken)), refl))
     (λ w. rw (w.1, w.2) (omega arith, least_kept d i at inv.1 (omega (arith, w.0.left)), inv.2))
-    c.if1.branch
+    c.if-x-low.branch
 
 returns : tie.Need-returns invariant-loop decreases-loop
 returns c =
     let l = c.before in
-    let all : l.loop.i ≡ l.before.before.args.n = omega arith in
-    (rw all at l.loop.invariant.1, l.loop.invariant.2)
+    let all : l.loop-i.i ≡ l.args.n = omega arith in
+    (rw all at l.loop-i.invariant.1, l.loop-i.invariant.2)
 
-pub smallest-spec : {M : Type 1} → statement M
-smallest-spec =
+pub smallest_spec : {M : Type 1} → statement M
+smallest_spec =
     tie.close
-    (tie.spec invariant-loop decreases-loop shared-slice-read-low loop-holds mul-x shared-slice-read-x add-i loop-less loop-again returns)
+    (tie.spec
+    invariant-loop
+    decreases-loop
+    shared-slice-read-low
+    loop-holds
+    mul-x
+    shared-slice-read-x
+    add-i
+    loop-less
+    loop-again
+    returns)

@@ -11,45 +11,45 @@ use Rattle.loss.proofs.Laws.{min_square}
 use Rattle.loss.proofs.picked.Statement.{statement}
 use Rattle.loss.proofs.picked.Tie as tie
 
-cast-limit : tie.Need-overflow-cast-limit
+cast-limit : tie.Need-overflow_cast-limit
 cast-limit c = search rules
 
-least-requires : tie.Need-least-requires
+least-requires : tie.Need-least-cut-requires
 least-requires c κs = search rules
 
-mul-square : tie.Need-overflow-mul-square
+mul-square : tie.Need-overflow_mul-square
 mul-square c =
-    let h : c.before.least.result ≤ 4294967295 = omega arith in
+    let h : c.least-cut.result ≤ 4294967295 = omega arith in
     record { fits = omega (arith, mul-le-mul h h) }
 
-returns : tie.Need-returns
+returns : tie.Need-returns-then-limit-a
 unfolding loss_of
 returns c =
-    let h : c.before.before.before.args.eps < c.before.before.before.args.a = c.if1.true in
-    simp (c.before.match.keys1, lt-ltb _ _ h)
+    let h : c.args.eps < c.args.a = c.if-limit-a.true in
+    simp (c.in-0.is, lt-ltb _ _ h)
 
-returns-2 : tie.Need-returns-2
+returns-2 : tie.Need-returns-else-limit-a
 unfolding loss_of
 returns-2 c =
-    let h : c.before.before.before.args.a ≤ c.before.before.before.args.eps = c.if1.false in
-    simp (c.before.match.keys1, le-ltb _ _ h)
+    let h : c.args.a ≤ c.args.eps = c.if-limit-a.false in
+    simp (c.in-0.is, le-ltb _ _ h)
 
-returns-3 : tie.Need-returns-3
+returns-3 : tie.Need-returns-in-1
 unfolding loss_of
-returns-3 c = simp c.match.keys2 (ap Value c.before.least.ensures)
+returns-3 c = simp c.in-1.is (ap Value c.least-cut.ensures)
 
-returns-4 : tie.Need-returns-4
+returns-4 : tie.Need-returns-in-2
 unfolding loss_of
 returns-4 c =
     let s = c.before.before in
-    let m = c.before.least.ensures in
-    simp c.match.keys3 (ap Value ((λ i. m i * m i) ∙ min_square s.args.a s.args.eps))
+    let m = c.least-cut.ensures in
+    simp c.in-2.is (ap Value ((λ i. m i * m i) ∙ min_square s.args.a s.args.eps))
 
-returns-5 : tie.Need-returns-5
+returns-5 : tie.Need-returns-in-3-to-255
 returns-5 c =
-    let h : 2 < c.before.before.args.p = omega (arith, c.match.rest.1, c.match.rest.0.1, c.match.rest.0.0.1) in
+    let h : 2 < c.args.p = omega (arith, c.in-3-to-255.in-3-to-255-own.rest.1, c.in-3-to-255.in-3-to-255-own.rest.0.1, c.in-3-to-255.in-3-to-255-own.rest.0.0.1) in
     simp (lt-leb _ _ h)
 
-pub picked-spec : {M : Type 1} → statement M
-picked-spec =
+pub picked_spec : {M : Type 1} → statement M
+picked_spec =
     tie.close (tie.spec cast-limit least-requires mul-square returns returns-2 returns-3 returns-4 returns-5)

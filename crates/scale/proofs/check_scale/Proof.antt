@@ -5,13 +5,13 @@ use Rattle.scale.specs.Scale.{check_scale}
 use Rattle.scale.proofs.check_scale.Statement.{statement}
 use Rattle.scale.proofs.check_scale.Tie as tie
 
-returns : tie.Need-returns
+returns : tie.Need-returns-then-s-le15
 unfolding check_scale
-returns c = simp (le-leb c.before.args.s 15 (omega arith))
+returns c = simp (le-leb c.args.s 15 (omega arith))
 
-returns-2 : tie.Need-returns-2
+returns-2 : tie.Need-returns-else-s-le15
 unfolding check_scale
-returns-2 c = simp (lt-leb c.before.args.s 15 (omega arith))
+returns-2 c = simp (lt-leb c.args.s 15 (omega arith))
 
-pub check-scale-spec : {M : Type 1} → statement M
-check-scale-spec = tie.close (tie.spec returns returns-2)
+pub check_scale_spec : {M : Type 1} → statement M
+check_scale_spec = tie.close (tie.spec returns returns-2)
