@@ -78,12 +78,13 @@ loop-less : tie.Need-loop-k-smaller invariant-loop decreases-loop
 loop-less c = omega arith
 
 loop-again : tie.Need-loop-k-preserved invariant-loop decreases-loop
-loop-again c = let p = c.before.before.before.before in
+loop-again c =
+    let p = c.before.before.before.before in
     let k = p.loop-k.k in
     let a = p.args in
     let vector = vector_at a.bytes.now a.at in
     let read : to_z w16 (of_z w16 c.signed16.result) ≡ get_or vector k (pos 0) =
-    to_z-of_z (record { sfits = c.signed16.type-inv }) ∙ c.signed16.ensures ∙ sym (coordinate_of_lem a.bytes.now a.at k (omega arith) (omega arith))
+    to_z-of_z {w = w16} (record { sfits = c.signed16.type_inv }) ∙ c.signed16.ensures ∙ sym (coordinate_of_lem a.bytes.now a.at k (omega arith) (omega arith))
     in
     let more = element_more zeros vector k (pos 0) (omega arith) (omega (arith, vector_eight a.bytes.now a.at (omega arith))) in
     (omega arith, rw (read, p.loop-k.invariant.1, add-one) more, omega arith, simp length-set p.loop-k.invariant.3, refl)

@@ -104,7 +104,7 @@ loop-again c =
     let bits = put.bits16.ensures ∙ ap (of_z w16) read in
     let stored = number_then p.loop-k.invariant.2 2 (of_z w16 (get_or v k (pos 0))) (omega arith) (rw bits at put.put_number.ensures) in
     let t = a.bytes.now in
-    let more = coordinate-stored v (take a.at t) t put.put_number.new.0 a.at k (omega arith) stored in
+    let more = coordinate-stored v (take a.at t) t put.put_number.new.bytes a.at k (omega arith) stored in
     (omega arith, omega arith, more, omega arith)
 
 same_length : tie.Need-shape_of-bytes invariant-loop decreases-loop

@@ -6,6 +6,7 @@ use native.Mathlib.Omega.{arith}
 use Rattle.list_first_smallest.specs.FirstSmallest.{entry_at, FirstLeast}
 use Rattle.list_first_smallest.proofs.Least.{least_start, least_new, least_kept}
 use Rattle.list_first_smallest.proofs.smallest.Statement.{statement}
+use Rattle.list_first_smallest.proofs.smallest.Lts.{then-x-low, else-x-low}
 use Rattle.list_first_smallest.proofs.smallest.Tie as tie
 
 abbrev invariant-loop : tie.invariant-loop-i
@@ -39,10 +40,9 @@ loop-again c =
     let i = l.loop-i.i in
     let at = l.loop-i.at in
     let inv = l.loop-i.invariant in
-    ⊎_elim
-    (λ w. rw (w.1, w.2) (omega arith, least_new d i at inv.1 (omega (arith, w.0.taken)), refl))
-    (λ w. rw (w.1, w.2) (omega arith, least_kept d i at inv.1 (omega (arith, w.0.left)), inv.2))
-    c.if-x-low.branch
+    elim c.if-x-low.branch [
+      then-x-low w ↦ rw (w.low-is, w.at-is) (omega arith, least_new d i at inv.1 (omega (arith, w.if-x-low.true)), refl)
+    | else-x-low w ↦ rw (w.low-is, w.at-is) (omega arith, least_kept d i at inv.1 (omega (arith, w.if-x-low.false)), inv.2) ]
 
 returns : tie.Need-returns invariant-loop decreases-loop
 returns c =
