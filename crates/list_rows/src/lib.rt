@@ -1,5 +1,6 @@
 // The rows of a search's table, a lent slice of signed 16-bit numbers: each box is its own 16-number part, low then high.
 #![tactic(auto)]
+
 ghost use Rattle.std.specs.Prelude.{◌≡◌, ◌++◌, ◌+◌, ◌-◌, ◌≤◌, ◌<◌, length, take, drop};
 ghost use Rattle.std.proofs.Math.Seq.{paste};
 ghost use Rattle.list_rows.specs.Rows.{row_count, row_at, with_row, with_moved, without_row};

@@ -7,60 +7,58 @@ use borrow.Author.Rules.{rules}
 use Rattle.list_rows.proofs.move_row.Statement.{statement}
 use Rattle.list_rows.proofs.move_row.Tie as tie
 
-box-at-requires : tie.Need-box-at-requires
+box-at-requires : tie.Need-box_at-b-requires
 box-at-requires c κs = search rules
 
-mul-put-box : tie.Need-overflow-mul-put-box
+mul-put-box : tie.Need-overflow_mul-to
 mul-put-box c = search rules
 
-mul-put-box-2 : tie.Need-overflow-mul-put-box-2
+mul-put-box-2 : tie.Need-overflow_mul-to-then-i-table
 mul-put-box-2 c = search rules
 
-add-put-box : tie.Need-overflow-add-put-box
+add-put-box : tie.Need-overflow_add-to
 add-put-box c = search rules
 
-mul-put-box-3 : tie.Need-overflow-mul-put-box-3
+mul-put-box-3 : tie.Need-offset_bounds-table-to
 mul-put-box-3 c = search rules
 
-sub-put-box : tie.Need-overflow-sub-put-box
+sub-put-box : tie.Need-slice_bounds-put_box-count
 sub-put-box c = search rules
 
-part-put-box-start : tie.Need-slice-bounds-put-box-start
+part-put-box-start : tie.Need-slice_bounds-put_box-start
 part-put-box-start c = search rules
 
-part-put-box-end : tie.Need-slice-bounds-put-box-end
+part-put-box-end : tie.Need-slice_bounds-put_box-end
 part-put-box-end c = search rules
 
-put-box-requires : tie.Need-put-box-requires
+put-box-requires : tie.Need-put_box-requires
 put-box-requires c κs = search rules
 
-same_length : tie.Need-same-length
+same_length : tie.Need-shape_of-table
 same_length c = search rules
 
-returns : tie.Need-returns
+returns : tie.Need-returns-then-i-table
 unfolding with_moved
 returns c =
-    let w = c.before in
-    let there = w.before.before.before.before in
-    let a = there.before.before.args in
+    let a = c.args in
     rw (
-      lt-ltb a.to a.i there.before.if1.true,
-      lt-ltb a.i _ there.if2.true,
-      w.put-box.ensures,
-      w.before.before.box-at.ensures,
+      lt-ltb a.to a.i c.if-to-i.true,
+      lt-ltb a.i _ c.if-i-table.true,
+      c.put_box.ensures,
+      c.box_at-b.ensures,
     )
-    (row_written a.table.now a.to _ (omega (arith, there.before.if1.true, there.if2.true)))
+    (row_written a.table.now a.to _ (omega arith))
 
-returns-2 : tie.Need-returns-2
+returns-2 : tie.Need-returns-else-i-table
 unfolding with_moved
-returns-2 c = rw (lt-ltb _ _ c.before.if1.true, le-ltb _ _ c.if2.false)
+returns-2 c = rw (lt-ltb _ _ c.if-to-i.true, le-ltb _ _ c.if-i-table.false)
 
-returns-3 : tie.Need-returns-3
+returns-3 : tie.Need-returns-else-to-i
 unfolding with_moved
-returns-3 c = rw (le-ltb _ _ c.if1.false)
+returns-3 c = rw (le-ltb _ _ c.if-to-i.false)
 
-pub move-row-spec : {M : Type 1} → statement M
-move-row-spec =
+pub move_row_spec : {M : Type 1} → statement M
+move_row_spec =
     tie.close
     (tie.spec
     box-at-requires

@@ -5,15 +5,15 @@ use borrow.Author.Rules.{rules}
 use Rattle.list_rows.proofs.read_row.Statement.{statement}
 use Rattle.list_rows.proofs.read_row.Tie as tie
 
-box-at-requires : tie.Need-box-at-requires
+box-at-requires : tie.Need-box_at-requires
 box-at-requires c κs = search rules
 
-returns : tie.Need-returns
+returns : tie.Need-returns-then-i-table
 returns c = search rules
 
-returns-2 : tie.Need-returns-2
+returns-2 : tie.Need-returns-else-i-table
 unfolding row_at
-returns-2 c = rw (le-ltb _ _ c.if1.false)
+returns-2 c = rw (le-ltb _ _ c.if-i-table.false)
 
-pub read-row-spec : {M : Type 1} → statement M
-read-row-spec = tie.close (tie.spec box-at-requires returns returns-2)
+pub read_row_spec : {M : Type 1} → statement M
+read_row_spec = tie.close (tie.spec box-at-requires returns returns-2)

@@ -10,53 +10,53 @@ use Rattle.list_rows.proofs.Rows.{without_there}
 use Rattle.list_rows.proofs.take_row.Statement.{statement}
 use Rattle.list_rows.proofs.take_row.Tie as tie
 
-mul-slide : tie.Need-overflow-mul-slide
+mul-slide : tie.Need-overflow_mul-i
 mul-slide c = search rules
 
-mul-slide-2 : tie.Need-overflow-mul-slide-2
+mul-slide-2 : tie.Need-overflow_mul-n
 mul-slide-2 c = search rules
 
-mul-slide-3 : tie.Need-overflow-mul-slide-3
+mul-slide-3 : tie.Need-offset_bounds-table-i
 mul-slide-3 c = search rules
 
-sub-slide : tie.Need-overflow-sub-slide
+sub-slide : tie.Need-slice_bounds-slide-count
 sub-slide c = search rules
 
-part-slide-start : tie.Need-slice-bounds-slide-start
+part-slide-start : tie.Need-slice_bounds-slide-start
 part-slide-start c = search rules
 
-part-slide-end : tie.Need-slice-bounds-slide-end
+part-slide-end : tie.Need-slice_bounds-slide-end
 part-slide-end c = search rules
 
 slide-requires : tie.Need-slide-requires
 slide-requires c κs =
-    let a = c.before.before.before.args in
+    let a = c.args in
     rw (lent_long a.table.now (16 * a.i) 16 (16 * a.n) (omega arith) (omega arith)) (omega arith)
 
-same_length : tie.Need-same-length
+same_length : tie.Need-shape_of-table
 same_length c = search rules
 
-returns : tie.Need-returns
+returns : tie.Need-returns-then-n-table
 returns c =
     let slid = c.before in
     let there = slid.before.before in
-    let a = there.before.before.args in
+    let a = there.args in
     let t = a.table.now in
     let moved : 16 * a.n - 16 * a.i - 16 ≡ 16 * (a.n - 1) - 16 * a.i = omega arith in
     rw slid.slide.ensures
     (rw moved at (part_down t (16 * a.i) 16 (16 * a.n) (omega arith) (omega arith))
     ∙ without_there t a.i a.n (omega arith) (omega arith))
 
-returns-2 : tie.Need-returns-2
+returns-2 : tie.Need-returns-else-n-table
 unfolding without_row
-returns-2 c = rw (lt-ltb _ _ c.before.if1.true, lt-leb _ _ c.if2.false)
+returns-2 c = rw (lt-ltb _ _ c.if-i-n.true, lt-leb _ _ c.if-n-table.false)
 
-returns-3 : tie.Need-returns-3
+returns-3 : tie.Need-returns-else-i-n
 unfolding without_row
-returns-3 c = rw (le-ltb _ _ c.if1.false)
+returns-3 c = rw (le-ltb _ _ c.if-i-n.false)
 
-pub take-row-spec : {M : Type 1} → statement M
-take-row-spec =
+pub take_row_spec : {M : Type 1} → statement M
+take_row_spec =
     tie.close
     (tie.spec
     mul-slide
