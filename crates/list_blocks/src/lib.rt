@@ -1,6 +1,7 @@
 // The first smallest of many numbers, of which some were taken out, by blocks of which each has its first smallest known: these are read,
 // and where one is taken out the numbers of its block.
 #![tactic(auto)]
+
 ghost use Rattle.std.specs.Prelude.{◌≡◌, ◌≤◌, ◌<◌, min, length};
 ghost use Rattle.list_blocks.specs.Blocks.{block_start, InBlock, LeastsFound, SpotOf, TakenAway};
 

@@ -5,49 +5,48 @@ use Rattle.list_blocks.proofs.Places.{lowest_before, part_found}
 use Rattle.list_blocks.proofs.in_block.Statement.{statement}
 use Rattle.list_blocks.proofs.in_block.Tie as tie
 
-begins-requires : tie.Need-begins-requires
+begins-requires : tie.Need-begins-from-requires
 begins-requires c κs = search rules
 
-add-begins : tie.Need-overflow-add-begins
+add-begins : tie.Need-overflow_add-j
 add-begins c = search rules
 
-begins-requires-2 : tie.Need-begins-requires-2
+begins-requires-2 : tie.Need-begins-end-requires
 begins-requires-2 c κs = search rules
 
-mul-lower-bound : tie.Need-overflow-mul-lower-bound
+mul-lower-bound : tie.Need-offset_bounds-bounds-from
 mul-lower-bound c = search rules
 
-sub-lower-bound : tie.Need-overflow-sub-lower-bound
+sub-lower-bound : tie.Need-slice_bounds-lower_bound-count
 sub-lower-bound c = search rules
 
-part-lower-bound-start : tie.Need-slice-bounds-lower-bound-start
+part-lower-bound-start : tie.Need-slice_bounds-lower_bound-start
 part-lower-bound-start c = search rules
 
-part-lower-bound-end : tie.Need-slice-bounds-lower-bound-end
+part-lower-bound-end : tie.Need-slice_bounds-lower_bound-end
 part-lower-bound-end c = search rules
 
-sub-lower-bound-2 : tie.Need-overflow-sub-lower-bound-2
+sub-lower-bound-2 : tie.Need-overflow_sub-end
 sub-lower-bound-2 c = search rules
 
-lower-bound-requires : tie.Need-lower-bound-requires
+lower-bound-requires : tie.Need-lower_bound-found-requires
 lower-bound-requires c κs = search rules
 
-add-t7 : tie.Need-overflow-add-t7
+add-t7 : tie.Need-overflow_add-result
 add-t7 c =
-    let found = c.before.lower-bound in
-    let few = lowest_before _ _ _ found.result found.ensures 2305843009213693953 (omega arith) (omega arith) in
+    let few = lowest_before _ _ _ c.lower_bound-found.result c.lower_bound-found.ensures 2305843009213693953 (omega arith) (omega arith) in
     omega (arith, few)
 
 returns : tie.Need-returns
 returns c =
     let first = c.before.before.before.before in
-    let a = first.before.before.args in
-    part_found a.bounds.now a.n a.j first.begins.result c.before.before.before.begins2.result
-    c.before.lower-bound.result (omega arith) first.begins.ensures c.before.before.before.begins2.ensures
-    c.before.lower-bound.ensures
+    let a = first.args in
+    part_found a.bounds.now a.n a.j first.begins-from.result c.begins-end.result
+    c.lower_bound-found.result (omega arith) first.begins-from.ensures c.begins-end.ensures
+    c.lower_bound-found.ensures
 
-pub in-block-spec : {M : Type 1} → statement M
-in-block-spec =
+pub in_block_spec : {M : Type 1} → statement M
+in_block_spec =
     tie.close
     (tie.spec
     begins-requires
