@@ -1,5 +1,6 @@
 // The best vector so far: the one test by which a vector becomes best and a box is kept, and the one by which a search is solved.
 #![tactic(auto)]
+
 ghost use Rattle.std.specs.Prelude.{◌≡◌};
 ghost use Rattle.incumbent.specs.Incumbent.{ahead_of, child_of, solved_by};
 

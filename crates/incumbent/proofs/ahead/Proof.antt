@@ -8,49 +8,49 @@ use Rattle.certificate.specs.Search.{ahead}
 use Rattle.incumbent.proofs.ahead.Statement.{statement}
 use Rattle.incumbent.proofs.ahead.Tie as tie
 
-returns : tie.Need-returns
+returns : tie.Need-returns-then-number-mark
 unfolding ahead
-returns c = let a = c.before.before.args in rw (lt-ltb a.number a.mark.cost c.if1.true)
+returns c = let a = c.args in rw (lt-ltb a.number a.mark.cost c.if-number-mark.true)
 
-returns-2 : tie.Need-returns-2
+returns-2 : tie.Need-returns-then-mark-gt0
 unfolding ahead
 returns-2 c =
     let first = c.before.before in
-    let a = first.before.before.args in
-    let later : a.mark.t ≡ 0 → ⊥ = λ z. omega (arith, c.if2.true) in
-    rw (le-ltb a.number a.mark.cost first.if1.false, ne_eqb a.mark.t 0 later)
+    let a = first.args in
+    let later : a.mark.t ≡ 0 → ⊥ = λ z. omega (arith, c.if-mark-gt0.true) in
+    rw (le-ltb a.number a.mark.cost first.if-number-mark.false, ne_eqb a.mark.t 0 later)
 
 -- where t is 0 and the number is not below C
-module _ (c : tie.Else2) where
+module _ (c : tie.Else-mark-gt0) where
   abbrev start : tie.Start
   start = c.before.before.before.before
 
   not-less : start.args.mark.cost ≤ start.args.number
-  not-less = c.before.before.if1.false
+  not-less = c.if-number-mark.false
 
   zero : start.args.mark.t ≡ 0
-  zero = omega (arith, c.if2.false)
+  zero = omega (arith, c.if-mark-gt0.false)
 
-returns-3 : tie.Need-returns-3
+returns-3 : tie.Need-returns-then-mark-number
 unfolding ahead
 returns-3 c =
     let two = c.before.before in
     let a = (start two).args in
-    let above : a.number ≡ a.mark.cost → ⊥ = λ e. omega (arith, c.if3.true) in
+    let above : a.number ≡ a.mark.cost → ⊥ = λ e. omega (arith, c.if-mark-number.true) in
     rw (le-ltb a.number a.mark.cost (not-less two), eq-eqb a.mark.t 0 (zero two), ne_eqb a.number a.mark.cost above)
 
 before-requires : tie.Need-before-requires
 before-requires c κs = search rules
 
-returns-4 : tie.Need-returns-4
+returns-4 : tie.Need-returns
 unfolding ahead
 returns-4 c =
     let three = c.before.before in
     let two = three.before.before in
     let a = (start two).args in
-    let same : a.number ≡ a.mark.cost = omega (arith, not-less two, three.if3.false) in
+    let same : a.number ≡ a.mark.cost = omega (arith, not-less two, three.if-mark-number.false) in
     rw (le-ltb a.number a.mark.cost (not-less two), eq-eqb a.mark.t 0 (zero two), eq-eqb a.number a.mark.cost same)
-    c.before2.ensures
+    c.before-2.ensures
 
-pub ahead-spec : {M : Type 1} → statement M
-ahead-spec = tie.close (tie.spec returns returns-2 returns-3 before-requires returns-4)
+pub ahead_spec : {M : Type 1} → statement M
+ahead_spec = tie.close (tie.spec returns returns-2 returns-3 before-requires returns-4)

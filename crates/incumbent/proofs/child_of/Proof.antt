@@ -9,5 +9,5 @@ ahead-requires c κs = search rules
 returns : tie.Need-returns
 returns c = rw c.ahead.ensures
 
-pub child-of-spec : {M : Type 1} → statement M
-child-of-spec = tie.close (tie.spec ahead-requires returns)
+pub child_of_spec : {M : Type 1} → statement M
+child_of_spec = tie.close (tie.spec ahead-requires returns)
