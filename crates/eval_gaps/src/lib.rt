@@ -1,5 +1,6 @@
 // Gaps among the points of a chunk, told by y: whether there is none, as y is scaled, and their numbers made 0.
 #![tactic(auto)]
+
 ghost use Rattle.std.specs.Prelude.{cond, ◌≡◌, ℕ, ◌<◌};
 ghost use Rattle.std.specs.Float.{binary64};
 ghost use Rattle.std.specs.Float.Ieee.{lt, mul};

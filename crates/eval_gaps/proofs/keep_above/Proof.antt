@@ -12,15 +12,11 @@ use Rattle.eval_lanes.proofs.Filling.{none_filled, one_filled, all_filled}
 use borrow.Author.Rules.{rules}
 use Rattle.eval_gaps.proofs.keep_above.Statement.{statement}
 use Rattle.eval_gaps.proofs.keep_above.Tie as tie
-use Rattle.eval_gaps.proofs.keep_above.Reads as reads
-use Rattle.eval_gaps.proofs.keep_above.Lts as lts
-use Rattle.eval_gaps.proofs.kept.Reads as kept-reads
-use Rattle.eval_lanes.proofs.known.Reads as known-reads
 
-abbrev invariant-loop : tie.invariant-loop
+abbrev invariant-loop : tie.invariant-loop-k
 invariant-loop out₀ ys mark k₀ out k = Filled 0 (λ k a b. b ≡ cond (lt mark (lane ys k)) a zeroth) out₀ k out × (k ≤ 80)
 
-abbrev decreases-loop : tie.decreases-loop
+abbrev decreases-loop : tie.decreases-loop-k
 decreases-loop out₀ ys mark k₀ out k = 80 - k
 
 known-requires : tie.Need-known-requires invariant-loop decreases-loop
@@ -29,49 +25,49 @@ known-requires c κs = search rules
 known-requires-2 : tie.Need-known-requires-2 invariant-loop decreases-loop
 known-requires-2 c κs = search rules
 
-loop-holds : tie.Need-loop-init invariant-loop decreases-loop
+loop-holds : tie.Need-loop-k-init invariant-loop decreases-loop
 loop-holds c = (none_filled _ _ _, omega arith)
 
-mul-kept : tie.Need-overflow-mul-kept invariant-loop decreases-loop
+mul-kept : tie.Need-offset_bounds-out-k invariant-loop decreases-loop
 mul-kept c = search rules
 
-element-copy-out-kept : tie.Need-element-copy-out-kept invariant-loop decreases-loop
+element-copy-out-kept : tie.Need-bounds-out-k invariant-loop decreases-loop
 element-copy-out-kept c = search rules
 
-mul-kept-2 : tie.Need-overflow-mul-kept-2 invariant-loop decreases-loop
+mul-kept-2 : tie.Need-offset_bounds-ys-k invariant-loop decreases-loop
 mul-kept-2 c = search rules
 
-element-copy-out-kept-2 : tie.Need-element-copy-out-kept-2 invariant-loop decreases-loop
+element-copy-out-kept-2 : tie.Need-bounds-ys-k invariant-loop decreases-loop
 element-copy-out-kept-2 c = search rules
 
 kept-requires : tie.Need-kept-requires invariant-loop decreases-loop
 kept-requires c κs = search rules
 
-mul-out : tie.Need-overflow-mul-out invariant-loop decreases-loop
+mul-out : tie.Need-offset_bounds-out-k-in-loop-k invariant-loop decreases-loop
 mul-out c = search rules
 
-element-write-out : tie.Need-element-write-out invariant-loop decreases-loop
+element-write-out : tie.Need-bounds-out-k-in-loop-k invariant-loop decreases-loop
 element-write-out c = search rules
 
-add-k : tie.Need-overflow-add-k invariant-loop decreases-loop
+add-k : tie.Need-overflow_step-k invariant-loop decreases-loop
 add-k c = search rules
 
-loop-less : tie.Need-loop-smaller invariant-loop decreases-loop
+loop-less : tie.Need-loop-k-smaller invariant-loop decreases-loop
 loop-less c = search rules
 
-loop-again : tie.Need-loop-preserved invariant-loop decreases-loop
+loop-again : tie.Need-loop-k-preserved invariant-loop decreases-loop
 loop-again c =
     let p = c.before.before.before.before in
     let k2 = p.before.before in
-    let n : length k2.before.before.before.args.out.now ≡ 80 = k2.before.known.ensures in
-    let i = c.before.before.before.loop-test.true in
-    (one_filled _ p.loop.invariant.0 (omega arith) c.kept.ensures, omega arith)
+    let n : length k2.args.out.now ≡ 80 = k2.known.ensures in
+    let i = c.loop-k-test.true in
+    (one_filled _ p.loop-k.invariant.0 (omega arith) c.kept.ensures, omega arith)
 
 returns : tie.Need-returns invariant-loop decreases-loop
-returns c = all_filled c.before.loop.invariant.0 c.loop-test.false
+returns c = all_filled c.loop-k.invariant.0 c.loop-k-test.false
 
-pub keep-above-spec : {M : Type 1} → statement M
-keep-above-spec =
+pub keep_above_spec : {M : Type 1} → statement M
+keep_above_spec =
     tie.close
     (tie.spec
     invariant-loop
