@@ -1,6 +1,6 @@
 -- The numbers of a job that is read from bytes fit their bytes, whatever the bytes. Assumes nothing.
 use mathlib.Core.List.{List, [], ◌∷◌}
-use mathlib.Core.Path.{◌≡◌, subst}
+use mathlib.Core.Path.{subst}
 use Prim.Native.Nat.{ℕ, suc, ◌+◌, ◌^◌, ◌≤◌, ◌<◌}
 use native.Mathlib.Omega.{arith}
 use lib.Dec.{T, ltb, lt→ltb}
@@ -18,9 +18,9 @@ use Rattle.fields.proofs.Vectors.{vector_eight}
 use Rattle.job_records.specs.Jobs.{job_of}
 use Rattle.job_records.specs.Laws.{IsJob}
 
-are_bytes : (l : List ℕ) → ((i : ℕ) → get_or l i 0 < 256) → T (are_bytes l)
-are_bytes [] small = tt
-are_bytes (b ∷ l) small = and_both (ltb b 256) (are_bytes l) (lt→ltb b 256 (small 0)) (are_bytes l (λ i. small (suc i)))
+are_bytes_lem : (l : List ℕ) → ((i : ℕ) → get_or l i 0 < 256) → T (are_bytes l)
+are_bytes_lem [] small = tt
+are_bytes_lem (b ∷ l) small = and_both (ltb b 256) (are_bytes l) (lt→ltb b 256 (small 0)) (are_bytes_lem l (λ i. small (suc i)))
 
 all_signed : (bs : List ℕ) → T (are_bytes bs) → All (λ w. SFits w16 w) (vector_of bs)
 unfolding vector_of
@@ -49,7 +49,7 @@ module _ (bytes : List ℕ) (ok : T (are_bytes bytes)) where
 pub job_fits : (bytes : List ℕ) → ((i : ℕ) → get_or bytes i 0 < 256) → 72 ≤ length bytes → IsJob (job_of bytes)
 unfolding job_of
 job_fits bytes small whole =
-    let ok = are_bytes bytes small in
+    let ok = are_bytes_lem bytes small in
     record {
       eps = record { fits = number_small bytes ok 4 4 (omega arith) };
       t = record { fits = number_small bytes ok 8 8 (omega arith) };

@@ -1,5 +1,6 @@
 // Job records: from a job to its 72 bytes and back.
 #![tactic(auto)]
+
 ghost use Rattle.std.specs.Prelude.{◌≡◌, ◌≤◌, length};
 ghost use Rattle.integers.specs.Lists.{over};
 ghost use Rattle.codes.specs.declared.Check.TheVariants.{Refuse};

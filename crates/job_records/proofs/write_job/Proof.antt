@@ -9,22 +9,22 @@ use Rattle.fields.specs.Buffers.{check_room}
 use Rattle.job_records.proofs.write_job.Statement.{statement}
 use Rattle.job_records.proofs.write_job.Tie as tie
 
-returns : tie.Need-returns
+returns : tie.Need-returns-then-out-lt72
 unfolding check_room
 returns c =
-    let out = c.before.before.args.out.now in
+    let out = c.args.out.now in
     let short : length out < 72 = omega arith in
     (simp (lt-leb 72 (length out) short), refl)
 
-put-job-requires : tie.Need-put-job-requires
+put-job-requires : tie.Need-put_job-requires
 put-job-requires c κs = search rules
 
-same_length : tie.Need-same-length
+same_length : tie.Need-shape_of-out
 same_length c = search rules
 
-returns-2 : tie.Need-returns-2
+returns-2 : tie.Need-returns
 unfolding check_room
-returns-2 c = (simp (le-leb _ _ c.before.before.before.before.if1.false), c.before.before.put-job.ensures)
+returns-2 c = (simp (le-leb _ _ c.if-out-lt72.false), c.put_job.ensures)
 
-pub write-job-spec : {M : Type 1} → statement M
-write-job-spec = tie.close (tie.spec returns put-job-requires same_length returns-2)
+pub write_job_spec : {M : Type 1} → statement M
+write_job_spec = tie.close (tie.spec returns put-job-requires same_length returns-2)
