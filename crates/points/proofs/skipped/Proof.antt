@@ -27,5 +27,5 @@ by_bits (negsuc n) f = below n f.sfits
 returns : tie.Need-returns
 returns c = by_bits c.args.y c.ranges.y
 
-pub skipped-spec : {M : Type 1} → statement M
-skipped-spec = tie.close (tie.spec returns)
+pub skipped_spec : {M : Type 1} → statement M
+skipped_spec = tie.close (tie.spec returns)
