@@ -1,5 +1,6 @@
 // Answer records: from an answer to its 40 bytes and back, with check 9.
 #![tactic(auto)]
+
 ghost use Rattle.std.specs.Prelude.{◌≡◌, ◌≤◌, length};
 ghost use Rattle.integers.specs.Lists.{over};
 ghost use Rattle.codes.specs.declared.Check.TheVariants.{Refuse};
@@ -75,6 +76,7 @@ fn passes(c: Check) -> bool
 }
 
 // Check 9.
+#[tactic(auto, unfolding(crate::specs::Answers::check_answer))]
 pub fn check_answer(a: AnswerRecord) -> Check
     ensures { result ≡ check_answer a }
 {
