@@ -1,9 +1,11 @@
 // Fit L and its neighbours: beacons taken into stores of any length, a line for each. A store of 0s and a beacon of 1s, so that the 1s
 // afterwards are what was stored.
 #![tactic(auto)]
+
 ghost use Rattle.std.specs.Prelude.{◌≡◌, ◌≤◌, length};
 
 use codes::Outcome;
+use std::io;
 
 // How many bytes of the store are 1.
 fn stored(store: &[u8]) -> usize {
@@ -26,29 +28,23 @@ fn first(store: &[u8]) -> usize {
     store.len()
 }
 
-fn field(word: &[u8], n: usize) {
-    io::write_all(1, word);
-    io::print_decimal(1, n as u64);
-}
-
 // One beacon, and what its taking in comes to.
-fn report(store: &mut [u8], mark: usize, body: &[u8]) {
-    field(b"store ", store.len());
-    field(b" mark ", mark);
-    field(b" beacon ", body.len());
+fn report(rt: &impl Print, store: &mut [u8], mark: usize, body: &[u8]) -> io::Result<()> {
+    let room = store.len();
+    let bytes = body.len();
+    print!(rt; "store {room} mark {mark} beacon {bytes}")?;
     match beacon::take_in(store, mark, body) {
         Outcome::Value(next) => {
-            io::write_all(1, b": mark ");
-            io::print_decimal(1, next);
-            field(b", from ", first(store));
+            let from = first(store);
+            print!(rt; ": mark {next}, from {from}")?;
         }
         Outcome::Refused(r) => {
-            io::write_all(1, b": refused ");
-            io::print_decimal(1, codes::number(r) as u64);
+            let number = codes::number(r);
+            print!(rt; ": refused {number}")?;
         }
     }
-    field(b", stored ", stored(store));
-    io::write_all(1, b"\n");
+    let ones = stored(store);
+    println!(rt; ", stored {ones}")
 }
 
 // The contracts give the lengths alone: the proof of `case` needs no more.
@@ -65,39 +61,39 @@ fn ones() -> [u8; 50004]
 }
 
 // A store and a beacon of so many bytes.
-fn case(len: usize, mark: usize, bytes: usize)
+fn case(rt: &impl Print, len: usize, mark: usize, bytes: usize) -> io::Result<()>
     requires len_bound { len ≤ 50004 }
     requires bytes_bound { bytes ≤ 50004 }
 {
     let mut store = zeros();
     let body = ones();
-    report(&mut store[..len], mark, &body[..bytes]);
+    report(rt, &mut store[..len], mark, &body[..bytes])
 }
 
-fn main() {
-    case(600, 0, 228);
-    case(600, 0, 240);
-    case(600, 0, 236);
-    case(600, 0, 252);
-    case(600, 0, 0);
-    case(600, 0, 12);
-    case(600, 372, 228);
-    case(600, 384, 228);
-    case(600, 372, 240);
-    case(600, 588, 12);
-    case(600, 600, 12);
-    case(600, 612, 12);
-    case(600, 606, 12);
-    case(600, 6, 12);
-    case(605, 588, 12);
-    case(605, 600, 12);
-    case(605, 605, 12);
-    case(0, 0, 12);
-    case(50004, 49140, 12);
-    case(50004, 49152, 12);
-    case(50004, 48936, 228);
-    case(50004, 50004, 12);
-    case(50004, 0, 49152);
-    case(50004, 12, 49152);
-    case(50004, 0, 49164);
+fn main(rt: HostRuntime) -> io::Result<()> {
+    case(&rt, 600, 0, 228)?;
+    case(&rt, 600, 0, 240)?;
+    case(&rt, 600, 0, 236)?;
+    case(&rt, 600, 0, 252)?;
+    case(&rt, 600, 0, 0)?;
+    case(&rt, 600, 0, 12)?;
+    case(&rt, 600, 372, 228)?;
+    case(&rt, 600, 384, 228)?;
+    case(&rt, 600, 372, 240)?;
+    case(&rt, 600, 588, 12)?;
+    case(&rt, 600, 600, 12)?;
+    case(&rt, 600, 612, 12)?;
+    case(&rt, 600, 606, 12)?;
+    case(&rt, 600, 6, 12)?;
+    case(&rt, 605, 588, 12)?;
+    case(&rt, 605, 600, 12)?;
+    case(&rt, 605, 605, 12)?;
+    case(&rt, 0, 0, 12)?;
+    case(&rt, 50004, 49140, 12)?;
+    case(&rt, 50004, 49152, 12)?;
+    case(&rt, 50004, 48936, 228)?;
+    case(&rt, 50004, 50004, 12)?;
+    case(&rt, 50004, 0, 49152)?;
+    case(&rt, 50004, 12, 49152)?;
+    case(&rt, 50004, 0, 49164)
 }

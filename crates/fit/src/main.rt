@@ -1,6 +1,10 @@
 // The program fit: reads a job record and a store from standard input and writes one line.
 #![tactic(auto)]
-ghost use Rattle.std.specs.Prelude.{◌≡◌, length};
+
+ghost use Rattle.std.specs.Prelude.{◌≡◌, ◌≤◌, length};
+
+use std::env::{Env, FillError};
+use std::io::Read;
 
 // One byte more than the longest input, so that a longer one shows. The contracts give lengths alone: the proof of `main` needs no more.
 fn input_space() -> [u8; 49225]
@@ -30,33 +34,47 @@ fn line_space() -> [u8; 200]
 }
 
 // Says that the program takes no argument, where it was given one.
-fn usage() -> bool {
-    let given = os::arg_count() > 1;
+fn usage(rt: &(impl Env + Eprint)) -> bool {
+    let given = !matches!(rt.arg(1, &mut [0; 1]), Err(FillError::NotPresent));
     if given {
-        io::write_all(
-            libc::STDERR_FILENO,
-            b"usage: fit < INPUT, a job record and a store; fit takes no argument\n",
+        let _ = eprintln!(rt;
+            "usage: fit < INPUT, a job record and a store; fit takes no argument"
         );
     }
     given
 }
 
+// Reads to the end of the input or of the space, and answers how many bytes came. A read that fails ends the input.
+fn read_full<R: Read>(reader: &mut R, space: &mut [u8]) -> usize
+    ensures size { length space.new ≡ length space.old }
+    ensures count { result ≤ length space.old }
+{
+    let mut n: usize = 0;
+    while n < space.len() {
+        match reader.read(&mut space[n..]) {
+            Ok(0) | Err(_) => break,
+            Ok(more) => n += more,
+        }
+    }
+    n
+}
+
 // Writes the line, or says on standard error that it could not be written.
-fn put(line: &[u8]) {
-    if !io::write_all(libc::STDOUT_FILENO, line) {
-        io::write_all(libc::STDERR_FILENO, b"fit: the line could not be written\n");
+fn put(rt: &(impl Print + Eprint), line: &[u8]) {
+    if rt.write_all(line).is_err() {
+        let _ = eprintln!(rt; "fit: the line could not be written");
     }
 }
 
-fn main() {
-    if usage() {
+fn main(rt: HostRuntime) {
+    if usage(&rt) {
         return;
     }
     let mut input = input_space();
     let mut table = table_space();
     let mut bounds = bounds_space();
     let mut line = line_space();
-    let n = io::read_full(0, &mut input);
+    let n = read_full(&mut rt.stdin(), &mut input);
     let k = fit_line::report(&input[..n], &mut table, &mut bounds, &mut line);
-    put(&line[..k]);
+    put(&rt, &line[..k]);
 }
