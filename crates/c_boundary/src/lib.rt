@@ -1,5 +1,6 @@
 // What the calls for C have in common: a model and a job out of numbers and buffers, and an outcome as a code and a lent number.
 #![tactic(auto)]
+
 ghost use Rattle.std.specs.Prelude.{◌≡◌, true};
 ghost use Rattle.codes.specs.declared.Outcome.TheVariants.{Refused};
 ghost use Rattle.c_boundary.specs.Boundary.{model_of, job_from, answered, check_call, stray_record, code_of, value_after};

@@ -3,21 +3,21 @@ use borrow.Author.Rules.{rules}
 use Rattle.c_boundary.proofs.check_code.Statement.{statement}
 use Rattle.c_boundary.proofs.check_code.Tie as tie
 
-enum_told : tie.Need-enum-told
+enum_told : tie.Need-enum_told-1
 enum_told c = search rules
 
-enum-known-c : tie.Need-enum-known-c
+enum-known-c : tie.Need-enum_known-c
 enum-known-c c = search rules
 
-refusal-code-requires : tie.Need-refusal-code-requires
+refusal-code-requires : tie.Need-refusal_code-requires
 refusal-code-requires c κs = search rules
 
-returns : tie.Need-returns
+returns : tie.Need-returns-in-Pass
 returns c = search rules
 
-returns-2 : tie.Need-returns-2
-returns-2 c = rw c.before.before.c.given.1 c.refusal-code.ensures
+returns-2 : tie.Need-returns-in-Refuse
+returns-2 c = rw c.in-Refuse.is c.refusal_code.ensures
 
-pub check-code-spec : {M : Type 1} → statement M
-check-code-spec =
+pub check_code_spec : {M : Type 1} → statement M
+check_code_spec =
     tie.close (tie.spec enum_told enum-known-c refusal-code-requires returns returns-2)

@@ -37,14 +37,14 @@ not-stray Clash k = refl
 not-stray Window k = refl
 not-stray Jobs k = refl
 
-enum-known-r : tie.Need-enum-known-r
+enum-known-r : tie.Need-enum_known-r
 enum-known-r c = search rules
 
-returns : tie.Need-returns
-returns c = rw c.before.r.given.1 refl
+returns : tie.Need-returns-in-Stray
+returns c = rw c.in-Stray.is refl
 
-returns-2 : tie.Need-returns-2
-returns-2 c = rw (not-stray c.before.args.r c.match.keys2) refl
+returns-2 : tie.Need-returns-in_default
+returns-2 c = rw (not-stray c.args.r c.in_default.in_default-own.keys2) refl
 
-pub stray-record-spec : {M : Type 1} → statement M
-stray-record-spec = tie.close (tie.spec enum-known-r returns returns-2)
+pub stray_record_spec : {M : Type 1} → statement M
+stray_record_spec = tie.close (tie.spec enum-known-r returns returns-2)
