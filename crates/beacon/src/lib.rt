@@ -1,5 +1,6 @@
 // Taking in a beacon: its point records are copied behind the filled part of a lent store.
 #![tactic(auto)]
+
 ghost use Rattle.std.specs.Prelude.{◌≡◌, ◌+◌, ◌≤◌, length};
 ghost use Rattle.beacon.specs.Beacon.{check_take_in, take_in_answer, store_after, behind};
 

@@ -15,9 +15,9 @@ use Rattle.beacon.proofs.take_in.Tie as tie
 checks : tie.Start → Check
 checks s = check_take_in (length s.args.store.now) s.args.mark (length s.args.beacon.now)
 
-taken : (c : tie.After-enum-told) → checks c.before.before.before.before.before ≡ Pass
+taken : (c : tie.In-Pass) → checks c.before.before.before.before ≡ Pass
 unfolding checks
-taken c = sym c.before.before.check-take-in.ensures ∙ c.enum_told.given.1
+taken c = sym c.check_take_in.ensures ∙ c.in-Pass.is
 
 room : (s : tie.Start) → checks s ≡ Pass
     → (s.args.mark + length s.args.beacon.now ≤ length s.args.store.now)
@@ -25,40 +25,40 @@ room : (s : tie.Start) → checks s ≡ Pass
 unfolding checks
 room s passed = new_mark (length s.args.store.now) s.args.mark (length s.args.beacon.now) passed
 
-check-take-in-requires : tie.Need-check-take-in-requires
+check-take-in-requires : tie.Need-check_take_in-requires
 check-take-in-requires c κs = search rules
 
-enum_told : tie.Need-enum-told
+enum_told : tie.Need-enum_told-1
 enum_told c = search rules
 
-add-next : tie.Need-overflow-add-next
-add-next c = omega (arith, room c.before.before.before.before.before (taken c))
+add-next : tie.Need-overflow_add-next
+add-next c = omega (arith, room c.before.before.before.before (taken c))
 
-copy-behind-requires : tie.Need-copy-behind-requires
-copy-behind-requires c κs = (room c.before.before.before.before.before.before (taken c.before)).0
+copy-behind-requires : tie.Need-copy_behind-requires
+copy-behind-requires c κs = (room c.before.before.before.before.before (taken c.before)).0
 
-enum-known-r : tie.Need-enum-known-r
+enum-known-r : tie.Need-enum_known-r
 enum-known-r c = search rules
 
-same_length : tie.Need-same-length
+same_length : tie.Need-shape_of-store
 same_length c = search rules
 
-returns : tie.Need-returns
+returns : tie.Need-returns-in-Pass
 unfolding take_in_answer store_after checks
 returns c =
     let passed = taken c.before.before.before.before in
-    (rw passed, rw passed c.before.before.copy-behind.ensures)
+    (rw passed, rw passed c.copy_behind.ensures)
 
-returns-2 : tie.Need-returns-2
+returns-2 : tie.Need-returns-in-Refuse
 unfolding take_in_answer store_after checks
 returns-2 c =
-    let k = c.before.before.before in
-    let refused : checks k.before.before.before ≡ Refuse c.before.r.given.0.0 =
-    sym k.check-take-in.ensures ∙ c.before.r.given.1 in
+    let k = c.before in
+    let refused : checks k.before.before.before ≡ Refuse c.in-Refuse.r =
+    sym k.check_take_in.ensures ∙ c.in-Refuse.is in
     (rw refused, rw refused)
 
-pub take-in-spec : {M : Type 1} → statement M
-take-in-spec =
+pub take_in_spec : {M : Type 1} → statement M
+take_in_spec =
     tie.close
     (tie.spec
     check-take-in-requires
