@@ -1,5 +1,6 @@
 // The list of open boxes in lent memory: the boxes are the first rows of the table, and their bounds the first entries of a list beside it.
 #![tactic(auto)]
+
 ghost use Rattle.std.specs.Prelude.{◌≡◌, cond, ◌++◌, ◌+◌, ◌-◌, ◌≤◌, ◌<◌, min, length, get_or, set, take, drop};
 ghost use Rattle.std.proofs.Math.Seq.{paste};
 ghost use Rattle.certificate.specs.Search.{ahead};

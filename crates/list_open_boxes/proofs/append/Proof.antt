@@ -17,7 +17,7 @@ use Rattle.list_open_boxes.proofs.Listing.{Put, own_held, one_taken}
 use Rattle.list_open_boxes.proofs.append.Statement.{statement}
 use Rattle.list_open_boxes.proofs.append.Tie as tie
 
-abbrev invariant-loop : tie.invariant-loop
+abbrev invariant-loop : tie.invariant-loop-i
 invariant-loop table₀ bounds₀ n late beside m mark end₀ i₀ table bounds end i =
     (i ≤ m)
     × Held table₀ bounds₀ end
@@ -25,10 +25,10 @@ invariant-loop table₀ bounds₀ n late beside m mark end₀ i₀ table bounds 
     (take (room_in table₀ bounds₀) (take n bounds₀ ++ picked (entry_at beside) (kept_at late beside mark) i))
     end table bounds
 
-abbrev decreases-loop : tie.decreases-loop
+abbrev decreases-loop : tie.decreases-loop-i
 decreases-loop table₀ bounds₀ n late beside m mark end₀ i₀ table bounds end i = m - i
 
-loop-holds : tie.Need-loop-init invariant-loop decreases-loop
+loop-holds : tie.Need-loop-i-init invariant-loop decreases-loop
 unfolding picked
 loop-holds c =
     let s = c.before.before in
@@ -39,67 +39,66 @@ loop-holds c =
     let all_entries = take_all (room_in t d) (take n d) (omega (arith, length-take n d, s.requires.0)) in
     (omega arith, rw (append-nil (rows_of t n), append-nil (take n d), all, all_entries) (own_held t d n (omega (arith, s.requires.0))))
 
-read-row-requires : tie.Need-read-row-requires invariant-loop decreases-loop
+read-row-requires : tie.Need-read_row-half-requires invariant-loop decreases-loop
 read-row-requires c κs = search rules
 
-mul-bound : tie.Need-overflow-mul-bound invariant-loop decreases-loop
+mul-bound : tie.Need-offset_bounds-beside-i invariant-loop decreases-loop
 mul-bound c = search rules
 
-shared-slice-read-bound : tie.Need-shared-slice-read-bound invariant-loop decreases-loop
+shared-slice-read-bound : tie.Need-bounds-beside-i invariant-loop decreases-loop
 shared-slice-read-bound c = omega arith
 
-keeps-requires : tie.Need-keeps-requires invariant-loop decreases-loop
+keeps-requires : tie.Need-keeps-kept-requires invariant-loop decreases-loop
 keeps-requires c κs = search rules
 
-put-requires : tie.Need-put-requires invariant-loop decreases-loop
+put-requires : tie.Need-put-end-requires invariant-loop decreases-loop
 put-requires c κs = search rules
 
-add-i : tie.Need-overflow-add-i invariant-loop decreases-loop
+add-i : tie.Need-overflow_add-i invariant-loop decreases-loop
 add-i c = omega arith
 
-loop-less : tie.Need-loop-smaller invariant-loop decreases-loop
+loop-less : tie.Need-loop-i-smaller invariant-loop decreases-loop
 loop-less c = omega arith
 
-loop-again : tie.Need-loop-preserved invariant-loop decreases-loop
+loop-again : tie.Need-loop-i-preserved invariant-loop decreases-loop
 loop-again c =
     let done = c.before.before.before in
     let tested = done.before.before.before in
     let read = tested.before.before in
     let l = read.before.before in
-    let a = l.before.before.before.args in
+    let a = l.args in
     let t = a.table.now in
     let d = a.bounds.now in
     let v = a.late.now in
     let f = a.beside.now in
     let q = kept_at v f a.mark in
-    let i = l.loop.i in
+    let i = l.loop-i.i in
     let child : Child = record { half = row_at v i; bound = entry_at f i; kept = q i } in
-    let wrote = done.put in
-    let is : Put t d l.loop.table l.loop.bounds l.loop.end child wrote.result wrote.new.0 wrote.new.1.0 =
-    rw (read.read-row.ensures, tested.keeps.ensures) at wrote.ensures
+    let is : Put t d l.loop-i.table l.loop-i.bounds l.loop-i.end child done.put-end.result done.put-end.new.table done.put-end.new.bounds =
+    rw (read.read_row-half.ensures, tested.keeps-kept.ensures) at done.put-end.ensures
     in (
       omega arith,
       rw (picked_more (row_at v) q i, picked_more (entry_at f) q i)
           (rw (← append_assoc (rows_of t a.n) (picked (row_at v) q i) _, ← append_assoc (take a.n d) (picked (entry_at f) q i) _)
           (one_taken t d (rows_of t a.n ++ picked (row_at v) q i) (take a.n d ++ picked (entry_at f) q i)
-          l.loop.end l.loop.table l.loop.bounds l.loop.invariant.1 child (row_whole v i)
-          wrote.result wrote.new.0 wrote.new.1.0 is)),
+          l.loop-i.end l.loop-i.table l.loop-i.bounds l.loop-i.invariant.1 child (row_whole v i)
+          done.put-end.result done.put-end.new.table done.put-end.new.bounds is)),
     )
 
-same_length : tie.Need-same-length invariant-loop decreases-loop
-same_length c = c.before.loop.invariant.1.long
+same_length : tie.Need-shape_of-table invariant-loop decreases-loop
+same_length c = c.loop-i.invariant.1.long
 
-same-length-2 : tie.Need-same-length-2 invariant-loop decreases-loop
-same-length-2 c = c.before.loop.invariant.1.long_entries
+same-length-2 : tie.Need-shape_of-bounds invariant-loop decreases-loop
+same-length-2 c = c.loop-i.invariant.1.long_entries
 
 returns : tie.Need-returns invariant-loop decreases-loop
 returns c =
     let l = c.before in
-    let all : l.loop.i ≡ l.before.before.before.args.m = omega arith in
-    rw all at l.loop.invariant.1
+    let all : l.loop-i.i ≡ l.args.m = omega arith in
+    rw all at l.loop-i.invariant.1
 
-pub append-spec : {M : Type 1} → statement M
-append-spec =
+pub append_spec : {M : Type 1} → statement M
+append_spec =
     tie.close
     (tie.spec
     invariant-loop

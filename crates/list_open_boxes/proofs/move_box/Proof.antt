@@ -7,43 +7,43 @@ use borrow.Author.Rules.{rules}
 use Rattle.list_open_boxes.proofs.move_box.Statement.{statement}
 use Rattle.list_open_boxes.proofs.move_box.Tie as tie
 
-move-row-requires : tie.Need-move-row-requires
+move-row-requires : tie.Need-move_row-requires
 move-row-requires c κs = search rules
 
-mul-bounds : tie.Need-overflow-mul-bounds
+mul-bounds : tie.Need-offset_bounds-bounds-i
 mul-bounds c = search rules
 
-slice-read-bounds : tie.Need-slice-read-bounds
+slice-read-bounds : tie.Need-bounds-bounds-i
 slice-read-bounds c = search rules
 
-mul-bounds-2 : tie.Need-overflow-mul-bounds-2
+mul-bounds-2 : tie.Need-offset_bounds-bounds-to
 mul-bounds-2 c = search rules
 
-slice-write-bounds : tie.Need-slice-write-bounds
+slice-write-bounds : tie.Need-bounds-bounds-to
 slice-write-bounds c = search rules
 
-same_length : tie.Need-same-length
+same_length : tie.Need-shape_of-table
 same_length c = search rules
 
-same-length-2 : tie.Need-same-length-2
+same-length-2 : tie.Need-shape_of-bounds
 same-length-2 c = search rules
 
-returns : tie.Need-returns
+returns : tie.Need-returns-then-to-i
 returns c =
     let moved = c.before.before in
     let s = moved.before.before.before.before in
     let a = s.args in
-    (moved.Move-row.ensures ∙ moved_there a.table.now a.i a.to (omega arith) s.requires.1, refl)
+    (moved.move_row.ensures ∙ moved_there a.table.now a.i a.to (omega arith) s.requires.1, refl)
 
-returns-2 : tie.Need-returns-2
+returns-2 : tie.Need-returns-else-to-i
 returns-2 c =
     let s = c.before.before in
     let a = s.args in
-    let same : a.to ≡ a.i = omega (arith, c.if1.false) in
+    let same : a.to ≡ a.i = omega (arith, c.if-to-i.false) in
     (rw same (sym (row_own a.table.now a.i s.requires.1)), rw same (sym (set-get_or a.bounds.now a.i 0)))
 
-pub move-box-spec : {M : Type 1} → statement M
-move-box-spec =
+pub move_box_spec : {M : Type 1} → statement M
+move_box_spec =
     tie.close
     (tie.spec
     move-row-requires
