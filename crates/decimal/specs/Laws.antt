@@ -1,5 +1,4 @@
 -- What holds of numbers in decimal: statements, proved in proofs/Laws.
-use mathlib.Core.List as List
 use Rattle.std.specs.Prelude.{List, ◌≡◌, ℕ, ◌+◌, ◌-◌, ◌*◌, ◌≤◌, get_or}
 use Rattle.integers.specs.Integers.{minus}
 use Rattle.integers.specs.Lists.{All}

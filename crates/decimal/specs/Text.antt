@@ -1,6 +1,5 @@
 -- Words and numbers as text, a byte for each character.
 use Rattle.std.specs.Prelude.{cond, List, ◌++◌, ℕ, zero, suc, ◌+◌, ◌/◌, ◌%◌, ltb, ℤ, pos, negsuc}
-use mathlib.Core.List as List
 use Prim.Native.Char.{code}
 use Prim.Native.String.{String, [], ◌∷◌}
 

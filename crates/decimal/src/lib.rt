@@ -1,6 +1,7 @@
 // Text at a place of a buffer: words, numbers in decimal, and coordinates joined by commas. Each function keeps everything else and
 // answers the place behind what it wrote. Where there might be no room it writes nothing and answers the place that it was given.
 #![tactic(auto)]
+
 ghost use Rattle.std.specs.Prelude.{◌++◌, ◌≡◌, ◌+◌, ◌-◌, ◌≤◌, ◌<◌, length, take};
 ghost use Rattle.decimal.specs.Put.{Put, PutIfRoom};
 ghost use Rattle.decimal.specs.Text.{byte, decimal, joined};
@@ -34,6 +35,7 @@ pub fn put_bytes(out: &mut [u8], at: usize, word: &[u8]) -> usize
 }
 
 // The digits of n: those of n / 10 first, so that none is written twice or counted before.
+#[tactic(auto, using(crate::proofs::Decimal::decimal_one, crate::proofs::Decimal::decimal_more, crate::proofs::Putting::put_more))]
 fn put_decimal(out: &mut [u8], at: usize, n: u64) -> usize
     requires { at + length (decimal n) ≤ length out.old }
     ensures { Put out.old at (decimal n) result out.new }

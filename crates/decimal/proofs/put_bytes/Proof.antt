@@ -13,22 +13,22 @@ use Rattle.decimal.proofs.Putting.{put_nothing, put_one, put_more, not_put, is_p
 use Rattle.decimal.proofs.put_bytes.Statement.{statement}
 use Rattle.decimal.proofs.put_bytes.Tie as tie
 
-abbrev invariant-loop : tie.invariant-loop
+abbrev invariant-loop : tie.invariant-loop-k
 invariant-loop out₀ at word k₀ k-end out k = (k ≤ length word) × Put out₀ at (take k word) (at + k) out × (length out ≡ length out₀)
 
-abbrev decreases-loop : tie.decreases-loop
+abbrev decreases-loop : tie.decreases-loop-k
 decreases-loop out₀ at word k₀ k-end out k = length word - k
 
 room-requires : tie.Need-room-requires invariant-loop decreases-loop
 room-requires c κs = search rules
 
-returns : tie.Need-returns invariant-loop decreases-loop
+returns : tie.Need-returns-then-room-word invariant-loop decreases-loop
 returns c =
-    let a = c.before.before.before.before.args in
-    not_put (length a.word.now) a.out.now a.at a.word.now (omega (arith, c.before.room.ensures))
+    let a = c.args in
+    not_put (length a.word.now) a.out.now a.at a.word.now (omega (arith, c.room.ensures))
 
 -- past the test: what is lent, and that it has room for the word
-module _ (c : tie.Else1 invariant-loop decreases-loop) where
+module _ (c : tie.Else-room-word invariant-loop decreases-loop) where
   abbrev start : tie.Start invariant-loop decreases-loop
   start = c.before.before.before.before
 
@@ -39,51 +39,51 @@ module _ (c : tie.Else1 invariant-loop decreases-loop) where
   word = start.args.word.now
 
   roomy : length word ≤ length buffer - start.args.at
-  roomy = omega (arith, c.before.room.ensures)
+  roomy = omega (arith, c.room.ensures)
 
-loop-holds : tie.Need-loop-init invariant-loop decreases-loop
+loop-holds : tie.Need-loop-k-init invariant-loop decreases-loop
 loop-holds c = (omega arith, rw add-zero (put_nothing (buffer c) (start c).args.at), refl)
 
-shared-slice-read-out : tie.Need-shared-slice-read-out invariant-loop decreases-loop
+shared-slice-read-out : tie.Need-bounds-word-k invariant-loop decreases-loop
 shared-slice-read-out c = search rules
 
-add-out : tie.Need-overflow-add-out invariant-loop decreases-loop
+add-out : tie.Need-overflow_add-out invariant-loop decreases-loop
 add-out c = omega (arith, roomy c.before.before.before)
 
-slice-write-out : tie.Need-slice-write-out invariant-loop decreases-loop
+slice-write-out : tie.Need-bounds-out-at invariant-loop decreases-loop
 slice-write-out c = omega (arith, roomy c.before.before.before)
 
-add-k : tie.Need-overflow-add-k invariant-loop decreases-loop
+add-k : tie.Need-overflow_step-k invariant-loop decreases-loop
 add-k c = search rules
 
-loop-less : tie.Need-loop-smaller invariant-loop decreases-loop
+loop-less : tie.Need-loop-k-smaller invariant-loop decreases-loop
 loop-less c = search rules
 
-loop-again : tie.Need-loop-preserved invariant-loop decreases-loop
+loop-again : tie.Need-loop-k-preserved invariant-loop decreases-loop
 loop-again c =
     let l = c.before.before in
     let e = l.before in
     let at = (start e).args.at in
-    let k = l.loop.k in
+    let k = l.loop-k.k in
     let more : k < length (word e) = omega arith in
-    let one = put_one l.loop.out (at + k) (get_or (word e) k 0) (omega (arith, roomy e)) in
+    let one = put_one l.loop-k.out (at + k) (get_or (word e) k 0) (omega (arith, roomy e)) in
     let next : at + (k + 1) ≡ at + k + 1 = omega arith in
-    (omega arith, rw (next, add-one, take-suc (word e) k 0 more) (put_more l.loop.invariant.1 one), omega (arith, one.long))
+    (omega arith, rw (next, add-one, take-suc (word e) k 0 more) (put_more l.loop-k.invariant.1 one), omega (arith, one.long))
 
-add-result : tie.Need-overflow-add-result invariant-loop decreases-loop
+add-result : tie.Need-overflow_add-result invariant-loop decreases-loop
 add-result c = omega (arith, roomy c.before.before)
 
-same_length : tie.Need-same-length invariant-loop decreases-loop
-same_length c = c.before.loop.invariant.2
+same_length : tie.Need-shape_of-out invariant-loop decreases-loop
+same_length c = c.loop-k.invariant.2
 
-returns-2 : tie.Need-returns-2 invariant-loop decreases-loop
+returns-2 : tie.Need-returns invariant-loop decreases-loop
 returns-2 c =
     let e = c.before.before in
-    let all : c.before.loop.k ≡ length (word e) = omega arith in
-    is_put (roomy e) (rw (all, take-length) at c.before.loop.invariant.1)
+    let all : c.loop-k.k ≡ length (word e) = omega arith in
+    is_put (roomy e) (rw (all, take-length) at c.loop-k.invariant.1)
 
-pub put-bytes-spec : {M : Type 1} → statement M
-put-bytes-spec =
+pub put_bytes_spec : {M : Type 1} → statement M
+put_bytes_spec =
     tie.close
     (tie.spec
     invariant-loop

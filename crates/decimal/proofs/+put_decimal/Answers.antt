@@ -1,0 +1,20 @@
+-- The digits of n / 10 are put first, then the last digit behind them.
+use Rattle.std.proofs.Common.{◌≡◌, ◌+◌, ◌/◌, ◌%◌, ◌≤◌, ◌∙◌, ℕ, ap, arith, length, length-append}
+use Rattle.decimal.specs.Text.{byte, decimal}
+use Rattle.decimal.proofs.Decimal.{decimal_more}
+use Rattle.decimal.proofs.Putting.{put_more}
+use Rattle.decimal.proofs.+put_decimal.Goals as goal
+
+-- one digit less in front
+front_length : (n : ℕ) → 10 ≤ n → length (decimal n) ≡ length (decimal (n / 10)) + 1
+front_length n wide = ap length (decimal_more n wide) ∙ length-append (decimal (n / 10)) (byte (48 + n % 10))
+
+pub put_decimal-next-requires : goal.put_decimal-next-requires
+put_decimal-next-requires t c = (omega arith, omega (arith, front_length c.args.n (omega arith), c.requires))
+
+pub put_byte-requires-2 : goal.put_byte-requires-2
+put_byte-requires-2 t c =
+    omega (arith, front_length c.args.n (omega arith), c.requires, c.put_decimal-next.ensures.place, c.put_decimal-next.ensures.long)
+
+pub returns : goal.returns
+returns t c = rw (decimal_more c.args.n (omega arith)) (put_more c.put_decimal-next.ensures c.put_byte-2.ensures)
