@@ -17,8 +17,8 @@ smaller-requires c κs = search rules
 returns : tie.Need-returns
 returns c =
     c.smaller.ensures
-    ∙ ap (smaller_of c.before.before.before.args.m)
-    (c.before.larger2.ensures ∙ ap (larger_of zeroth) c.before.before.larger.ensures)
+    ∙ ap (smaller_of c.args.m)
+    (c.larger-2.ensures ∙ ap (larger_of zeroth) c.larger.ensures)
 
-pub least-of-spec : {M : Type 1} → statement M
-least-of-spec = tie.close (tie.spec larger-requires larger-requires-2 smaller-requires returns)
+pub least_of_spec : {M : Type 1} → statement M
+least_of_spec = tie.close (tie.spec larger-requires larger-requires-2 smaller-requires returns)

@@ -13,11 +13,11 @@ smaller-requires c κs = search rules
 
 returns : tie.Need-returns
 returns c =
-    let e = c.before.before.before.before.args.e in (
-      ap (sub binary64 e.least) c.before.before.before.larger.ensures,
+    let e = c.args.e in (
+      ap (sub binary64 e.least) c.larger.ensures,
       ap (add binary64 e.opposite)
-          c.before.smaller.ensures,
+          c.smaller.ensures,
     )
 
-pub narrowed-spec : {M : Type 1} → statement M
-narrowed-spec = tie.close (tie.spec larger-requires smaller-requires returns)
+pub narrowed_spec : {M : Type 1} → statement M
+narrowed_spec = tie.close (tie.spec larger-requires smaller-requires returns)

@@ -5,7 +5,7 @@ use Rattle.eval_box_ends.specs.Ends.{opposite_end}
 use Rattle.eval_box_ends.proofs.three_ends.Statement.{statement}
 use Rattle.eval_box_ends.proofs.three_ends.Tie as tie
 
-few-ends-requires : tie.Need-few-ends-requires
+few-ends-requires : tie.Need-few_ends-two-requires
 few-ends-requires c κs = search rules
 
 narrowed-requires : tie.Need-narrowed-requires
@@ -13,7 +13,7 @@ narrowed-requires c κs = search rules
 
 returns : tie.Need-returns
 unfolding lessened opposite_end
-returns c = let e = c.before.few-ends.ensures in (rw (← e.0) c.narrowed.ensures.0, rw (← e.1) c.narrowed.ensures.1)
+returns c = let e = c.few_ends-two.ensures in (rw (← e.0) c.narrowed.ensures.0, rw (← e.1) c.narrowed.ensures.1)
 
-pub three-ends-spec : {M : Type 1} → statement M
-three-ends-spec = tie.close (tie.spec few-ends-requires narrowed-requires returns)
+pub three_ends_spec : {M : Type 1} → statement M
+three_ends_spec = tie.close (tie.spec few-ends-requires narrowed-requires returns)
