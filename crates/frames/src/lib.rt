@@ -1,5 +1,6 @@
 // Records by their frame numbers: whether a store's rise, whether those of two stores clash, and how long their union is.
 #![tactic(auto)]
+
 mod count;
 mod order;
 

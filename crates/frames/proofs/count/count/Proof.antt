@@ -1,10 +1,8 @@
 -- The loop: n bytes of the union are passed, and the clashes of both stores are those of what is left. The measure is the bytes left.
 use borrow.Author.Rules.{rules}
-use borrow.Author.Tests.{not-true, not-false}
 use mathlib.Core.Path.{◌≡◌, refl, ◌∙◌}
 use mathlib.Core.Bool.{Bool, true, false}
 use mathlib.Core.List.{List}
-use mathlib.Core.Logic.{⊎_elim}
 use Prim.Native.Nat.{ℕ, ◌+◌, ◌-◌, ◌≤◌}
 use native.Mathlib.Omega.{arith}
 use lib.ListN.{length, take, drop}
@@ -14,6 +12,7 @@ use Rattle.frames.proofs.Records.{records_end}
 use Rattle.frames.proofs.Rising.{Rises, rises}
 use Rattle.frames.proofs.Walked.{Walked, Step, begun, ended, step}
 use Rattle.frames.proofs.count.count.Statement.{statement}
+use Rattle.frames.proofs.count.count.Lts.{then-f-s+else-not-same, else-f-s}
 use Rattle.frames.proofs.count.count.Tie as tie
 
 not_both : {A : Type 0} {t : Bool} → t ≡ true → t ≡ false → A
@@ -26,16 +25,16 @@ record Counting (first second : List ℕ) (i j n : ℕ) : Type 0 where
   second-rises : Rises (from second j)
   clashes_left : clashes (records_of first) (records_of second) ≡ clashes (from first i) (from second j)
 
-abbrev invariant-loop : tie.invariant-loop
+abbrev invariant-loop : tie.invariant-loop-i
 invariant-loop first second both i₀ j₀ n₀ i j n = Counting first second i j n
 
-abbrev decreases-loop : tie.decreases-loop
+abbrev decreases-loop : tie.decreases-loop-i
 decreases-loop first second both i₀ j₀ n₀ i j n = length first + length second - (i + j)
 
-add-both : tie.Need-overflow-add-both invariant-loop decreases-loop
+add-both : tie.Need-overflow_add-both invariant-loop decreases-loop
 add-both c = search rules
 
-loop-holds : tie.Need-loop-init invariant-loop decreases-loop
+loop-holds : tie.Need-loop-i-init invariant-loop decreases-loop
 loop-holds c =
     let s = c.before.before in
     let one = s.args.first.now in
@@ -48,52 +47,52 @@ loop-holds c =
       clashes_left = refl;
     }
 
-add-loop : tie.Need-overflow-add-loop invariant-loop decreases-loop
+add-loop : tie.Need-overflow_add-i invariant-loop decreases-loop
 add-loop c = search rules
 
-stride-requires : tie.Need-stride-requires invariant-loop decreases-loop
+stride-requires : tie.Need-stride-f-requires invariant-loop decreases-loop
 stride-requires c κs = search rules
 
-stride-requires-2 : tie.Need-stride-requires-2 invariant-loop decreases-loop
+stride-requires-2 : tie.Need-stride-s-requires invariant-loop decreases-loop
 stride-requires-2 c κs = search rules
 
 -- the step that is being made
 stepping :
-    (c : tie.After-stride2 invariant-loop decreases-loop) →
+    (c : tie.After-stride-s invariant-loop decreases-loop) →
     let l = c.before.before.before in
-    let a = l.before.before.before.args in
-    Step a.first.now a.second.now l.loop.i l.loop.j l.loop.n c.before.stride.result c.stride2.result
+    let a = l.args in
+    Step a.first.now a.second.now l.loop-i.i l.loop-i.j l.loop-i.n c.stride-f.result c.stride-s.result
 stepping c =
     let l = c.before.before.before in
     let a = l.before.before.before in
     let one = a.args.first.now in
     let two = a.args.second.now in
-    let v = l.loop in
-    step one two a.requires.0.whole a.requires.1.whole v.i v.j v.n v.invariant.walked (omega arith) _ _ c.before.stride.ensures
-    c.stride2.ensures
+    let v = l.loop-i in
+    step one two a.requires.0.whole a.requires.1.whole v.i v.j v.n v.invariant.walked (omega arith) _ _ c.stride-f.ensures
+    c.stride-s.ensures
 
-add_same : tie.Need-overflow-add-same invariant-loop decreases-loop
+add_same : tie.Need-overflow_add-i-then-f-s invariant-loop decreases-loop
 add_same c = omega (arith, stepping c.before)
 
-sub_same : tie.Need-overflow-sub-same invariant-loop decreases-loop
+sub_same : tie.Need-slice_bounds-same-count invariant-loop decreases-loop
 sub_same c = search rules
 
-part-same-start : tie.Need-slice-bounds-same-start invariant-loop decreases-loop
+part-same-start : tie.Need-slice_bounds-same-start invariant-loop decreases-loop
 part-same-start c = search rules
 
-part-same-end : tie.Need-slice-bounds-same-end invariant-loop decreases-loop
+part-same-end : tie.Need-slice_bounds-same-end invariant-loop decreases-loop
 part-same-end c = omega (arith, stepping c.before)
 
-add-same-2 : tie.Need-overflow-add-same-2 invariant-loop decreases-loop
+add-same-2 : tie.Need-overflow_add-j invariant-loop decreases-loop
 add-same-2 c = omega (arith, stepping c.before.before)
 
-sub-same-2 : tie.Need-overflow-sub-same-2 invariant-loop decreases-loop
+sub-same-2 : tie.Need-slice_bounds-same-count-then-f-s invariant-loop decreases-loop
 sub-same-2 c = search rules
 
-part-same-start-2 : tie.Need-slice-bounds-same-start-2 invariant-loop decreases-loop
+part-same-start-2 : tie.Need-slice_bounds-same-start-then-f-s invariant-loop decreases-loop
 part-same-start-2 c = search rules
 
-part-same-end-2 : tie.Need-slice-bounds-same-end-2 invariant-loop decreases-loop
+part-same-end-2 : tie.Need-slice_bounds-same-end-then-f-s invariant-loop decreases-loop
 part-same-end-2 c = omega (arith, stepping c.before.before)
 
 same-requires : tie.Need-same-requires invariant-loop decreases-loop
@@ -103,61 +102,65 @@ same-requires c κs = search rules
 compared :
     (c : tie.After-same invariant-loop decreases-loop) →
     let l = c.before.before.before.before.before.before.before in
-    let a = l.before.before.before.args in
-    let r = take 12 (drop l.loop.i a.first.now) in
-    let s = take 12 (drop l.loop.j a.second.now) in
+    let a = l.args in
+    let r = take 12 (drop l.loop-i.i a.first.now) in
+    let s = take 12 (drop l.loop-i.j a.second.now) in
     (c.same.result ≡ true → r ≡ s) × (r ≡ s → c.same.result ≡ true)
 compared c =
     let t = c.before.before.before in
     let l = t.before.before.before.before in
-    let f = t.before.before.stride.result in
-    let s = t.before.stride2.result in
-    let both = (stepping t.before).both_go t.if1.true in
-    let e : l.loop.i + f - l.loop.i ≡ 12 = omega arith in
-    let k : l.loop.j + s - l.loop.j ≡ 12 = omega (arith, t.if1.true) in
+    let f = t.stride-f.result in
+    let s = t.stride-s.result in
+    let both = (stepping t.before).both_go t.if-f-s.true in
+    let e : l.loop-i.i + f - l.loop-i.i ≡ 12 = omega arith in
+    let k : l.loop-i.j + s - l.loop-i.j ≡ 12 = omega (arith, t.if-f-s.true) in
     simp (e, k) at c.same.ensures
 
-returns : tie.Need-returns invariant-loop decreases-loop
+returns : tie.Need-returns-then-not-same invariant-loop decreases-loop
 unfolding check_clash
 returns c =
     let t = c.before.before.before.before in
     let l = t.before.before.before.before in
-    let different : c.before.same.result ≡ false = not-true _ c.if2.true in
-    let found = (stepping t.before).clash_here t.if1.true (λ e. not_both ((compared c.before).1 e) different) in
-    rw (l.loop.invariant.clashes_left ∙ found)
+    let different : c.same.result ≡ false = c.if-not-same.true in
+    let found = (stepping t.before).clash_here t.if-f-s.true (λ e. not_both ((compared c.before).1 e) different) in
+    rw (l.loop-i.invariant.clashes_left ∙ found)
 
-add-i : tie.Need-overflow-add-i invariant-loop decreases-loop
+add-i : tie.Need-overflow_add-i-in-loop-i invariant-loop decreases-loop
 add-i c = omega (arith, stepping c.before)
 
-add-j : tie.Need-overflow-add-j invariant-loop decreases-loop
+add-j : tie.Need-overflow_add-j-in-loop-i invariant-loop decreases-loop
 add-j c = omega (arith, stepping c.before)
 
-add-n : tie.Need-overflow-add-n invariant-loop decreases-loop
+add-n : tie.Need-overflow_add-n invariant-loop decreases-loop
 add-n c = search rules
 
-loop-less : tie.Need-loop-smaller invariant-loop decreases-loop
+loop-less : tie.Need-loop-i-smaller invariant-loop decreases-loop
 loop-less c = omega (arith, stepping c.before)
 
 -- no clash was found
 agreed :
-    (c : tie.Joined1 invariant-loop decreases-loop) →
+    (c : tie.Joined-f-s invariant-loop decreases-loop) →
     let k = c.before in
     let l = k.before.before.before in
-    let a = l.before.before.before.args in
-    k.before.stride.result ≡ k.stride2.result →
-    take 12 (drop l.loop.i a.first.now) ≡ take 12 (drop l.loop.j a.second.now)
+    let a = l.args in
+    k.stride-f.result ≡ k.stride-s.result →
+    take 12 (drop l.loop-i.i a.first.now) ≡ take 12 (drop l.loop-i.j a.second.now)
 agreed c e =
-    ⊎_elim
-    (λ w.
-    let t : tie.After-same-arg invariant-loop decreases-loop = record { before = record { before = c.before; if1 = w.0 }; same-arg = w.1 } in
-    (compared (record { before = record { before = t; same-arg2 = w.2 }; same = w.3 })).0 (not-false _ w.4.left))
-    (λ w. absurd (w.left e))
-    c.if1.branch
+    let a = c.args in
+    let v = c.loop-i in
+    elim c.if-f-s.branch [
+      | then-f-s+else-not-same w ↦
+          let both = (stepping c.before).both_go w.if-f-s.true in
+          let k : v.i + c.stride-f.result - v.i ≡ 12 = omega arith in
+          let m : v.j + c.stride-s.result - v.j ≡ 12 = omega (arith, w.if-f-s.true) in
+          (simp (k, m) at w.same.ensures).0 w.if-not-same.false
+      | else-f-s w ↦ absurd (w.if-f-s.false e)
+    ]
 
-loop-again : tie.Need-loop-preserved invariant-loop decreases-loop
+loop-again : tie.Need-loop-i-preserved invariant-loop decreases-loop
 loop-again c =
     let l = c.before.before.before.before in
-    let v = l.loop.invariant in
+    let v = l.loop-i.invariant in
     let p = stepping c.before in
     record {
       walked = p.walked;
@@ -167,17 +170,16 @@ loop-again c =
       clashes_left = v.clashes_left ∙ p.clashes_left v.first-rises v.second-rises (agreed c);
     }
 
-returns-2 : tie.Need-returns-2 invariant-loop decreases-loop
+returns-2 : tie.Need-returns invariant-loop decreases-loop
 unfolding check_clash clashes
 returns-2 c =
     let l = c.before in
     let a = l.before.before.before in
     let one = a.args.first.now in
     let two = a.args.second.now in
-    let v = l.loop in
-    let none : clashes (from one v.i) (from two v.j) ≡ false = rw (records_end one v.i (omega arith)) in
-    let all = ended one two a.requires.0.whole a.requires.1.whole v.i v.j v.n v.invariant.walked (omega arith) in
-    rw (v.invariant.clashes_left, none, ← all)
+    let none : clashes (from one l.loop-i.i) (from two l.loop-i.j) ≡ false = rw (records_end one l.loop-i.i (omega arith)) in
+    let all = ended one two a.requires.0.whole a.requires.1.whole l.loop-i.i l.loop-i.j l.loop-i.n l.loop-i.invariant.walked (omega arith) in
+    rw (l.loop-i.invariant.clashes_left, none, ← all)
 
 pub count_spec : {M : Type 1} → statement M
 count_spec =

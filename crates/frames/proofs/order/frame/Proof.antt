@@ -10,16 +10,16 @@ use Rattle.frames.proofs.Records.{record_field}
 use Rattle.frames.proofs.order.frame.Statement.{statement}
 use Rattle.frames.proofs.order.frame.Tie as tie
 
-add-unsigned16 : tie.Need-overflow-add-unsigned16
+add-unsigned16 : tie.Need-overflow_add-i
 add-unsigned16 c = search rules
 
-shared-slice-read-unsigned16 : tie.Need-shared-slice-read-unsigned16
+shared-slice-read-unsigned16 : tie.Need-bounds-store-i
 shared-slice-read-unsigned16 c = search rules
 
-add-unsigned16-2 : tie.Need-overflow-add-unsigned16-2
+add-unsigned16-2 : tie.Need-overflow_add-i-2
 add-unsigned16-2 c = search rules
 
-shared-slice-read-unsigned16-2 : tie.Need-shared-slice-read-unsigned16-2
+shared-slice-read-unsigned16-2 : tie.Need-bounds-store-i-2
 shared-slice-read-unsigned16-2 c = search rules
 
 unsigned16-requires : tie.Need-unsigned16-requires
@@ -34,8 +34,8 @@ returns c =
     let k = rw e at (pair_at a.store.now (a.i + 10) (omega arith)) in
     c.unsigned16.ensures ∙ k ∙ sym (record_field a.store.now a.i 10 (omega arith))
 
-pub frame-spec : {M : Type 1} → statement M
-frame-spec =
+pub frame_spec : {M : Type 1} → statement M
+frame_spec =
     tie.close
     (tie.spec
     add-unsigned16
