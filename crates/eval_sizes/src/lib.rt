@@ -1,5 +1,6 @@
 // Sizes of the residuals of a chunk's points, for one line.
 #![tactic(auto)]
+
 ghost use Rattle.std.specs.Prelude.{◌≡◌};
 ghost use Rattle.eval_whole.specs.Whole.{smaller_of, sized};
 ghost use Rattle.eval_lanes.specs.Lanes.{four, taken, Lessened};

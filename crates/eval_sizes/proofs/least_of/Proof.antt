@@ -3,10 +3,6 @@ use Rattle.eval_whole.specs.Whole.{smaller_of}
 use borrow.Author.Rules.{rules}
 use Rattle.eval_sizes.proofs.least_of.Statement.{statement}
 use Rattle.eval_sizes.proofs.least_of.Tie as tie
-use Rattle.eval_sizes.proofs.least_of.Reads as reads
-use Rattle.eval_sizes.proofs.least_of.Lts as lts
-use Rattle.eval_whole.proofs.larger.Reads as larger-reads
-use Rattle.eval_whole.proofs.smaller.Reads as smaller-reads
 
 larger-requires : tie.Need-larger-requires
 larger-requires c κs = search rules
@@ -15,7 +11,7 @@ smaller-requires : tie.Need-smaller-requires
 smaller-requires c κs = search rules
 
 returns : tie.Need-returns
-returns c = c.smaller.ensures ∙ ap (smaller_of c.before.before.args.m) c.before.larger.ensures
+returns c = c.smaller.ensures ∙ ap (smaller_of c.args.m) c.larger.ensures
 
-pub least-of-spec : {M : Type 1} → statement M
-least-of-spec = tie.close (tie.spec larger-requires smaller-requires returns)
+pub least_of_spec : {M : Type 1} → statement M
+least_of_spec = tie.close (tie.spec larger-requires smaller-requires returns)
