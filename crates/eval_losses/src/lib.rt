@@ -1,5 +1,6 @@
 // Losses of a chunk's sizes, and their sums.
 #![tactic(auto)]
+
 ghost use Rattle.std.specs.Prelude.{cond, ◌≡◌, ℕ, ◌≤◌, ◌<◌, pos};
 ghost use Rattle.std.specs.Float.{binary64};
 ghost use Rattle.std.specs.Float.Ieee.{mul, lt, of_int};

@@ -7,11 +7,6 @@ use Rattle.eval_losses.specs.Losses.{loss_in}
 use borrow.Author.Rules.{rules}
 use Rattle.eval_losses.proofs.loss.Statement.{statement}
 use Rattle.eval_losses.proofs.loss.Tie as tie
-use Rattle.eval_losses.proofs.loss.Reads as reads
-use Rattle.eval_losses.proofs.loss.Lts as lts
-use Rattle.eval_losses.proofs.cut_square.Reads as cut-square-reads
-use Rattle.eval_losses.proofs.over.Reads as over_reads
-use Rattle.eval_whole.proofs.smaller.Reads as smaller-reads
 
 no-loss : (p : ℕ) (ε x : Float) → (p ≡ 0 → ⊥) → (p ≡ 1 → ⊥) → (p ≡ 2 → ⊥) → loss_in p ε x ≡ zeroth
 unfolding loss_in
@@ -26,34 +21,27 @@ over-requires c κs = search rules
 smaller-requires : tie.Need-smaller-requires
 smaller-requires c κs = search rules
 
-cut-square-requires : tie.Need-cut-square-requires
+cut-square-requires : tie.Need-cut_square-requires
 cut-square-requires c κs = search rules
 
-returns : tie.Need-returns
+returns : tie.Need-returns-in-0
 unfolding loss_in
-returns c = let e : c.before.before.args.p ≡ 0 = c.before.match.keys1 in rw e c.over.ensures
+returns c = let e : c.args.p ≡ 0 = c.in-0.is in rw e c.over.ensures
 
-returns-2 : tie.Need-returns-2
+returns-2 : tie.Need-returns-in-1
 unfolding loss_in
-returns-2 c = let e : c.before.before.args.p ≡ 1 = c.before.match.keys2 in rw e c.smaller.ensures
+returns-2 c = let e : c.args.p ≡ 1 = c.in-1.is in rw e c.smaller.ensures
 
-returns-3 : tie.Need-returns-3
+returns-3 : tie.Need-returns-in-2
 unfolding loss_in
-returns-3 c = let e : c.before.before.args.p ≡ 2 = c.before.match.keys3 in rw e c.cut-square.ensures
+returns-3 c = let e : c.args.p ≡ 2 = c.in-2.is in rw e c.cut_square.ensures
 
-returns-4 : tie.Need-returns-4
+returns-4 : tie.Need-returns-in-3-to-255
 returns-4 c =
-    let r = c.match.rest in
-    sym (no-loss c.before.args.p c.before.args.eps c.before.args.size r.0.0.1 r.0.1 r.1)
+    let r = c.in-3-to-255.in-3-to-255-own.rest in
+    sym (no-loss c.args.p c.args.eps c.args.size r.0.0.1 r.0.1 r.1)
 
-pub loss-spec : {M : Type 1} → statement M
-loss-spec =
+pub loss_spec : {M : Type 1} → statement M
+loss_spec =
     tie.close
-    (tie.spec
-    over-requires
-    smaller-requires
-    cut-square-requires
-    returns
-    returns-2
-    returns-3
-    returns-4)
+    (tie.spec over-requires smaller-requires cut-square-requires returns returns-2 returns-3 returns-4)

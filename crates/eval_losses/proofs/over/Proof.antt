@@ -2,11 +2,11 @@
 use Rattle.eval_losses.proofs.over.Statement.{statement}
 use Rattle.eval_losses.proofs.over.Tie as tie
 
-returns : tie.Need-returns
-returns c = rw c.if1.true
+returns : tie.Need-returns-then-eps-size
+returns c = rw c.if-eps-size.true
 
-returns-2 : tie.Need-returns-2
-returns-2 c = rw c.if1.false
+returns-2 : tie.Need-returns-else-eps-size
+returns-2 c = rw c.if-eps-size.false
 
-pub over-spec : {M : Type 1} → statement M
-over-spec = tie.close (tie.spec returns returns-2)
+pub over_spec : {M : Type 1} → statement M
+over_spec = tie.close (tie.spec returns returns-2)
