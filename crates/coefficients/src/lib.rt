@@ -1,5 +1,6 @@
 // Single-precision lines: the coefficients w / 2^S of a line, written and read back, equal to their definition in every bit.
 #![tactic(auto)]
+
 ghost use Rattle.std.specs.Prelude.{◌≡◌, ◌≤◌, [], ◌∷◌, map, drop, to_bits};
 ghost use Rattle.std.specs.Float.{binary32};
 ghost use Rattle.integers.specs.Integers.{all_zero};
@@ -80,6 +81,7 @@ fn coordinate(s: u8, p: u32) -> Reading
 }
 
 // Check 2, on d alone, then check 3.
+#[tactic(auto, using(codes::proofs::Laws::in_order_one), unfolding(crate::specs::Lines::check_used, codes::specs::Codes::in_order))]
 fn check_line(d: u8, s: u8) -> Check
     ensures { result ≡ in_order (check_used d ∷ check_scale s ∷ []) }
 {

@@ -9,16 +9,16 @@ use Rattle.coefficients.proofs.coefficient_of.Tie as tie
 coefficient-requires : tie.Need-coefficient-requires
 coefficient-requires c κs = search rules
 
-returns : tie.Need-returns
+returns : tie.Need-returns-then-s-le15
 unfolding coefficient_or_zero
 returns c =
     let start = c.before.before in
     let read = to_z-of_z w16 start.args.w start.ranges.w in
-    rw (le-leb _ 15 c.before.if1.true) (c.coefficient.ensures ∙ rw read)
+    rw (le-leb _ 15 c.if-s-le15.true) (c.coefficient.ensures ∙ rw read)
 
-returns-2 : tie.Need-returns-2
+returns-2 : tie.Need-returns-else-s-le15
 unfolding coefficient_or_zero
-returns-2 c = rw (lt-leb _ 15 c.if1.false)
+returns-2 c = rw (lt-leb _ 15 c.if-s-le15.false)
 
-pub coefficient-of-spec : {M : Type 1} → statement M
-coefficient-of-spec = tie.close (tie.spec coefficient-requires returns returns-2)
+pub coefficient_of_spec : {M : Type 1} → statement M
+coefficient_of_spec = tie.close (tie.spec coefficient-requires returns returns-2)

@@ -12,15 +12,15 @@ eq-no-nan nan e = absurd (false≢true e)
 eq-no-nan (inf s) e = tt
 eq-no-nan (fin s m e) h = tt
 
-float-to-bits-result : tie.Need-float-to-bits-result
-float-to-bits-result c = eq-no-nan c.before.args.f c.if1.true
+float-to-bits-result : tie.Need-float_to_bits-result
+float-to-bits-result c = eq-no-nan c.args.f c.if-f.true
 
-returns : tie.Need-returns
+returns : tie.Need-returns-then-f
 returns c = search rules
 
-returns-2 : tie.Need-returns-2
+returns-2 : tie.Need-returns-else-f
 unfolding ne to_bits
-returns-2 c = ap (to_bits binary32) (sym (differs_from_itself c.before.args.f (rw c.if1.false tt)))
+returns-2 c = ap (to_bits binary32) (sym (differs_from_itself c.args.f (rw c.if-f.false tt)))
 
-pub pattern-spec : {M : Type 1} → statement M
-pattern-spec = tie.close (tie.spec float-to-bits-result returns returns-2)
+pub pattern_spec : {M : Type 1} → statement M
+pattern_spec = tie.close (tie.spec float-to-bits-result returns returns-2)

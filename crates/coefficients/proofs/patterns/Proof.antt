@@ -22,9 +22,9 @@ returns c =
     let p3 = c.before in
     let p2 = p3.before in
     let p1 = p2.before in
-    λ i. p1.pattern.ensures i ∷ p2.pattern2.ensures i ∷ p3.pattern3.ensures i ∷ c.pattern4.ensures i ∷ []
+    λ i. p1.pattern.ensures i ∷ p2.pattern-2.ensures i ∷ p3.pattern-3.ensures i ∷ c.pattern-4.ensures i ∷ []
 
-pub patterns-spec : {M : Type 1} → statement M
-patterns-spec =
+pub patterns_spec : {M : Type 1} → statement M
+patterns_spec =
     tie.close
     (tie.spec pattern-requires pattern-requires-2 pattern-requires-3 pattern-requires-4 returns)

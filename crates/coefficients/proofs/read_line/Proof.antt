@@ -7,13 +7,13 @@ use Rattle.coefficients.proofs.read_line.Tie as tie
 patterns-requires : tie.Need-patterns-requires
 patterns-requires c κs = search rules
 
-read-patterns-requires : tie.Need-read-patterns-requires
+read-patterns-requires : tie.Need-read_patterns-requires
 read-patterns-requires c κs = search rules
 
 returns : tie.Need-returns
 returns c =
-    let a = c.before.before.args in
-    c.read-patterns.ensures ∙ ap (coordinates_of a.d a.s) c.before.patterns.ensures
+    let a = c.args in
+    c.read_patterns.ensures ∙ ap (coordinates_of a.d a.s) c.patterns.ensures
 
-pub read-line-spec : {M : Type 1} → statement M
-read-line-spec = tie.close (tie.spec patterns-requires read-patterns-requires returns)
+pub read_line_spec : {M : Type 1} → statement M
+read_line_spec = tie.close (tie.spec patterns-requires read-patterns-requires returns)

@@ -11,45 +11,44 @@ use Rattle.coefficients.proofs.Checks.{scale_checked}
 use Rattle.coefficients.proofs.read_patterns.Statement.{statement}
 use Rattle.coefficients.proofs.read_patterns.Tie as tie
 
-check-line-requires : tie.Need-check-line-requires
+check-line-requires : tie.Need-check_line-requires
 check-line-requires c κs = search rules
 
-enum-known-r : tie.Need-enum-known-r
+enum-known-r : tie.Need-enum_known-r
 enum-known-r c = search rules
 
-not-read-requires : tie.Need-not-read-requires
+not-read-requires : tie.Need-not_read-requires
 not-read-requires c κs = search rules
 
-returns : tie.Need-returns
+returns : tie.Need-returns-in-Refuse
 unfolding coordinates_of reading_checks
 returns c =
-    let a = c.before.before.before.before.before.args in
-    let r = c.before.before.r.given in
-    let e = sym c.before.before.before.before.check-line.ensures ∙ r.1 in
-    c.not-read.ensures
+    let a = c.args in
+    let e = sym c.check_line.ensures ∙ c.in-Refuse.is in
+    c.not_read.ensures
     ∙ ap (λ (k : Check). coordinates_if k (map (coordinate_of a.s) a.bits))
-    (sym (after_refusal (check_used a.d ∷ check_scale a.s ∷ []) (check_grid a.d a.s a.bits ∷ []) r.0.0 e))
+    (sym (after_refusal (check_used a.d ∷ check_scale a.s ∷ []) (check_grid a.d a.s a.bits ∷ []) c.in-Refuse.r e))
 
-enum_told : tie.Need-enum-told
+enum_told : tie.Need-enum_told-1
 enum_told c = search rules
 
-passed : (c : tie.After-enum-told)
-    → in_order (check_used c.before.before.before.args.d ∷ check_scale c.before.before.before.args.s ∷ []) ≡ Pass
-passed c = sym c.before.before.check-line.ensures ∙ c.enum_told.given.1
+passed : (c : tie.In_default)
+    → in_order (check_used c.args.d ∷ check_scale c.args.s ∷ []) ≡ Pass
+passed c = sym c.check_line.ensures ∙ c.in_default.is
 
-read-checked-requires : tie.Need-read-checked-requires
-read-checked-requires c κs = let a = c.before.before.before.args in scale_checked (check_used a.d) a.s (passed c)
+read-checked-requires : tie.Need-read_checked-requires
+read-checked-requires c κs = let a = c.args in scale_checked (check_used a.d) a.s (passed c)
 
-returns-2 : tie.Need-returns-2
+returns-2 : tie.Need-returns
 unfolding coordinates_of reading_checks
 returns-2 c =
-    let a = c.before.before.before.before.args in
-    c.read-checked.ensures
+    let a = c.args in
+    c.read_checked.ensures
     ∙ ap (λ (k : Check). coordinates_if k (map (coordinate_of a.s) a.bits))
     (sym (after_pass (check_used a.d ∷ check_scale a.s ∷ []) (check_grid a.d a.s a.bits) (passed c.before)))
 
-pub read-patterns-spec : {M : Type 1} → statement M
-read-patterns-spec =
+pub read_patterns_spec : {M : Type 1} → statement M
+read_patterns_spec =
     tie.close
     (tie.spec
     check-line-requires

@@ -11,45 +11,44 @@ use Rattle.coefficients.proofs.Checks.{scale_checked}
 use Rattle.coefficients.proofs.write_line.Statement.{statement}
 use Rattle.coefficients.proofs.write_line.Tie as tie
 
-check-line-requires : tie.Need-check-line-requires
+check-line-requires : tie.Need-check_line-requires
 check-line-requires c κs = search rules
 
-enum-known-r : tie.Need-enum-known-r
+enum-known-r : tie.Need-enum_known-r
 enum-known-r c = search rules
 
-not-written-requires : tie.Need-not-written-requires
+not-written-requires : tie.Need-not_written-requires
 not-written-requires c κs = search rules
 
-returns : tie.Need-returns
+returns : tie.Need-returns-in-Refuse
 unfolding written_of writing_checks
 returns c =
-    let a = c.before.before.before.before.before.args in
-    let r = c.before.before.r.given in
-    let e = sym c.before.before.before.before.check-line.ensures ∙ r.1 in
+    let a = c.args in
+    let e = sym c.check_line.ensures ∙ c.in-Refuse.is in
     c.not_written.ensures
     ∙ ap (λ (k : Check). written_if k (line_of a.s a.w))
-    (sym (after_refusal (check_used a.d ∷ check_scale a.s ∷ []) (check_vector 1 a.d a.w ∷ []) r.0.0 e))
+    (sym (after_refusal (check_used a.d ∷ check_scale a.s ∷ []) (check_vector 1 a.d a.w ∷ []) c.in-Refuse.r e))
 
-enum_told : tie.Need-enum-told
+enum_told : tie.Need-enum_told-1
 enum_told c = search rules
 
-passed : (c : tie.After-enum-told)
-    → in_order (check_used c.before.before.before.args.d ∷ check_scale c.before.before.before.args.s ∷ []) ≡ Pass
-passed c = sym c.before.before.check-line.ensures ∙ c.enum_told.given.1
+passed : (c : tie.In_default)
+    → in_order (check_used c.args.d ∷ check_scale c.args.s ∷ []) ≡ Pass
+passed c = sym c.check_line.ensures ∙ c.in_default.is
 
-write-checked-requires : tie.Need-write-checked-requires
-write-checked-requires c κs = let a = c.before.before.before.args in scale_checked (check_used a.d) a.s (passed c)
+write-checked-requires : tie.Need-write_checked-requires
+write-checked-requires c κs = let a = c.args in scale_checked (check_used a.d) a.s (passed c)
 
-returns-2 : tie.Need-returns-2
+returns-2 : tie.Need-returns
 unfolding written_of writing_checks
 returns-2 c =
-    let a = c.before.before.before.before.args in
+    let a = c.args in
     c.write_checked.ensures
     ∙ ap (λ (k : Check). written_if k (line_of a.s a.w))
     (sym (after_pass (check_used a.d ∷ check_scale a.s ∷ []) (check_vector 1 a.d a.w) (passed c.before)))
 
-pub write-line-spec : {M : Type 1} → statement M
-write-line-spec =
+pub write_line_spec : {M : Type 1} → statement M
+write_line_spec =
     tie.close
     (tie.spec
     check-line-requires
