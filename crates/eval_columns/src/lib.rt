@@ -1,5 +1,6 @@
 // The records of a store decoded into columns of doubles, chunk by chunk.
 #![tactic(auto)]
+
 mod record;
 
 ghost use Rattle.std.specs.Prelude.{[], ◌≡◌, ℕ, ◌+◌, ◌*◌, ◌-◌, ◌/◌, ◌≤◌, ◌<◌, min, length, get_or};

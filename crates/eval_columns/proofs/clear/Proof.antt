@@ -9,62 +9,59 @@ use Rattle.eval_lanes.proofs.Filling.{none_filled, one_filled, until_filled}
 use borrow.Author.Rules.{rules}
 use Rattle.eval_columns.proofs.clear.Statement.{statement}
 use Rattle.eval_columns.proofs.clear.Tie as tie
-use Rattle.eval_columns.proofs.clear.Reads as reads
-use Rattle.eval_columns.proofs.clear.Lts as lts
-use Rattle.eval_lanes.proofs.known.Reads as known-reads
 
-abbrev invariant-loop : tie.invariant-loop
+abbrev invariant-loop : tie.invariant-loop-k
 invariant-loop out₀ first end k₀ out k = Filled first (λ k a b. b ≡ zeroth) out₀ k out × (k ≤ end)
 
-abbrev decreases-loop : tie.decreases-loop
+abbrev decreases-loop : tie.decreases-loop-k
 decreases-loop out₀ first end k₀ out k = end - k
 
 known-requires : tie.Need-known-requires invariant-loop decreases-loop
 known-requires c κs = search rules
 
-add-if1 : tie.Need-overflow-add-if1 invariant-loop decreases-loop
+add-if1 : tie.Need-overflow_add-first invariant-loop decreases-loop
 add-if1 c = search rules
 
-mul-out : tie.Need-overflow-mul-out invariant-loop decreases-loop
+mul-out : tie.Need-offset_bounds-out-first invariant-loop decreases-loop
 mul-out c = search rules
 
-element-write-out : tie.Need-element-write-out invariant-loop decreases-loop
+element-write-out : tie.Need-bounds-out-first invariant-loop decreases-loop
 element-write-out c = search rules
 
-returns : tie.Need-returns invariant-loop decreases-loop
+returns : tie.Need-returns-then-first-end invariant-loop decreases-loop
 returns c =
     let s = c.before.before.before in
-    let n : length s.args.out.now ≡ 80 = c.before.known.ensures in
-    until_filled c.if1.true (one_filled _ (none_filled _ _ _) (omega (arith, s.requires.1)) refl)
+    let n : length s.args.out.now ≡ 80 = c.known.ensures in
+    until_filled c.if-first-end.true (one_filled _ (none_filled _ _ _) (omega (arith, s.requires.1)) refl)
 
-loop-holds : tie.Need-loop-init invariant-loop decreases-loop
-loop-holds c = (none_filled _ _ _, c.before.before.before.requires.0)
+loop-holds : tie.Need-loop-k-init invariant-loop decreases-loop
+loop-holds c = (none_filled _ _ _, c.requires.0)
 
-mul-out-2 : tie.Need-overflow-mul-out-2 invariant-loop decreases-loop
+mul-out-2 : tie.Need-offset_bounds-out-k invariant-loop decreases-loop
 mul-out-2 c = search rules
 
-element-write-out-2 : tie.Need-element-write-out-2 invariant-loop decreases-loop
+element-write-out-2 : tie.Need-bounds-out-k invariant-loop decreases-loop
 element-write-out-2 c = search rules
 
-add-k : tie.Need-overflow-add-k invariant-loop decreases-loop
+add-k : tie.Need-overflow_step-k invariant-loop decreases-loop
 add-k c = search rules
 
-loop-less : tie.Need-loop-smaller invariant-loop decreases-loop
+loop-less : tie.Need-loop-k-smaller invariant-loop decreases-loop
 loop-less c = search rules
 
-loop-again : tie.Need-loop-preserved invariant-loop decreases-loop
+loop-again : tie.Need-loop-k-preserved invariant-loop decreases-loop
 loop-again c =
     let p = c.before in
     let k = p.before.before in
     let s = k.before.before in
     let n : length s.args.out.now ≡ 80 = k.known.ensures in
-    (one_filled _ p.loop.invariant.0 (omega (arith, c.loop-test.true, s.requires.1)) refl, omega (arith, c.loop-test.true))
+    (one_filled _ p.loop-k.invariant.0 (omega (arith, c.loop-k-test.true, s.requires.1)) refl, omega (arith, c.loop-k-test.true))
 
-returns-2 : tie.Need-returns-2 invariant-loop decreases-loop
+returns-2 : tie.Need-returns invariant-loop decreases-loop
 returns-2 c =
     let p = c.before in
-    let e : p.loop.k ≡ p.before.before.before.before.args.end = omega (arith, c.loop-test.false, p.loop.invariant.1) in
-    until_filled e p.loop.invariant.0
+    let e : p.loop-k.k ≡ p.args.end = omega (arith, c.loop-k-test.false, p.loop-k.invariant.1) in
+    until_filled e p.loop-k.invariant.0
 
 pub clear_spec : {M : Type 1} → statement M
 clear_spec =

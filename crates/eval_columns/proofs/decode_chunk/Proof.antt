@@ -11,59 +11,57 @@ use borrow.Author.Rules.{rules}
 use Rattle.eval_columns.proofs.decode_chunk.Statement.{statement}
 use Rattle.eval_columns.proofs.decode_chunk.Tie as tie
 
-decode-records-requires : tie.Need-decode-records-requires
+decode-records-requires : tie.Need-decode_records-requires
 decode-records-requires c κs = search rules
 
-known-columns-requires : tie.Need-known-columns-requires
+known-columns-requires : tie.Need-known_columns-requires
 known-columns-requires c κs = search rules
 
-index-1-scale-above : tie.Need-bounds-1-scale-above
+index-1-scale-above : tie.Need-bounds-chunk-4
 index-1-scale-above c = search rules
 
-int-to-float-scale-above : tie.Need-int-to-float-scale-above
+int-to-float-scale-above : tie.Need-int_to_float-scale_above
 int-to-float-scale-above c = tt
 
-int-to-float-scale-above-2 : tie.Need-int-to-float-scale-above-2
+int-to-float-scale-above-2 : tie.Need-int_to_float-power
 int-to-float-scale-above-2 c = tt
 
-scale-above-requires : tie.Need-scale-above-requires
+scale-above-requires : tie.Need-scale_above-requires
 scale-above-requires c κs = search rules
 
-returns : tie.Need-returns
+returns : tie.Need-returns-then-scale_above
 returns c =
     let b = c.before in
     let k = b.before.before.before in
-    let r = k.before.before.decode-records in
-    let d = r.ensures in
+    let d = k.decode_records.ensures in
     let s = k.before.before.before.before.before in
-    let e = b.scale-above.ensures in
-    let ys = b.scale-above.new.0 in
+    let e = b.scale_above.ensures in
+    let ys = b.scale_above.new.ys in
     let all =
-    all_samples d.0 s.args.power s.ranges.power.fits ys k.known-columns.ensures e.1 (cast_whole mark (omega arith))
-    (each_above _ _ 80 (sym e.0 ∙ c.if1.true)) in
-    (all, λ n l h. get_or-set_other r.new.0 4 n ys [] (λ q. omega arith) ∙ d.1 n l h)
+    all_samples d.0 s.args.power s.ranges.power.fits ys k.known_columns.ensures e.1 (cast_whole mark (omega arith))
+    (each_above _ _ 80 (sym e.0 ∙ c.if-scale_above.true)) in
+    (all, λ n l h. get_or-set_other k.decode_records.new.chunk 4 n ys [] (λ q. omega arith) ∙ d.1 n l h)
 
-empty-gaps-requires : tie.Need-empty-gaps-requires
+empty-gaps-requires : tie.Need-empty_gaps-requires
 empty-gaps-requires c κs =
     let b = c.before.before in
     let k = b.before.before.before in
-    let d = k.before.before.decode-records.ensures in
+    let d = k.decode_records.ensures in
     let s = k.before.before.before.before.before in
     let few : s.args.t < 256 = search rules in (
       few,
-      scaled d.0 s.args.power s.ranges.power.fits b.scale-above.new.0 k.known-columns.ensures
-          b.scale-above.ensures.1,
+      scaled d.0 s.args.power s.ranges.power.fits b.scale_above.new.ys k.known_columns.ensures
+          b.scale_above.ensures.1,
     )
 
-returns-2 : tie.Need-returns-2
+returns-2 : tie.Need-returns
 returns-2 c =
     let b = c.before.before.before in
-    let r = b.before.before.before.before.before.decode-records in
-    let e = c.empty-gaps.ensures in
-    (e.0, λ n l h. e.1 n l h ∙ get_or-set_other r.new.0 4 n b.scale-above.new.0 [] (λ q. omega arith) ∙ r.ensures.1 n l h)
+    let e = c.empty_gaps.ensures in
+    (e.0, λ n l h. e.1 n l h ∙ get_or-set_other b.decode_records.new.chunk 4 n b.scale_above.new.ys [] (λ q. omega arith) ∙ b.decode_records.ensures.1 n l h)
 
-pub decode-chunk-spec : {M : Type 1} → statement M
-decode-chunk-spec =
+pub decode_chunk_spec : {M : Type 1} → statement M
+decode_chunk_spec =
     tie.close
     (tie.spec
     decode-records-requires

@@ -8,38 +8,35 @@ use Rattle.eval_columns.specs.Inside.{FieldOfSlots}
 use borrow.Author.Rules.{rules}
 use Rattle.eval_columns.proofs.decode_column.Statement.{statement}
 use Rattle.eval_columns.proofs.decode_column.Tie as tie
-use Rattle.eval_columns.proofs.decode_column.Reads as reads
-use Rattle.eval_columns.proofs.decode_column.Lts as lts
-use Rattle.eval_columns.proofs.decode_group.Reads as decode-group-reads
 
-abbrev invariant-loop : tie.invariant-loop
+abbrev invariant-loop : tie.invariant-loop-g
 invariant-loop out₀ store t c g₀ out g = Filled 0 (FieldOfSlots store t c) out₀ (g * 20) out × (g ≤ 4)
 
-abbrev decreases-loop : tie.decreases-loop
+abbrev decreases-loop : tie.decreases-loop-g
 decreases-loop out₀ store t c g₀ out g = 4 - g
 
-loop-holds : tie.Need-loop-init invariant-loop decreases-loop
+loop-holds : tie.Need-loop-g-init invariant-loop decreases-loop
 loop-holds c = (none_filled _ _ _, omega arith)
 
-decode-group-requires : tie.Need-decode-group-requires invariant-loop decreases-loop
+decode-group-requires : tie.Need-decode_group-requires invariant-loop decreases-loop
 decode-group-requires c κs = search rules
 
-add-g : tie.Need-overflow-add-g invariant-loop decreases-loop
+add-g : tie.Need-overflow_step-g invariant-loop decreases-loop
 add-g c = search rules
 
-loop-less : tie.Need-loop-smaller invariant-loop decreases-loop
+loop-less : tie.Need-loop-g-smaller invariant-loop decreases-loop
 loop-less c = search rules
 
-loop-again : tie.Need-loop-preserved invariant-loop decreases-loop
+loop-again : tie.Need-loop-g-preserved invariant-loop decreases-loop
 loop-again c =
     let p = c.before.before.before in
-    let next : p.loop.g * 20 + 20 ≡ (p.loop.g + 1) * 20 = omega arith in
-    (until_filled next (also_filled p.loop.invariant.0 c.decode-group.ensures), omega (arith, c.before.before.loop-test.true))
+    let next : p.loop-g.g * 20 + 20 ≡ (p.loop-g.g + 1) * 20 = omega arith in
+    (until_filled next (also_filled p.loop-g.invariant.0 c.decode_group.ensures), omega (arith, c.loop-g-test.true))
 
 returns : tie.Need-returns invariant-loop decreases-loop
-returns c = all_filled c.before.loop.invariant.0 (omega (arith, c.loop-test.false))
+returns c = all_filled c.loop-g.invariant.0 (omega (arith, c.loop-g-test.false))
 
-pub decode-column-spec : {M : Type 1} → statement M
-decode-column-spec =
+pub decode_column_spec : {M : Type 1} → statement M
+decode_column_spec =
     tie.close
     (tie.spec invariant-loop decreases-loop loop-holds decode-group-requires add-g loop-less loop-again returns)

@@ -11,65 +11,61 @@ use Rattle.eval_columns.proofs.Decoding.{field_cast}
 use borrow.Author.Rules.{rules}
 use Rattle.eval_columns.proofs.read_fields.Statement.{statement}
 use Rattle.eval_columns.proofs.read_fields.Tie as tie
-use Rattle.eval_columns.proofs.read_fields.Reads as reads
-use Rattle.eval_columns.proofs.read_fields.Lts as lts
-use Rattle.eval_columns.proofs.record.field.Reads as field-reads
-use Rattle.eval_lanes.proofs.known.Reads as known-reads
 
-abbrev invariant-loop : tie.invariant-loop
+abbrev invariant-loop : tie.invariant-loop-k
 invariant-loop out₀ o n store i at end place₀ k₀ out place k =
     Filled o (FieldOfRecords store o i at) out₀ k out × (place ≡ (i + (k - o)) * 12 + at) × (k ≤ o + n)
 
-abbrev decreases-loop : tie.decreases-loop
+abbrev decreases-loop : tie.decreases-loop-k
 decreases-loop out₀ o n store i at end place₀ k₀ out place k = o + n - k
 
 known-requires : tie.Need-known-requires invariant-loop decreases-loop
 known-requires c κs = search rules
 
-add-end : tie.Need-overflow-add-end invariant-loop decreases-loop
+add-end : tie.Need-overflow_add-end invariant-loop decreases-loop
 add-end c = search rules
 
-mul-place : tie.Need-overflow-mul-place invariant-loop decreases-loop
+mul-place : tie.Need-overflow_mul-place invariant-loop decreases-loop
 mul-place c = search rules
 
-add-place : tie.Need-overflow-add-place invariant-loop decreases-loop
+add-place : tie.Need-overflow_add-place invariant-loop decreases-loop
 add-place c = search rules
 
-loop-holds : tie.Need-loop-init invariant-loop decreases-loop
+loop-holds : tie.Need-loop-k-init invariant-loop decreases-loop
 loop-holds c = (none_filled _ _ _, omega arith, omega arith)
 
 field-requires : tie.Need-field-requires invariant-loop decreases-loop
 field-requires c κs = search rules
 
-int-to-float-out : tie.Need-int-to-float-out invariant-loop decreases-loop
+int-to-float-out : tie.Need-int_to_float-out invariant-loop decreases-loop
 int-to-float-out c = tt
 
-mul-out : tie.Need-overflow-mul-out invariant-loop decreases-loop
+mul-out : tie.Need-offset_bounds-out-k invariant-loop decreases-loop
 mul-out c = search rules
 
-element-write-out : tie.Need-element-write-out invariant-loop decreases-loop
+element-write-out : tie.Need-bounds-out-k invariant-loop decreases-loop
 element-write-out c = search rules
 
-add-place-2 : tie.Need-overflow-add-place-2 invariant-loop decreases-loop
+add-place-2 : tie.Need-overflow_add-place-in-loop-k invariant-loop decreases-loop
 add-place-2 c = search rules
 
-add-k : tie.Need-overflow-add-k invariant-loop decreases-loop
+add-k : tie.Need-overflow_add-k invariant-loop decreases-loop
 add-k c = search rules
 
-loop-less : tie.Need-loop-smaller invariant-loop decreases-loop
+loop-less : tie.Need-loop-k-smaller invariant-loop decreases-loop
 loop-less c = search rules
 
-loop-again : tie.Need-loop-preserved invariant-loop decreases-loop
+loop-again : tie.Need-loop-k-preserved invariant-loop decreases-loop
 loop-again c =
     let p = c.before.before.before in
     let s = p.before.before.before.before in
     let a = s.args in
-    let n : length a.out.now ≡ 80 = p.before.known.ensures in
-    let v = p.loop.invariant in
-    let i : p.loop.k < a.o + a.n = c.before.before.loop-test.true in
+    let n : length a.out.now ≡ 80 = p.known.ensures in
+    let v = p.loop-k.invariant in
+    let i : p.loop-k.k < a.o + a.n = c.loop-k-test.true in
     let b = v.0.begun in (
       one_filled _ v.0 (omega (arith, s.requires.0))
-          (field_cast (record { sfits = c.before.field.type-inv }) (c.before.field.ensures ∙ ap (signed_at a.store.now) v.1)),
+          (field_cast (record { sfits = c.field.type_inv }) (c.field.ensures ∙ ap (signed_at a.store.now) v.1)),
       omega (arith, v.1),
       omega arith,
     )
@@ -77,12 +73,12 @@ loop-again c =
 returns : tie.Need-returns invariant-loop decreases-loop
 returns c =
     let p = c.before in
-    let a = p.before.before.before.before.args in
-    let e : p.loop.k ≡ a.o + a.n = omega (arith, c.loop-test.false, p.loop.invariant.2) in
-    until_filled e p.loop.invariant.0
+    let a = p.args in
+    let e : p.loop-k.k ≡ a.o + a.n = omega (arith, c.loop-k-test.false, p.loop-k.invariant.2) in
+    until_filled e p.loop-k.invariant.0
 
-pub read-fields-spec : {M : Type 1} → statement M
-read-fields-spec =
+pub read_fields_spec : {M : Type 1} → statement M
+read_fields_spec =
     tie.close
     (tie.spec
     invariant-loop

@@ -12,5 +12,5 @@ returns : tie.Need-returns
 unfolding from_big_endian
 returns c = (omega (arith, c.unsigned16.ensures), omega (arith, c.unsigned16.ensures))
 
-pub joined-spec : {M : Type 1} → statement M
-joined-spec = tie.close (tie.spec unsigned16-requires returns)
+pub joined_spec : {M : Type 1} → statement M
+joined_spec = tie.close (tie.spec unsigned16-requires returns)
