@@ -1,6 +1,7 @@
 // Least sizes over a box of the residuals of a chunk's points, for a line of three coordinates or four: a loop of its own for each, since
 // the compiler leaves a test in one that is so long.
 #![tactic(auto)]
+
 ghost use Rattle.std.specs.Prelude.{max};
 ghost use Rattle.eval_lanes.specs.Lanes.{taken, Lessened};
 ghost use Rattle.eval_box_ends.specs.Ends.{over_line};
