@@ -111,7 +111,8 @@ def wrong_rows(page):
 
 # What is handed out: the calls for C, and all that the program fit computes.
 EXPORTS = ("capi/src/lib.rt", "fit_line/src/lib.rt", "bus_exchange/src/lib.rt")
-USE = re.compile(r"^(?:ghost )?use Rattle·(\w+?)(?:·specs)?\.specs\.(\w+)(?:\.\{([^}]*)\}| as (\w+))", re.M)
+# The words of std's definitions are the language's and on no list.
+USE = re.compile(r"^(?:ghost )?use Rattle\.(?!std\.)(\w+)\.specs\.(\w+)(?:\.\{([^}]*)\}| as (\w+))", re.M)
 
 
 def has_one(words, names):
@@ -171,13 +172,13 @@ class Reader(unittest.TestCase):
         self.assertLess(abs(counted - lines), lines / 20, f"{counted} lines")
 
     def test_a_way_to_the_machine_is_noticed(self):
-        uses = "ghost use Rattle·a.specs.Calls.{answer};\nghost use Rattle·a.specs.Inside.{held};\n"
-        uses += "ghost use Rattle·d.specs.Whole as Whole;\n"
-        export = uses + "pub fn f() -> u8\n    ensures { λ r. ⌜ r ≡ answer Whole.kept ⌝ }\n{\n}\n"
+        uses = "ghost use Rattle.a.specs.Calls.{answer};\nghost use Rattle.a.specs.Inside.{held};\n"
+        uses += "ghost use Rattle.d.specs.Whole as Whole;\n"
+        export = uses + "pub fn f() -> u8\n    ensures { result ≡ answer Whole.kept }\n{\n}\n"
         files = {
-            "a/Calls": "use Rattle·b.specs.Words.{word}\nuse Rattle·a·specs.specs.Other.{other}\n",
-            "b/Words": "use Rattle·b·specs.specs.declared.T.{T}\n",
-            "a/Other": "use Rattle·eval_lanes.specs.Lanes.{lane}\n",
+            "a/Calls": "use Rattle.b.specs.Words.{word}\nuse Rattle.a.specs.Other.{other}\n",
+            "b/Words": "use Rattle.b.specs.declared.T.{T}\n",
+            "a/Other": "use Rattle.eval_lanes.specs.Lanes.{lane}\n",
         }
         reached = reached_from([export], lambda file: files.get(file, ""))
         self.assertEqual(set(reached), {"a/Calls", "b/Words", "a/Other", "d/Whole", "eval_lanes/Lanes"})
