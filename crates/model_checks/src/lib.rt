@@ -1,5 +1,6 @@
 // The checks that the calls on a store and a model make, in the order of their numbers.
 #![tactic(auto)]
+
 ghost use Rattle.std.specs.Prelude.{[], ◌∷◌, ◌≡◌};
 ghost use Rattle.codes.specs.Codes.{in_order};
 ghost use Rattle.points.specs.Points.{points_of, check_stray};

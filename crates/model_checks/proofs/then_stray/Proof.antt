@@ -7,24 +7,24 @@ use Rattle.points.specs.Points.{points_of, check_stray}
 use Rattle.model_checks.proofs.then_stray.Statement.{statement}
 use Rattle.model_checks.proofs.then_stray.Tie as tie
 
-enum_told : tie.Need-enum-told
+enum_told : tie.Need-enum_told-1
 enum_told c = search rules
 
-check-stray-requires : tie.Need-check-stray-requires
+check-stray-requires : tie.Need-check_stray-requires
 check-stray-requires c κs = search rules
 
-enum-known-first : tie.Need-enum-known-first
+enum-known-first : tie.Need-enum_known-first
 enum-known-first c = search rules
 
-returns : tie.Need-returns
+returns : tie.Need-returns-in-Pass
 unfolding in_order
 returns c =
-    let a = c.before.before.before.before.args in
-    rw c.before.enum_told.given.1 (c.check-stray.ensures ∙ sym (in_order_one (check_stray a.d (points_of a.store.now))))
+    let a = c.args in
+    rw c.in-Pass.is (c.check_stray.ensures ∙ sym (in_order_one (check_stray a.d (points_of a.store.now))))
 
-returns-2 : tie.Need-returns-2
+returns-2 : tie.Need-returns-in-Refuse
 unfolding in_order
-returns-2 c = rw c.before.first.given.1 refl
+returns-2 c = rw c.in-Refuse.is refl
 
-pub then-stray-spec : {M : Type 1} → statement M
-then-stray-spec = tie.close (tie.spec enum_told check-stray-requires enum-known-first returns returns-2)
+pub then_stray_spec : {M : Type 1} → statement M
+then_stray_spec = tie.close (tie.spec enum_told check-stray-requires enum-known-first returns returns-2)
