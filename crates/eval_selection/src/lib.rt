@@ -1,5 +1,6 @@
 // The (q + 1)-th largest of sizes in double precision, by counts of how many exceed a number.
 #![tactic(auto)]
+
 mod bisection;
 mod counting;
 mod guesses;

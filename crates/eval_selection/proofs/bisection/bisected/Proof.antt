@@ -5,58 +5,51 @@ use borrow.Author.Rules.{rules}
 use Rattle.eval_selection.proofs.Order.{Bracketed, whole_range, raised, lowered, found}
 use Rattle.eval_selection.proofs.bisection.bisected.Statement.{statement}
 use Rattle.eval_selection.proofs.bisection.bisected.Tie as tie
-use Rattle.eval_selection.proofs.bisection.bisected.Reads as reads
-use Rattle.eval_selection.proofs.bisection.bisected.Lts as lts
-use Rattle.numbers.proofs.least.Reads as least-reads
-use Rattle.eval_selection.proofs.bisection.pivot.Reads as pivot-reads
-use Rattle.eval_selection.proofs.counting.exceeding.Reads as exceeding-reads
 
-abbrev invariant-loop : tie.invariant-loop
+abbrev invariant-loop : tie.invariant-loop-low
 invariant-loop sizes q cap low₀ high₀ low high = Bracketed q (min cap 4503599627370496) sizes low high
 
-abbrev decreases-loop : tie.decreases-loop
+abbrev decreases-loop : tie.decreases-loop-low
 decreases-loop sizes q cap low₀ high₀ low high = high - low
 
-least-requires : tie.Need-least-requires invariant-loop decreases-loop
+least-requires : tie.Need-least-high-requires invariant-loop decreases-loop
 least-requires c κs = search rules
 
-loop-holds : tie.Need-loop-init invariant-loop decreases-loop
-loop-holds c = whole_range _ _ c.least.ensures
+loop-holds : tie.Need-loop-low-init invariant-loop decreases-loop
+loop-holds c = whole_range _ _ c.least-high.ensures
 
-pivot-requires : tie.Need-pivot-requires invariant-loop decreases-loop
-pivot-requires c κs = (omega (arith, c.loop-test.true), omega (arith, c.before.loop.invariant.below))
+pivot-requires : tie.Need-pivot-middle-requires invariant-loop decreases-loop
+pivot-requires c κs = (omega (arith, c.loop-low-test.true), omega (arith, c.loop-low.invariant.below))
 
 exceeding-requires : tie.Need-exceeding-requires invariant-loop decreases-loop
-exceeding-requires c κs = omega (arith, c.pivot.ensures.1, c.before.before.loop.invariant.below)
+exceeding-requires c κs = omega (arith, c.pivot-middle.ensures.1, c.loop-low.invariant.below)
 
-add_low : tie.Need-overflow-add-low invariant-loop decreases-loop
-add_low c = record { fits = omega (arith, c.before.before.pivot.ensures.1, c.before.before.before.before.loop.invariant.below) }
+add_low : tie.Need-overflow_add-low invariant-loop decreases-loop
+add_low c = record { fits = omega (arith, c.pivot-middle.ensures.1, c.loop-low.invariant.below) }
 
-loop-less : tie.Need-loop-smaller invariant-loop decreases-loop
-loop-less c = omega (arith, c.before.before.pivot.ensures.0, c.before.before.pivot.ensures.1)
+loop-less : tie.Need-loop-low-smaller-then-q-exceeding invariant-loop decreases-loop
+loop-less c = omega (arith, c.pivot-middle.ensures.0, c.pivot-middle.ensures.1)
 
-loop-again : tie.Need-loop-preserved invariant-loop decreases-loop
+loop-again : tie.Need-loop-low-preserved-then-q-exceeding invariant-loop decreases-loop
 loop-again c =
-    let n = c.before.exceeding in
-    let r = c.before.before.pivot.ensures in
-    raised c.before.before.before.before.loop.invariant (omega arith) _ r.0 r.1
-    n.result n.ensures.0 (omega (arith, c.if1.true))
+    let r = c.pivot-middle.ensures in
+    raised c.loop-low.invariant (omega arith) _ r.0 r.1
+    c.exceeding.result c.exceeding.ensures.0 (omega (arith, c.if-q-exceeding.true))
 
-loop-less-2 : tie.Need-loop-smaller-2 invariant-loop decreases-loop
-loop-less-2 c = omega (arith, c.before.before.pivot.ensures.0, c.before.before.pivot.ensures.1)
+loop-less-2 : tie.Need-loop-low-smaller invariant-loop decreases-loop
+loop-less-2 c = omega (arith, c.pivot-middle.ensures.0, c.pivot-middle.ensures.1)
 
-loop-again-2 : tie.Need-loop-preserved-2 invariant-loop decreases-loop
+loop-again-2 : tie.Need-loop-low-preserved invariant-loop decreases-loop
 loop-again-2 c =
-    let n = c.before.exceeding in
-    let r = c.before.before.pivot.ensures in
-    lowered c.before.before.before.before.loop.invariant (omega arith) _ r.0 r.1
-    n.result _ n.ensures.1 (omega arith) (omega (arith, c.if1.false))
+    let r = c.pivot-middle.ensures in
+    lowered c.loop-low.invariant (omega arith) _ r.0 r.1
+    c.exceeding.result _ c.exceeding.ensures.1 (omega arith) (omega (arith, c.if-q-exceeding.false))
 
 returns : tie.Need-returns invariant-loop decreases-loop
-returns c = found c.before.loop.invariant c.loop-test.false
+returns c = found c.loop-low.invariant c.loop-low-test.false
 
-pub bisected-spec : {M : Type 1} → statement M
-bisected-spec =
+pub bisected_spec : {M : Type 1} → statement M
+bisected_spec =
     tie.close
     (tie.spec
     invariant-loop

@@ -12,65 +12,61 @@ use Rattle.eval_selection.specs.Selection.{exceeding_in}
 use borrow.Author.Rules.{rules}
 use Rattle.eval_selection.proofs.counting.exceeding_in.Statement.{statement}
 use Rattle.eval_selection.proofs.counting.exceeding_in.Tie as tie
-use Rattle.eval_selection.proofs.counting.exceeding_in.Reads as reads
-use Rattle.eval_selection.proofs.counting.exceeding_in.Lts as lts
-use Rattle.eval_lanes.proofs.known.Reads as known-reads
-use Rattle.eval_selection.proofs.counting.one.Reads as one-reads
 
 abbrev ones : Float → List Float → ℕ → ℕ
 ones a xs k = cond (lt a (lane xs k)) 1 0
 
-abbrev invariant-loop : tie.invariant-loop
+abbrev invariant-loop : tie.invariant-loop-i
 invariant-loop sizes a count₀ i₀ count i = (i ≤ 80) × (count ≤ i) × (count ≡ sum_of (ones a sizes) i)
 
-abbrev decreases-loop : tie.decreases-loop
+abbrev decreases-loop : tie.decreases-loop-i
 decreases-loop sizes a count₀ i₀ count i = 80 - i
 
 known-requires : tie.Need-known-requires invariant-loop decreases-loop
 known-requires c κs = search rules
 
-loop-holds : tie.Need-loop-init invariant-loop decreases-loop
+loop-holds : tie.Need-loop-i-init invariant-loop decreases-loop
 unfolding sum_of
 loop-holds c = (omega arith, omega arith, refl)
 
-mul-one : tie.Need-overflow-mul-one invariant-loop decreases-loop
+mul-one : tie.Need-offset_bounds-sizes-i invariant-loop decreases-loop
 mul-one c = search rules
 
-element-copy-out-one : tie.Need-element-copy-out-one invariant-loop decreases-loop
+element-copy-out-one : tie.Need-bounds-sizes-i invariant-loop decreases-loop
 element-copy-out-one c = search rules
 
-one-requires : tie.Need-one-requires invariant-loop decreases-loop
+one-requires : tie.Need-one-count-requires invariant-loop decreases-loop
 one-requires c κs = search rules
 
-add-count : tie.Need-overflow-add-count invariant-loop decreases-loop
-add-count c = omega (arith, c.one.ensures.1)
+add-count : tie.Need-overflow_add-count invariant-loop decreases-loop
+add-count c = omega (arith, c.one-count.ensures.1)
 
-add-i : tie.Need-overflow-add-i invariant-loop decreases-loop
+add-i : tie.Need-overflow_step-i invariant-loop decreases-loop
 add-i c = search rules
 
-loop-less : tie.Need-loop-smaller invariant-loop decreases-loop
+loop-less : tie.Need-loop-i-smaller invariant-loop decreases-loop
 loop-less c = search rules
 
-loop-again : tie.Need-loop-preserved invariant-loop decreases-loop
+loop-again : tie.Need-loop-i-preserved invariant-loop decreases-loop
 loop-again c =
     let p = c.before.before.before in
-    let a = p.before.before.before.args in
-    let r = c.one.ensures in (
-      omega (arith, c.before.before.loop-test.true),
-      omega (arith, p.loop.invariant.1, r.1),
-      omega (arith, p.loop.invariant.2, r.0, sum_more (ones a.a a.sizes.now) p.loop.i),
+    let a = p.args in
+    let r = c.one-count.ensures in (
+      omega (arith, c.loop-i-test.true),
+      omega (arith, p.loop-i.invariant.1, r.1),
+      omega (arith, p.loop-i.invariant.2, r.0, sum_more (ones a.a a.sizes.now) p.loop-i.i),
     )
 
 returns : tie.Need-returns invariant-loop decreases-loop
 unfolding exceeding_in
 returns c =
     let p = c.before in
-    let a = p.before.before.before.args in
-    let e : p.loop.i ≡ 80 = omega (arith, p.loop.invariant.0, c.loop-test.false) in
-    (p.loop.invariant.2 ∙ ap (sum_of (ones a.a a.sizes.now)) e, omega (arith, p.loop.invariant.1))
+    let a = p.args in
+    let e : p.loop-i.i ≡ 80 = omega (arith, p.loop-i.invariant.0, c.loop-i-test.false) in
+    (p.loop-i.invariant.2 ∙ ap (sum_of (ones a.a a.sizes.now)) e, omega (arith, p.loop-i.invariant.1))
 
-pub exceeding-in-spec : {M : Type 1} → statement M
-exceeding-in-spec =
+pub exceeding_in_spec : {M : Type 1} → statement M
+exceeding_in_spec =
     tie.close
     (tie.spec
     invariant-loop
