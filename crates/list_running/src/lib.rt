@@ -2,6 +2,7 @@
 // its entry says so. The newest boxes are late: they stand in a short table of their own, with a list of their bounds beside it. So a split
 // moves few rows; those of the table close up where the late ones are moved in.
 #![tactic(auto)]
+
 ghost use Rattle.std.specs.Prelude.{◌≡◌, ◌-◌};
 ghost use Rattle.list_running.specs.Listing.{FoundBy, SettledBy, TakenBy};
 
@@ -67,6 +68,7 @@ fn one_less(n: usize) -> usize
 }
 
 // Takes out the box that was found. A row of the table is gone then, and no other moves.
+#[tactic(auto, using(crate::proofs::Entries::one_answer))]
 pub fn take(
     bounds: &mut [u64],
     leasts: &mut Leasts,

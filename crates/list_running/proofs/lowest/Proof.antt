@@ -4,36 +4,36 @@ use borrow.Author.Tests.{eq-eqb, ne_eqb, lt-ltb, le-ltb}
 use Rattle.list_running.proofs.lowest.Statement.{statement}
 use Rattle.list_running.proofs.lowest.Tie as tie
 
-lowest-requires : tie.Need-lowest-requires
+lowest-requires : tie.Need-lowest-far-requires
 lowest-requires c κs = search rules
 
-returns : tie.Need-returns
+returns : tie.Need-returns-then-list-eq0
 returns c =
     let far = c.before.before.before in
-    let g = far.before.args.list in
-    record { far = far.lowest.result; far_is = far.lowest.ensures; is = rw (eq-eqb g.number 0 c.if1.true) }
+    let g = far.args.list in
+    record { far = far.lowest-far.result; far_is = far.lowest-far.ensures; is = rw (eq-eqb g.number 0 c.if-list-eq0.true) }
 
-returns-2 : tie.Need-returns-2
+returns-2 : tie.Need-returns-then-near-far
 returns-2 c =
     let some = c.before.before.before in
     let far = some.before.before.before in
-    let g = far.before.args.list in
+    let g = far.args.list in
     record {
-      far = far.lowest.result;
-      far_is = far.lowest.ensures;
-      is = rw (ne_eqb g.number 0 some.if1.false, lt-ltb g.near.bound far.lowest.result.bound c.if2.true);
+      far = far.lowest-far.result;
+      far_is = far.lowest-far.ensures;
+      is = rw (ne_eqb g.number 0 some.if-list-eq0.false, lt-ltb g.near.bound far.lowest-far.result.bound c.if-near-far.true);
     }
 
-returns-3 : tie.Need-returns-3
+returns-3 : tie.Need-returns
 returns-3 c =
     let some = c.before.before.before in
     let far = some.before.before.before in
-    let g = far.before.args.list in
+    let g = far.args.list in
     record {
-      far = far.lowest.result;
-      far_is = far.lowest.ensures;
-      is = rw (ne_eqb g.number 0 some.if1.false, le-ltb g.near.bound far.lowest.result.bound c.if2.false);
+      far = far.lowest-far.result;
+      far_is = far.lowest-far.ensures;
+      is = rw (ne_eqb g.number 0 some.if-list-eq0.false, le-ltb g.near.bound far.lowest-far.result.bound c.if-near-far.false);
     }
 
-pub lowest-spec : {M : Type 1} → statement M
-lowest-spec = tie.close (tie.spec lowest-requires returns returns-2 returns-3)
+pub lowest_spec : {M : Type 1} → statement M
+lowest_spec = tie.close (tie.spec lowest-requires returns returns-2 returns-3)
