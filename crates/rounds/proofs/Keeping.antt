@@ -1,7 +1,7 @@
 -- Laws of the elements of a list that pass a test. Assumes nothing.
-use mathlib.Core.Path.{◌≡◌, refl, ap, ◌∙◌}
+use mathlib.Core.Path.{◌≡◌, refl, ap}
 use mathlib.Core.Bool.{Bool, true, false, cond, ◌&&◌}
-use mathlib.Core.List.{List, [], ◌∷◌, ◌++◌}
+use mathlib.Core.List.{List, [], ◌∷◌}
 use Rattle.integers.specs.Lists.{All, none, also}
 use Rattle.certificate.specs.Search.{keep_if}
 

@@ -3,28 +3,28 @@ use mathlib.Core.Path.{◌≡◌, refl, sym, ap, subst, ◌∙◌}
 use mathlib.Core.Bool.{Bool, true, false, cond, not, ◌&&◌, ◌||◌}
 use mathlib.Core.List.{List, [], ◌∷◌, ◌++◌}
 use mathlib.Core.Logic.{◌≢◌}
-use Prim.Native.Nat.{ℕ, zero, suc, ◌+◌, ◌-◌, ◌≤◌, ◌<◌}
+use Prim.Native.Nat.{ℕ, zero, suc, ◌+◌, ◌≤◌, ◌<◌}
 use native.Mathlib.Omega.{arith}
-use borrow.Author.Tests.{eq-eqb, le-leb, leb-true}
+use borrow.Author.Tests.{le-leb, leb-true}
 use lib.Dec.{eqb, leb}
 use lib.IntN.{ℤ}
 use lib.ListN.{length, length-append}
-use Rattle.integers.specs.Lists.{All, none, also}
+use Rattle.integers.specs.Lists.{All}
 use Rattle.integers.proofs.Lists.{all_map}
 use Rattle.boxes.specs.Boxes.{InBox}
 use Rattle.jobs.specs.declared.Job.{Job}
 use Rattle.jobs.specs.declared.Model.{Model}
 use Rattle.points.specs.declared.Point.{Point}
 use Rattle.points.specs.Points.{is_gap}
-use Rattle.residuals.specs.Cost.{size_at, cost, bound}
+use Rattle.residuals.specs.Cost.{cost, bound}
 use Rattle.certificate.specs.Search as Search
 use Rattle.certificate.specs.Search.{keep_if, solved, spent, full}
 use Rattle.certificate.specs.Certificate.{Certificate}
 use Rattle.certified_costs.proofs.Made.{fit_certified}
 use Rattle.rounds.specs.Rounds.{samples, solve, fits, is_solved, removes, left_by, removes_any}
-use Rattle.rounds.specs.Rounds.{Round, rounds, peeled, removed_by, round_label}
+use Rattle.rounds.specs.Rounds.{Round, rounds, peeled, round_label}
 use Rattle.rounds.specs.Rounds.{fitted}
-use Rattle.rounds.specs.Laws.{RoundHolds, Labelled, Peeling, AllPeeling}
+use Rattle.rounds.specs.Laws.{RoundHolds, Peeling, AllPeeling}
 use Rattle.rounds.proofs.Keeping.{keep_same, keep_all, keep_twice, keep_passed}
 use Rattle.rounds.proofs.Labels.{untouched, label_zero, label_sample, labelled, not_five}
 use Rattle.rounds.proofs.Counting.{cost_fitted}
