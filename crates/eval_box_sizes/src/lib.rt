@@ -1,5 +1,6 @@
 // Least sizes over a box of the residuals of a chunk's points, for one line.
 #![tactic(auto)]
+
 ghost use Rattle.std.specs.Prelude.{min};
 ghost use Rattle.eval_lanes.specs.Lanes.{taken, Lessened};
 ghost use Rattle.eval_box_ends.specs.Ends.{over_line};

@@ -12,107 +12,102 @@ use Rattle.eval_box_ends.specs.Ends.{nearest, least_in}
 use borrow.Author.Rules.{rules}
 use Rattle.eval_box_sizes.proofs.over_few.Statement.{statement}
 use Rattle.eval_box_sizes.proofs.over_few.Tie as tie
-use Rattle.eval_box_sizes.proofs.over_few.Reads as reads
-use Rattle.eval_box_sizes.proofs.over_few.Lts as lts
-use Rattle.eval_box_ends.proofs.few_ends.Reads as few-ends-reads
-use Rattle.eval_box_ends.proofs.least_of.Reads as least-of-reads
-use Rattle.eval_lanes.proofs.known.Reads as known-reads
 
-abbrev invariant-loop : tie.invariant-loop
+abbrev invariant-loop : tie.invariant-loop-i
 invariant-loop least₀ s d l1 h1 l2 h2 l3 h3 l4 h4 i₀ least i =
     Filled 0 (λ k m r. r ≡ smaller_of m (least_in s (four l1 l2 l3 l4) (four h1 h2 h3 h4) (min (taken d) 2) k)) least₀ i least
 
-abbrev decreases-loop : tie.decreases-loop
+abbrev decreases-loop : tie.decreases-loop-i
 decreases-loop least₀ s d l1 h1 l2 h2 l3 h3 l4 h4 i₀ least i = 80 - i
 
 known-requires : tie.Need-known-requires invariant-loop decreases-loop
 known-requires c κs = search rules
 
-loop-holds : tie.Need-loop-init invariant-loop decreases-loop
+loop-holds : tie.Need-loop-i-init invariant-loop decreases-loop
 loop-holds c = none_filled 0 _ _
 
-mul-few-ends : tie.Need-overflow-mul-few-ends invariant-loop decreases-loop
+mul-few-ends : tie.Need-offset_bounds-s-i invariant-loop decreases-loop
 mul-few-ends c = search rules
 
-index-1-few-ends : tie.Need-bounds-1-few-ends invariant-loop decreases-loop
+index-1-few-ends : tie.Need-bounds-s-4 invariant-loop decreases-loop
 index-1-few-ends c = search rules
 
-index-2-few-ends : tie.Need-bounds-2-few-ends invariant-loop decreases-loop
+index-2-few-ends : tie.Need-bounds-s-i invariant-loop decreases-loop
 index-2-few-ends c = search rules
 
-mul-few-ends-2 : tie.Need-overflow-mul-few-ends-2 invariant-loop decreases-loop
+mul-few-ends-2 : tie.Need-offset_bounds-s-i-in-loop-i invariant-loop decreases-loop
 mul-few-ends-2 c = search rules
 
-index-1-few-ends-2 : tie.Need-bounds-1-few-ends-2 invariant-loop decreases-loop
+index-1-few-ends-2 : tie.Need-bounds-s-0 invariant-loop decreases-loop
 index-1-few-ends-2 c = search rules
 
-index-2-few-ends-2 : tie.Need-bounds-2-few-ends-2 invariant-loop decreases-loop
+index-2-few-ends-2 : tie.Need-bounds-s-i-in-loop-i invariant-loop decreases-loop
 index-2-few-ends-2 c = search rules
 
-mul-few-ends-3 : tie.Need-overflow-mul-few-ends-3 invariant-loop decreases-loop
+mul-few-ends-3 : tie.Need-offset_bounds-s-i-in-loop-i-2 invariant-loop decreases-loop
 mul-few-ends-3 c = search rules
 
-index-1-few-ends-3 : tie.Need-bounds-1-few-ends-3 invariant-loop decreases-loop
+index-1-few-ends-3 : tie.Need-bounds-s-1 invariant-loop decreases-loop
 index-1-few-ends-3 c = search rules
 
-index-2-few-ends-3 : tie.Need-bounds-2-few-ends-3 invariant-loop decreases-loop
+index-2-few-ends-3 : tie.Need-bounds-s-i-in-loop-i-2 invariant-loop decreases-loop
 index-2-few-ends-3 c = search rules
 
-mul-few-ends-4 : tie.Need-overflow-mul-few-ends-4 invariant-loop decreases-loop
+mul-few-ends-4 : tie.Need-offset_bounds-s-i-in-loop-i-3 invariant-loop decreases-loop
 mul-few-ends-4 c = search rules
 
-index-1-few-ends-4 : tie.Need-bounds-1-few-ends-4 invariant-loop decreases-loop
+index-1-few-ends-4 : tie.Need-bounds-s-2 invariant-loop decreases-loop
 index-1-few-ends-4 c = search rules
 
-index-2-few-ends-4 : tie.Need-bounds-2-few-ends-4 invariant-loop decreases-loop
+index-2-few-ends-4 : tie.Need-bounds-s-i-in-loop-i-3 invariant-loop decreases-loop
 index-2-few-ends-4 c = search rules
 
-mul-few-ends-5 : tie.Need-overflow-mul-few-ends-5 invariant-loop decreases-loop
+mul-few-ends-5 : tie.Need-offset_bounds-s-i-in-loop-i-4 invariant-loop decreases-loop
 mul-few-ends-5 c = search rules
 
-index-1-few-ends-5 : tie.Need-bounds-1-few-ends-5 invariant-loop decreases-loop
+index-1-few-ends-5 : tie.Need-bounds-s-3 invariant-loop decreases-loop
 index-1-few-ends-5 c = search rules
 
-index-2-few-ends-5 : tie.Need-bounds-2-few-ends-5 invariant-loop decreases-loop
+index-2-few-ends-5 : tie.Need-bounds-s-i-in-loop-i-4 invariant-loop decreases-loop
 index-2-few-ends-5 c = search rules
 
-few-ends-requires : tie.Need-few-ends-requires invariant-loop decreases-loop
+few-ends-requires : tie.Need-few_ends-e-requires invariant-loop decreases-loop
 few-ends-requires c κs = search rules
 
-mul-least-of : tie.Need-overflow-mul-least-of invariant-loop decreases-loop
+mul-least-of : tie.Need-offset_bounds-least-i invariant-loop decreases-loop
 mul-least-of c = search rules
 
-element-copy-out-least-of : tie.Need-element-copy-out-least-of invariant-loop decreases-loop
+element-copy-out-least-of : tie.Need-bounds-least-i invariant-loop decreases-loop
 element-copy-out-least-of c = search rules
 
-least-of-requires : tie.Need-least-of-requires invariant-loop decreases-loop
+least-of-requires : tie.Need-least_of-requires invariant-loop decreases-loop
 least-of-requires c κs = search rules
 
-mul-least : tie.Need-overflow-mul-least invariant-loop decreases-loop
+mul-least : tie.Need-offset_bounds-least-i-in-loop-i invariant-loop decreases-loop
 mul-least c = search rules
 
-element-write-least : tie.Need-element-write-least invariant-loop decreases-loop
+element-write-least : tie.Need-bounds-least-i-in-loop-i invariant-loop decreases-loop
 element-write-least c = search rules
 
-add-i : tie.Need-overflow-add-i invariant-loop decreases-loop
+add-i : tie.Need-overflow_step-i invariant-loop decreases-loop
 add-i c = search rules
 
-loop-less : tie.Need-loop-smaller invariant-loop decreases-loop
+loop-less : tie.Need-loop-i-smaller invariant-loop decreases-loop
 loop-less c = search rules
 
-loop-again : tie.Need-loop-preserved invariant-loop decreases-loop
+loop-again : tie.Need-loop-i-preserved invariant-loop decreases-loop
 loop-again c =
     let p = c.before.before.before.before.before.before.before.before.before in
-    let e = c.before.before.few-ends.ensures in
-    let n : length p.before.before.before.args.least.now ≡ 80 = p.before.known.ensures in
-    one_filled _ p.loop.invariant (omega (arith, c.before.before.before.before.before.before.before.before.loop-test.true))
-    (c.least-of.ensures ∙ ap₂ (λ (x : Float) (y : Float). smaller_of (lane p.loop.least p.loop.i) (nearest x y)) e.0 e.1)
+    let e = c.few_ends-e.ensures in
+    let n : length p.args.least.now ≡ 80 = p.known.ensures in
+    one_filled _ p.loop-i.invariant (omega (arith, c.loop-i-test.true))
+    (c.least_of.ensures ∙ ap₂ (λ (x : Float) (y : Float). smaller_of (lane p.loop-i.least p.loop-i.i) (nearest x y)) e.0 e.1)
 
 returns : tie.Need-returns invariant-loop decreases-loop
-returns c = all_filled c.before.loop.invariant c.loop-test.false
+returns c = all_filled c.loop-i.invariant c.loop-i-test.false
 
-pub over-few-spec : {M : Type 1} → statement M
-over-few-spec =
+pub over_few_spec : {M : Type 1} → statement M
+over_few_spec =
     tie.close
     (tie.spec
     invariant-loop
