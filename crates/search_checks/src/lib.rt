@@ -1,5 +1,6 @@
 // The checks of a search.
 #![tactic(auto)]
+
 ghost use Rattle.std.specs.Prelude.{◌≡◌, ◌/◌, leb};
 ghost use Rattle.codes.specs.Codes.{pass_if};
 ghost use Rattle.codes.specs.declared.Refusal.{Refusal};

@@ -9,19 +9,19 @@ use borrow.Author.Rules.{rules}
 use Rattle.search_checks.proofs.check_search.Statement.{statement}
 use Rattle.search_checks.proofs.check_search.Tie as tie
 
-check-job-requires : tie.Need-check-job-requires
+check-job-requires : tie.Need-check_job-given-requires
 check-job-requires c κs = search rules
 
-check-table-requires : tie.Need-check-table-requires
+check-table-requires : tie.Need-check_table-table-requires
 check-table-requires c κs = search rules
 
-check-bounds-requires : tie.Need-check-bounds-requires
+check-bounds-requires : tie.Need-check_bounds-bounds-requires
 check-bounds-requires c κs = search rules
 
-in-order-requires : tie.Need-in-order-requires
+in-order-requires : tie.Need-in_order-requires
 in-order-requires c κs = search rules
 
-in-order-requires-2 : tie.Need-in-order-requires-2
+in-order-requires-2 : tie.Need-in_order-requires-2
 in-order-requires-2 c κs = search rules
 
 abbrev both : Check → Check → Check
@@ -31,14 +31,14 @@ returns : tie.Need-returns
 unfolding check_search
 returns c =
     let made = c.before.before in
-    c.in-order2.ensures
+    c.in_order-2.ensures
     ∙ ap₂ both
-    (c.before.in_order.ensures ∙ ap₂ both made.before.before.check-job.ensures made.before.check-table.ensures)
-    made.check-bounds.ensures
+    (c.in_order.ensures ∙ ap₂ both made.check_job-given.ensures made.check_table-table.ensures)
+    made.check_bounds-bounds.ensures
     ∙ in_order_group (_ ∷ _ ∷ []) (_ ∷ [])
 
-pub check-search-spec : {M : Type 1} → statement M
-check-search-spec =
+pub check_search_spec : {M : Type 1} → statement M
+check_search_spec =
     tie.close
     (tie.spec
     check-job-requires
