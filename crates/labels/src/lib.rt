@@ -1,5 +1,6 @@
 // The label of each point of a store: the line that is nearest to it; a gap has its own.
 #![tactic(auto)]
+
 mod nearest;
 
 ghost use Rattle.std.specs.Prelude.{map, ◌≡◌, ◌≤◌, length};

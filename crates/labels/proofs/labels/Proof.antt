@@ -19,66 +19,65 @@ use Rattle.labels.proofs.Passed.{room_decides, first_refuses}
 use Rattle.labels.proofs.labels.Statement.{statement}
 use Rattle.labels.proofs.labels.Tie as tie
 
-module _ (c : tie.After-enum-told) where
+module _ (c : tie.In-Pass) where
   pass :
-      let a = c.before.before.before.before.before.args in
-      check_threshold a.store.now a.m a.t3 ≡ Pass
-  pass = sym c.before.before.check-threshold.ensures ∙ c.enum_told.given.1
+      let a = c.args in
+      check_threshold a.store.now a.m a.v ≡ Pass
+  pass = sym c.check_threshold.ensures ∙ c.in-Pass.is
 
 points_number : (store : List ℕ) → length (points_of store) ≡ length store / 12
 unfolding points_of
 points_number store = points_length store (length store / 12)
 
-check-threshold-requires : tie.Need-check-threshold-requires
+check-threshold-requires : tie.Need-check_threshold-requires
 check-threshold-requires c κs = search rules
 
-enum_told : tie.Need-enum-told
+enum_told : tie.Need-enum_told-1
 enum_told c = search rules
 
-returns : tie.Need-returns
+returns : tie.Need-returns-then-out-count
 unfolding labels_answer labelled
 returns c =
     let e = c.before in
-    let a = e.before.before.before.before.before.args in
-    let short : length a.out.now < length (points_of a.store.now) = omega (arith, points_number a.store.now, c.if1.true) in
-    let refuse : check_labels a.store.now a.m a.t3 a.out.now ≡ Refuse Short =
-    room_decides a.store.now a.m a.t3 a.out.now (pass e) ∙ ap (λ t. pass_if t Short) (lt-leb _ _ short) in
+    let a = e.args in
+    let short : length a.out.now < length (points_of a.store.now) = omega (arith, points_number a.store.now, c.if-out-count.true) in
+    let refuse : check_labels a.store.now a.m a.v a.out.now ≡ Refuse Short =
+    room_decides a.store.now a.m a.v a.out.now (pass e) ∙ ap (λ t. pass_if t Short) (lt-leb _ _ short) in
     rw refuse (refl, refl)
 
-write-labels-requires : tie.Need-write-labels-requires
+write-labels-requires : tie.Need-write_labels-requires
 write-labels-requires c κs =
     let e = c.before.before.before in
-    let a = e.before.before.before.before.before.args in
-    (ready a.store.now a.m (threshold_model a.store.now a.m a.t3 (pass e)), omega (arith, points_number a.store.now))
+    let a = e.args in
+    (ready a.store.now a.m (threshold_model a.store.now a.m a.v (pass e)), omega (arith, points_number a.store.now))
 
-enum-known-r : tie.Need-enum-known-r
+enum-known-r : tie.Need-enum_known-r
 enum-known-r c = search rules
 
-same_length : tie.Need-same-length
+same_length : tie.Need-shape_of-out
 same_length c = search rules
 
-returns-2 : tie.Need-returns-2
+returns-2 : tie.Need-returns-else-out-count
 unfolding labels_answer labelled
 returns-2 c =
     let e = c.before.before.before.before.before.before in
-    let a = e.before.before.before.before.before.args in
+    let a = e.args in
     let room : length (points_of a.store.now) ≤ length a.out.now = omega (arith, points_number a.store.now) in
-    let accept : check_labels a.store.now a.m a.t3 a.out.now ≡ Pass =
-    room_decides a.store.now a.m a.t3 a.out.now (pass e) ∙ ap (λ t. pass_if t Short) (le-leb _ _ room) in
-    rw accept (ap Value (sym (points_number a.store.now)), c.before.before.write-labels.ensures)
+    let accept : check_labels a.store.now a.m a.v a.out.now ≡ Pass =
+    room_decides a.store.now a.m a.v a.out.now (pass e) ∙ ap (λ t. pass_if t Short) (le-leb _ _ room) in
+    rw accept (ap Value (sym (points_number a.store.now)), c.write_labels.ensures)
 
-returns-3 : tie.Need-returns-3
+returns-3 : tie.Need-returns-in-Refuse
 unfolding labels_answer labelled
 returns-3 c =
-    let e = c.before.before.before in
-    let a = e.before.before.before.args in
-    let r = c.before.r in
+    let e = c.before in
+    let a = e.args in
     let refuse =
-    first_refuses a.store.now a.m a.t3 a.out.now r.given.0.0 (sym e.check-threshold.ensures ∙ r.given.1) in
+    first_refuses a.store.now a.m a.v a.out.now c.in-Refuse.r (sym e.check_threshold.ensures ∙ c.in-Refuse.is) in
     rw refuse (refl, refl)
 
-pub labels-spec : {M : Type 1} → statement M
-labels-spec =
+pub labels_spec : {M : Type 1} → statement M
+labels_spec =
     tie.close
     (tie.spec
     check-threshold-requires

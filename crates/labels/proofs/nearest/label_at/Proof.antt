@@ -42,53 +42,60 @@ not-missing q = by_gap (is_gap q)
     by_gap false e = let z : ◌≡◌ {A = ℕ} 0 1 = cc in absurd (omega arith)
 
 -- what was read
-module _ (c : tie.After-read-point) where
+module _ (c : tie.After-read_point) where
   abbrev start : tie.Start
   start = c.before.before
 
   abbrev here : Point
   here = point_at start.args.store.now start.args.i
 
-  found : c.read-point.result ≡ sample_or_gap here
+  found : c.read_point.result ≡ sample_or_gap here
   unfolding point_answer
-  found = c.read-point.ensures ∙ simp (lt-ltb _ _ start.pre.1)
+  found = c.read_point.ensures ∙ simp (lt-ltb _ _ start.requires.1)
 
-read-point-requires : tie.Need-read-point-requires
+read-point-requires : tie.Need-read_point-requires
 read-point-requires c κs = search rules
 
-enum-known-q : tie.Need-enum-known-q
+enum-known-q : tie.Need-enum_known-q
 enum-known-q c = search rules
 
-label-of-requires : tie.Need-label-of-requires
+label-of-requires : tie.Need-label_of-requires
 label-of-requires c κs =
-    let ready = c.before.before.before.before.before.requires in
+    let ready = c.requires in
     (ready.0.room, ready.0.lines, ready.0.most, ready.0.used, ready.2)
 
-enum_told : tie.Need-enum-told
+enum_told : tie.Need-enum_told-1
 enum_told c = search rules
 
-enum-told-2 : tie.Need-enum-told-2
+enum-told-2 : tie.Need-enum_told-in-Missing
 enum-told-2 c = search rules
 
-returns : tie.Need-returns
+returns : tie.Need-returns-in-Sample
 returns c =
-    let q = c.before.before in
-    let a = (start q.before.before).args in
-    let told = q.q.given.1 in
-    c.label_of.ensures ∙ of-sample a.m a.v.now (here q.before.before) (sym (found q.before.before) ∙ told)
-
-returns-2 : tie.Need-returns-2
-returns-2 c =
     let a = (start c.before.before).args in
-    let told = c.enum_told.given.1 in
-    sym (of-gap a.m a.v.now (here c.before.before) (sym (found c.before.before) ∙ told))
+    let told = c.in-Sample.is in
+    c.label_of.ensures ∙ of-sample a.m a.v.now (here c.before.before) (sym (found c.before.before) ∙ told)
 
-returns-3 : tie.Need-returns-3
+returns-2 : tie.Need-returns-in-Gap
+returns-2 c =
+    let a = (start c.before).args in
+    let told = c.in-Gap.is in
+    sym (of-gap a.m a.v.now (here c.before) (sym (found c.before) ∙ told))
+
+returns-3 : tie.Need-returns-in-Missing
 returns-3 c =
-    let told = c.enum-told2.given.1 in
-    absurd (not-missing (here c.before.before) (sym (found c.before.before) ∙ told))
+    let told = c.in-Missing.is in
+    absurd (not-missing (here c.before) (sym (found c.before) ∙ told))
 
-pub label-at-spec : {M : Type 1} → statement M
-label-at-spec =
+pub label_at_spec : {M : Type 1} → statement M
+label_at_spec =
     tie.close
-    (tie.spec read-point-requires enum-known-q label-of-requires enum_told enum-told-2 returns returns-2 returns-3)
+    (tie.spec
+    read-point-requires
+    enum-known-q
+    label-of-requires
+    enum_told
+    enum-told-2
+    returns
+    returns-2
+    returns-3)

@@ -4,7 +4,6 @@ use borrow.Author.Tests.{lt-ltb, le-ltb}
 use mathlib.Core.Path.{◌≡◌, refl, sym, ap, ap₂, ◌∙◌}
 use mathlib.Core.Bool.{cond}
 use mathlib.Core.List.{List}
-use mathlib.Core.Logic.{⊎_elim}
 use Prim.Native.Nat.{ℕ, ◌+◌, ◌*◌, ◌-◌, ◌≤◌, ◌<◌}
 use native.Mathlib.Nat.{zero-mul}
 use native.Mathlib.Omega.{arith}
@@ -20,6 +19,7 @@ use Rattle.residuals.specs.Inside.{size_of}
 use Rattle.residuals.proofs.Least.{least_more, line_room}
 use Rattle.labels.proofs.Labelling.{first_least_more, fitting_more, once}
 use Rattle.labels.proofs.nearest.nearest_line.Statement.{statement}
+use Rattle.labels.proofs.nearest.nearest_line.Lts.{else-other-size, then-other-size}
 use Rattle.labels.proofs.nearest.nearest_line.Tie as tie
 
 -- |e| of each line
@@ -66,10 +66,10 @@ module _ {f : ℕ → ℕ} {ε n j line size count : ℕ} (g : Found f ε n j li
         few = no_more;
       }
 
-abbrev invariant-loop : tie.invariant-loop
+abbrev invariant-loop : tie.invariant-loop-j
 invariant-loop q v n d power eps line₀ size₀ fitting₀ j₀ line size fitting j = Found (sizes q v d power) eps n j line size fitting
 
-abbrev decreases-loop : tie.decreases-loop
+abbrev decreases-loop : tie.decreases-loop-j
 decreases-loop q v n d power eps line₀ size₀ fitting₀ j₀ line size fitting j = n - j
 
 -- |e| of a residual that was found
@@ -82,95 +82,93 @@ residual-requires c κs =
     let r = line_room 0 a.n a.d 8 c.requires.1 c.requires.0 in
     (omega (arith, zero-mul a.d), c.requires.2)
 
-size-requires : tie.Need-size-requires invariant-loop decreases-loop
+size-requires : tie.Need-size-size-requires invariant-loop decreases-loop
 size-requires c κs = search rules
 
-counted-requires : tie.Need-counted-requires invariant-loop decreases-loop
+counted-requires : tie.Need-counted-fitting-requires invariant-loop decreases-loop
 counted-requires c κs = search rules
 
-loop-holds : tie.Need-loop-init invariant-loop decreases-loop
+loop-holds : tie.Need-loop-j-init invariant-loop decreases-loop
 unfolding least first_least fitting
 loop-holds c =
-    let e = c.before.before.residual in
-    let a = c.before.before.before.args in
+    let a = c.args in
     let at-0 = ap (λ (b : ℕ). size_of a.q a.v.now b a.d a.power) (sym (zero-mul a.d)) in
-    let size_is = size-of e.result (record { sfits = e.type-inv }) c.before.size.ensures (ap nat_abs e.ensures ∙ at-0) in
+    let size_is = size-of c.residual.result (record { sfits = c.residual.type_inv }) c.size-size.ensures (ap nat_abs c.residual.ensures ∙ at-0) in
     record {
       some = omega arith;
-      within = c.before.before.before.requires.1;
+      within = c.requires.1;
       is-first = refl;
       is_least = size_is;
-      are-fitting = omega (arith, c.counted.ensures ∙ ap {B = ℕ} (λ (x : ℕ). cond (leb x a.eps) 1 0) size_is);
-      few = omega (arith, c.counted.ensures, once (λ i. c.before.size.result) a.eps 0);
+      are-fitting = omega (arith, c.counted-fitting.ensures ∙ ap {B = ℕ} (λ (x : ℕ). cond (leb x a.eps) 1 0) size_is);
+      few = omega (arith, c.counted-fitting.ensures, once (λ i. c.size-size.result) a.eps 0);
     }
 
-room : (c : tie.In-loop invariant-loop decreases-loop) →
-    let a = c.before.before.before.before.before.args in
-    c.before.loop.j * a.d + a.d ≤ 8
+room : (c : tie.In-loop-j invariant-loop decreases-loop) →
+    let a = c.args in
+    c.loop-j.j * a.d + a.d ≤ 8
 room c =
     let s = c.before.before.before.before.before in
-    line_room c.before.loop.j s.args.n s.args.d 8 c.loop-test.true s.requires.0
+    line_room c.loop-j.j s.args.n s.args.d 8 c.loop-j-test.true s.requires.0
 
-mul-residual : tie.Need-overflow-mul-residual invariant-loop decreases-loop
+mul-residual : tie.Need-overflow_mul-j invariant-loop decreases-loop
 mul-residual c = record { fits = omega (arith, room c) }
 
-residual-requires-2 : tie.Need-residual-requires-2 invariant-loop decreases-loop
-residual-requires-2 c κs = (room c, c.before.before.before.before.before.requires.2)
+residual-requires-2 : tie.Need-residual-requires-in-loop-j invariant-loop decreases-loop
+residual-requires-2 c κs = (room c, c.requires.2)
 
-size-requires-2 : tie.Need-size-requires-2 invariant-loop decreases-loop
+size-requires-2 : tie.Need-size-other-requires invariant-loop decreases-loop
 size-requires-2 c κs = search rules
 
-counted-requires-2 : tie.Need-counted-requires-2 invariant-loop decreases-loop
+counted-requires-2 : tie.Need-counted-fitting-requires-in-loop-j invariant-loop decreases-loop
 counted-requires-2 c κs = search rules
 
-add-fitting : tie.Need-overflow-add-fitting invariant-loop decreases-loop
+add-fitting : tie.Need-overflow_add-fitting invariant-loop decreases-loop
 add-fitting c =
     let p = c.before.before.before.before in
-    let a = p.before.before.before.before.args in
-    let one = once (λ i. c.before.size2.result) a.eps 0 in
+    let a = p.args in
+    let one = once (λ i. c.size-other.result) a.eps 0 in
     record {
       fits = omega (
         arith,
-        p.loop.invariant.few,
-        c.counted2.ensures,
+        p.loop-j.invariant.few,
+        c.counted-fitting-in-loop-j.ensures,
         one,
-        c.before.before.before.loop-test.true,
-        p.before.before.before.before.ranges.n.fits,
+        c.loop-j-test.true,
+        p.ranges.n.fits,
       );
     }
 
-add-j : tie.Need-overflow-add-j invariant-loop decreases-loop
+add-j : tie.Need-overflow_add-j invariant-loop decreases-loop
 add-j c = search rules
 
-loop-less : tie.Need-loop-smaller invariant-loop decreases-loop
+loop-less : tie.Need-loop-j-smaller invariant-loop decreases-loop
 loop-less c = search rules
 
-loop-again : tie.Need-loop-preserved invariant-loop decreases-loop
+loop-again : tie.Need-loop-j-preserved invariant-loop decreases-loop
 loop-again c =
     let n = c.before in
     let s = n.before in
-    let e = s.before.residual2 in
     let p = s.before.before.before in
-    let other = size-of e.result (record { sfits = e.type-inv }) s.size2.ensures (ap nat_abs e.ensures) in
-    let taken = s.before.before.loop-test.true in
-    let one = n.counted2.result in
-    ⊎_elim
-    (λ w. rw (w.1, w.2) (closer p.loop.invariant taken s.size2.result one other n.counted2.ensures w.0.taken))
-    (λ w. rw (w.1, w.2) (no-closer p.loop.invariant taken s.size2.result one other n.counted2.ensures w.0.left))
-    c.if1.branch
+    let other = size-of s.residual-in-loop-j.result (record { sfits = s.residual-in-loop-j.type_inv }) s.size-other.ensures (ap nat_abs s.residual-in-loop-j.ensures) in
+    let taken = s.loop-j-test.true in
+    let one = n.counted-fitting-in-loop-j.result in
+    elim c.if-other-size.branch [
+      | then-other-size w ↦ (rw (w.line-is, w.size-is) (closer p.loop-j.invariant taken s.size-other.result one other n.counted-fitting-in-loop-j.ensures w.if-other-size.true))
+      | else-other-size w ↦ (rw (w.line-is, w.size-is) (no-closer p.loop-j.invariant taken s.size-other.result one other n.counted-fitting-in-loop-j.ensures w.if-other-size.false))
+    ]
 
 returns : tie.Need-returns invariant-loop decreases-loop
 returns c =
     let p = c.before in
-    let a = p.before.before.before.before.args in
-    let e : p.loop.j ≡ a.n = omega (arith, p.loop.invariant.within) in
+    let a = p.args in
+    let e : p.loop-j.j ≡ a.n = omega (arith, p.loop-j.invariant.within) in
     let f = sizes a.q a.v.now a.d a.power in (
-      p.loop.invariant.is-first ∙ ap (first_least f) e,
-      (p.loop.invariant.is_least ∙ ap (least f) e, p.loop.invariant.are-fitting ∙ ap (fitting f a.eps) e),
+      p.loop-j.invariant.is-first ∙ ap (first_least f) e,
+      (p.loop-j.invariant.is_least ∙ ap (least f) e, p.loop-j.invariant.are-fitting ∙ ap (fitting f a.eps) e),
     )
 
-pub nearest-line-spec : {M : Type 1} → statement M
-nearest-line-spec =
+pub nearest_line_spec : {M : Type 1} → statement M
+nearest_line_spec =
     tie.close
     (tie.spec
     invariant-loop

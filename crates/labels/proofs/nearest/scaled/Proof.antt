@@ -11,13 +11,13 @@ use Rattle.residuals.proofs.Sizes.{scaled_small, scaled_fits}
 use Rattle.labels.proofs.nearest.scaled.Statement.{statement}
 use Rattle.labels.proofs.nearest.scaled.Tie as tie
 
-cast-result : tie.Need-overflow-cast-result
+cast-result : tie.Need-overflow_cast-result
 cast-result c = rw (to_z-of_z c.ranges.y) (sfits_widen tt c.ranges.y)
 
-cast-result-2 : tie.Need-overflow-cast-result-2
+cast-result-2 : tie.Need-overflow_cast-result-2
 cast-result-2 c = search rules
 
-mul-result : tie.Need-overflow-mul-result
+mul-result : tie.Need-overflow_mul-result
 mul-result c =
     let f = c.ranges.y in
     let g : SFits w64 c.args.y = sfits_widen tt f in
@@ -33,5 +33,5 @@ returns c =
     let k : SFits w64 (c.args.y *ℤ pos n) = scaled_fits f (search rules) in
     simp (to_z-of_z, to_z_pos w64 h) (refl, scaled_small f (search rules))
 
-pub scaled-spec : {M : Type 1} → statement M
-scaled-spec = tie.close (tie.spec cast-result cast-result-2 mul-result returns)
+pub scaled_spec : {M : Type 1} → statement M
+scaled_spec = tie.close (tie.spec cast-result cast-result-2 mul-result returns)

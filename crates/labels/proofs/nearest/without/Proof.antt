@@ -11,10 +11,10 @@ use Rattle.integers.proofs.Parts.{size_sfits, abs_product, abs_sub}
 use Rattle.labels.proofs.nearest.without.Statement.{statement}
 use Rattle.labels.proofs.nearest.without.Tie as tie
 
-cast-result : tie.Need-overflow-cast-result
+cast-result : tie.Need-overflow_cast-result
 cast-result c = rw (to_z-of_z c.ranges.w) (sfits_widen tt c.ranges.w)
 
-cast-result-2 : tie.Need-overflow-cast-result-2
+cast-result-2 : tie.Need-overflow_cast-result-2
 cast-result-2 c = rw (to_z-of_z c.ranges.x) (sfits_widen tt c.ranges.x)
 
 module _ (c : tie.Start) where
@@ -40,10 +40,10 @@ read c =
     let gx : SFits w64 c.args.x = sfits_widen tt fx in
     simp to_z-of_z
 
-mul-result : tie.Need-overflow-mul-result
+mul-result : tie.Need-overflow_mul-result
 mul-result c = rw (read c) (fits c)
 
-sub-result : tie.Need-overflow-sub-result
+sub-result : tie.Need-overflow_sub-result
 sub-result c = rw (read c) (difference_fits w64 c.args.e (product c) (room c))
 
 returns : tie.Need-returns
@@ -52,5 +52,5 @@ returns c =
     let difference = read_difference w64 e (product c) (room c) in
     rw (read c, difference) (refl, omega (arith, abs_sub e (product c), small c))
 
-pub without-spec : {M : Type 1} → statement M
-without-spec = tie.close (tie.spec cast-result cast-result-2 mul-result sub-result returns)
+pub without_spec : {M : Type 1} → statement M
+without_spec = tie.close (tie.spec cast-result cast-result-2 mul-result sub-result returns)
