@@ -1,5 +1,6 @@
 // Splitting one box for C.
 #![tactic(auto)]
+
 ghost use Rattle.std.specs.Prelude.{◌≡◌};
 ghost use Rattle.c_boundary.specs.Boundary.{code_of};
 ghost use Rattle.c_split.specs.Calls.{split_lengths, split_call, halves_after};

@@ -10,67 +10,67 @@ use Rattle.c_split.specs.Calls.{split_lengths, split_call, halves_after}
 use Rattle.c_split.proofs.split.Statement.{statement}
 use Rattle.c_split.proofs.split.Tie as tie
 
-lengths-right-requires : tie.Need-lengths-right-requires
+lengths-right-requires : tie.Need-lengths_right-requires
 lengths-right-requires c κs = search rules
 
 -- past the test of lengths
-module _ (c : tie.After-split) where
+module _ (c : tie.After-split-cut) where
   abbrev start : tie.Start
   start = c.before.before.before.before
 
   lengths-right : split_lengths (length start.args.corners.now) (length start.args.halves.now) ≡ true
-  lengths-right = sym c.before.before.before.lengths-right.ensures ∙ not-false _ c.before.before.if1.false
+  lengths-right = sym c.lengths_right.ensures ∙ not-false _ c.if-not-lengths_right.false-raw
 
-  split_is : c.split.result ≡ split_answer start.args.n start.args.d (row_at start.args.corners.now 0)
-  split_is = c.split.ensures ∙ ap (split_answer start.args.n start.args.d) c.before.read-row.ensures
+  split_is : c.split-cut.result ≡ split_answer start.args.n start.args.d (row_at start.args.corners.now 0)
+  split_is = c.split-cut.ensures ∙ ap (split_answer start.args.n start.args.d) c.read_row.ensures
 
-returns : tie.Need-returns
+returns : tie.Need-returns-then-not-lengths_right
 unfolding split_call halves_after
 returns c =
-    let wrong = sym c.before.lengths-right.ensures ∙ not-true _ c.if1.true in
+    let wrong = sym c.lengths_right.ensures ∙ not-true _ c.if-not-lengths_right.true-raw in
     rw wrong (refl, refl)
 
-read-row-requires : tie.Need-read-row-requires
+read-row-requires : tie.Need-read_row-requires
 read-row-requires c κs = search rules
 
-split-requires : tie.Need-split-requires
+split-requires : tie.Need-split-cut-requires
 split-requires c κs = search rules
 
-enum_told : tie.Need-enum-told
+enum_told : tie.Need-enum_told-1
 enum_told c = search rules
 
-write-row-requires : tie.Need-write-row-requires
+write-row-requires : tie.Need-write_row-requires
 write-row-requires c κs = search rules
 
-write-row-requires-2 : tie.Need-write-row-requires-2
+write-row-requires-2 : tie.Need-write_row-requires-in-Pass
 write-row-requires-2 c κs = search rules
 
-enum-known-check : tie.Need-enum-known-check
+enum-known-check : tie.Need-enum_known-check
 enum-known-check c = search rules
 
-refusal-code-requires : tie.Need-refusal-code-requires
+refusal-code-requires : tie.Need-refusal_code-requires
 refusal-code-requires c κs = search rules
 
-same_length : tie.Need-same-length
+same_length : tie.Need-shape_of-halves
 same_length c = search rules
 
-returns-2 : tie.Need-returns-2
+returns-2 : tie.Need-returns-in-Pass
 unfolding split_call halves_after
 returns-2 c =
     let told = c.before.before.before.before.before.before.before.before in
-    let s = told.before.before in
-    let first = c.before.before.before.before.write-row.ensures in
-    rw (lengths-right s, ← split_is s, told.enum_told.given.1)
-    (refl, c.before.write-row2.ensures ∙ ap (λ t. with_row t 1 s.split.result.right) first)
+    let s = told.before in
+    let first = c.write_row.ensures in
+    rw (lengths-right s, ← split_is s, told.in-Pass.is)
+    (refl, c.write_row-in-Pass.ensures ∙ ap (λ t. with_row t 1 s.split-cut.result.right) first)
 
-returns-3 : tie.Need-returns-3
+returns-3 : tie.Need-returns-in-Refuse
 unfolding split_call halves_after
 returns-3 c =
-    let s = c.before.before.before.before in
-    rw (lengths-right s, ← split_is s, c.before.before.check.given.1) (c.refusal-code.ensures, refl)
+    let s = c.before.before in
+    rw (lengths-right s, ← split_is s, c.in-Refuse.is) (c.refusal_code.ensures, refl)
 
-pub split-spec : {M : Type 1} → statement M
-split-spec =
+pub split_spec : {M : Type 1} → statement M
+split_spec =
     tie.close
     (tie.spec
     lengths-right-requires
