@@ -1,5 +1,6 @@
 // Job records for C.
 #![tactic(auto)]
+
 ghost use Rattle.std.specs.Prelude.{◌≡◌, length};
 ghost use Rattle.list_rows.specs.Rows.{with_row};
 ghost use Rattle.c_buffers.specs.Buffers.{filled};

@@ -5,40 +5,40 @@ use borrow.Author.Tests.{not-true, not-false}
 use Rattle.c_jobs.proofs.write_job.Statement.{statement}
 use Rattle.c_jobs.proofs.write_job.Tie as tie
 
-region-lengths-right-requires : tie.Need-region-lengths-right-requires
+region-lengths-right-requires : tie.Need-region_lengths_right-requires
 region-lengths-right-requires c κs = search rules
 
-returns : tie.Need-returns
+returns : tie.Need-returns-then-not-region_lengths_right
 returns c =
-    let wrong = sym c.before.region-lengths-right.ensures ∙ not-true _ c.if1.true in
+    let wrong = sym c.region_lengths_right.ensures ∙ not-true _ c.if-not-region_lengths_right.true-raw in
     rw wrong (refl, refl)
 
-model-of-requires : tie.Need-model-of-requires
+model-of-requires : tie.Need-model_of-m-requires
 model-of-requires c κs = search rules
 
-job-of-requires : tie.Need-job-of-requires
+job-of-requires : tie.Need-job_of-job-requires
 job-of-requires c κs = search rules
 
-write-job-requires : tie.Need-write-job-requires
+write-job-requires : tie.Need-write_job-requires
 write-job-requires c κs = search rules
 
-check-code-requires : tie.Need-check-code-requires
+check-code-requires : tie.Need-check_code-requires
 check-code-requires c κs = search rules
 
-same_length : tie.Need-same-length
+same_length : tie.Need-shape_of-bytes
 same_length c = search rules
 
-returns-2 : tie.Need-returns-2
+returns-2 : tie.Need-returns
 returns-2 c =
     let w = c.before.before.before in
     let j = w.before.before in
     let test = j.before.before in
-    let right = sym test.before.region-lengths-right.ensures ∙ not-false _ test.if1.false in
-    let is-model = j.before.model_of.ensures in
-    rw (right, ← is-model, ← j.Job-of.ensures, ← w.write-job.ensures.0) (c.check-code.ensures, w.write-job.ensures.1)
+    let right = sym test.region_lengths_right.ensures ∙ not-false _ test.if-not-region_lengths_right.false-raw in
+    let is-model = j.model_of-m.ensures in
+    rw (right, ← is-model, ← j.job_of-job.ensures, ← w.write_job.ensures.0) (c.check_code.ensures, w.write_job.ensures.1)
 
-pub write-job-spec : {M : Type 1} → statement M
-write-job-spec =
+pub write_job_spec : {M : Type 1} → statement M
+write_job_spec =
     tie.close
     (tie.spec
     region-lengths-right-requires
