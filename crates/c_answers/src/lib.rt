@@ -1,5 +1,6 @@
 // Answer records for C.
 #![tactic(auto)]
+
 ghost use Rattle.std.specs.Prelude.{◌≡◌, length};
 ghost use Rattle.c_buffers.specs.Buffers.{filled};
 ghost use Rattle.c_boundary.specs.Boundary.{code_of};
