@@ -1,7 +1,7 @@
 -- Windows that lie in a store, by their count; what check 17 tells. Assumes nothing.
 use mathlib.Core.Path.{◌≡◌}
 use mathlib.Core.Bool.{◌&&◌}
-use Prim.Native.Nat.{ℕ, ◌-◌, ◌/◌, ◌≤◌}
+use Prim.Native.Nat.{ℕ, ◌-◌, ◌≤◌}
 use native.Mathlib.Nat.{le-div_iff_mul-le, div-le_self}
 use native.Mathlib.Omega.{arith}
 use lib.Dec.{leb, leb→le}

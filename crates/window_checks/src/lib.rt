@@ -1,5 +1,6 @@
 // The checks of a pass through the windows of a store, and how many windows it has.
 #![tactic(auto)]
+
 ghost use Rattle.std.specs.Prelude.{◌≡◌, ◌*◌, ◌/◌, ◌≤◌, leb, length};
 ghost use Rattle.codes.specs.Codes.{pass_if, unless_refused};
 ghost use Rattle.codes.specs.declared.Refusal.{Refusal};

@@ -15,53 +15,53 @@ use borrow.Author.Rules.{rules}
 use Rattle.window_checks.proofs.check_given.Statement.{statement}
 use Rattle.window_checks.proofs.check_given.Tie as tie
 
-check-store-requires : tie.Need-check-store-requires
+check-store-requires : tie.Need-check_store-requires
 check-store-requires c κs = search rules
 
-check-shape-requires : tie.Need-check-shape-requires
+check-shape-requires : tie.Need-check_shape-requires
 check-shape-requires c κs = search rules
 
-in-order-requires : tie.Need-in-order-requires
+in-order-requires : tie.Need-in_order-shape-requires
 in-order-requires c κs = search rules
 
-check-scale-requires : tie.Need-check-scale-requires
+check-scale-requires : tie.Need-check_scale-requires
 check-scale-requires c κs = search rules
 
-check-loss-for-requires : tie.Need-check-loss-for-requires
+check-loss-for-requires : tie.Need-check_loss_for-requires
 check-loss-for-requires c κs = search rules
 
-in-order-requires-2 : tie.Need-in-order-requires-2
+in-order-requires-2 : tie.Need-in_order-numbers-requires
 in-order-requires-2 c κs = search rules
 
-check-box-requires : tie.Need-check-box-requires
+check-box-requires : tie.Need-check_box-requires
 check-box-requires c κs = search rules
 
-check-start-requires : tie.Need-check-start-requires
+check-start-requires : tie.Need-check_start-requires
 check-start-requires c κs = search rules
 
-in-order-requires-3 : tie.Need-in-order-requires-3
+in-order-requires-3 : tie.Need-in_order-region-requires
 in-order-requires-3 c κs = search rules
 
-in-order-requires-4 : tie.Need-in-order-requires-4
+in-order-requires-4 : tie.Need-in_order-requires
 in-order-requires-4 c κs = search rules
 
-in-order-requires-5 : tie.Need-in-order-requires-5
+in-order-requires-5 : tie.Need-in_order-requires-2
 in-order-requires-5 c κs = search rules
 
-enum_told : tie.Need-enum-told
+enum_told : tie.Need-enum_told-1
 enum_told c = search rules
 
-check-stray-requires : tie.Need-check-stray-requires
+check-stray-requires : tie.Need-check_stray-requires
 check-stray-requires c κs = search rules
 
-enum-known-r : tie.Need-enum-known-r
+enum-known-r : tie.Need-enum_known-r
 enum-known-r c = search rules
 
 abbrev both : Check → Check → Check
 both x y = in_order (x ∷ y ∷ [])
 
 -- the first six, as the code makes them
-module _ (c : tie.After-in-order5) where
+module _ (c : tie.After-in_order-2) where
   abbrev begun : tie.Start
   begun = c.before.before.before.before.before.before.before.before.before.before.before.before.before.before.before
 
@@ -80,38 +80,38 @@ module _ (c : tie.After-in-order5) where
   abbrev stray : Check
   stray = check_stray begun.args.job.model.d (points_of begun.args.store.now)
 
-  first : c.in-order5.result ≡ in_order six
+  first : c.in_order-2.result ≡ in_order six
   first =
       let four = c.before in
       let region = four.before in
       let start = region.before in
       let numbers = start.before.before in
       let shape = numbers.before.before.before in
-      c.in-order5.ensures
+      c.in_order-2.ensures
       ∙ ap₂ both
-      (four.in-order4.ensures
+      (four.in_order.ensures
       ∙ ap₂ both
-      (shape.in_order.ensures ∙ ap₂ both shape.before.before.check-store.ensures shape.before.check-shape.ensures)
-      (numbers.in-order2.ensures ∙ ap₂ both numbers.before.before.check-scale.ensures numbers.before.check-loss-for.ensures)
+      (shape.in_order-shape.ensures ∙ ap₂ both shape.check_store.ensures shape.check_shape.ensures)
+      (numbers.in_order-numbers.ensures ∙ ap₂ both numbers.check_scale.ensures numbers.check_loss_for.ensures)
       ∙ two_groups (_ ∷ _ ∷ []) (_ ∷ _ ∷ []))
-      (region.in-order3.ensures ∙ ap₂ both start.before.check-box.ensures start.check-start.ensures)
+      (region.in_order-region.ensures ∙ ap₂ both start.check_box.ensures start.check_start.ensures)
       ∙ two_groups (_ ∷ _ ∷ _ ∷ _ ∷ []) (_ ∷ _ ∷ [])
 
-returns : tie.Need-returns
+returns : tie.Need-returns-in-Pass
 unfolding check_given
 returns c =
     let told = c.before in
-    let q = told.before.before in
-    c.check-stray.ensures ∙ sym (after_pass (six q) (stray q) (sym (first q) ∙ told.enum_told.given.1))
+    let q = told.before in
+    c.check_stray.ensures ∙ sym (after_pass (six q) (stray q) (sym (first q) ∙ told.in-Pass.is))
 
-returns-2 : tie.Need-returns-2
+returns-2 : tie.Need-returns-in-Refuse
 unfolding check_given
 returns-2 c =
-    let q = c.before.before.before in
-    sym (after_refusal (six q) (stray q ∷ []) c.before.r.given.0.0 (sym (first q) ∙ c.before.r.given.1))
+    let q = c.before in
+    sym (after_refusal (six q) (stray q ∷ []) c.in-Refuse.r (sym (first q) ∙ c.in-Refuse.is))
 
-pub check-given-spec : {M : Type 1} → statement M
-check-given-spec =
+pub check_given_spec : {M : Type 1} → statement M
+check_given_spec =
     tie.close
     (tie.spec
     check-store-requires

@@ -15,23 +15,23 @@ use borrow.Author.Rules.{rules}
 use Rattle.window_checks.proofs.count_windows.Statement.{statement}
 use Rattle.window_checks.proofs.count_windows.Tie as tie
 
-check-given-requires : tie.Need-check-given-requires
+check-given-requires : tie.Need-check_given-given-requires
 check-given-requires c κs = search rules
 
-check-window-requires : tie.Need-check-window-requires
+check-window-requires : tie.Need-check_window-requires
 check-window-requires c κs = search rules
 
-in-order-requires : tie.Need-in-order-requires
+in-order-requires : tie.Need-in_order-requires
 in-order-requires c κs = search rules
 
-enum_told : tie.Need-enum-told
+enum_told : tie.Need-enum_told-1
 enum_told c = search rules
 
 abbrev both : Check → Check → Check
 both x y = in_order (x ∷ y ∷ [])
 
 -- checks 1 to 7 and 17, as the code makes them
-module _ (c : tie.After-in-order) where
+module _ (c : tie.After-in_order) where
   abbrev begun : tie.Start
   begun = c.before.before.before.before
 
@@ -47,15 +47,15 @@ module _ (c : tie.After-in-order) where
       check_lent_for (window_count (length a.store.now / 12) a.k a.h) a.numbers a.entries a.room
 
   first : c.in_order.result ≡ in_order two
-  first = c.in_order.ensures ∙ ap₂ both c.before.before.check-given.ensures c.before.check-window.ensures
+  first = c.in_order.ensures ∙ ap₂ both c.check_given-given.ensures c.check_window.ensures
 
 -- where they pass
-module _ (c : tie.After-enum-told) where
-  abbrev asked : tie.After-in-order
-  asked = c.before.before
+module _ (c : tie.In-Pass) where
+  abbrev asked : tie.After-in_order
+  asked = c.before
 
   passed_two : in_order (two asked) ≡ Pass
-  passed_two = sym (first asked) ∙ c.enum_told.given.1
+  passed_two = sym (first asked) ∙ c.in-Pass.is
 
   fits : Windowed (length (begun asked).args.store.now / 12) (begun asked).args.k (begun asked).args.h
   fits =
@@ -67,37 +67,37 @@ module _ (c : tie.After-enum-told) where
       let a = (begun asked).args in
       records_few a.store.now a.job a.k (first_passed _ _ passed_two)
 
-window-count-requires : tie.Need-window-count-requires
+window-count-requires : tie.Need-window_count-requires
 window-count-requires c κs = ((fits c).few, (fits c).hops, few c)
 
-unless-short-requires : tie.Need-unless-short-requires
+unless-short-requires : tie.Need-unless_short-requires
 unless-short-requires c κs =
     let told = c.before in
     let a = (begun (asked told)).args in
-    rw c.window-count.ensures (count_few (length a.store.now / 12) a.k a.h (few told))
+    rw c.window_count.ensures (count_few (length a.store.now / 12) a.k a.h (few told))
 
-enum-known-r : tie.Need-enum-known-r
+enum-known-r : tie.Need-enum_known-r
 enum-known-r c = search rules
 
-returns : tie.Need-returns
+returns : tie.Need-returns-in-Pass
 unfolding check_windows
 returns c =
     let count = c.before in
     let told = count.before in
     let a = (begun (asked told)).args in
-    c.unless-short.ensures
-    ∙ ap (λ (n : ℕ). unless_refused (check_lent_for n a.numbers a.entries a.room) n) count.window-count.ensures
+    c.unless_short.ensures
+    ∙ ap (λ (n : ℕ). unless_refused (check_lent_for n a.numbers a.entries a.room) n) count.window_count.ensures
     ∙ ap (λ (check : Check). unless_refused check (window_count (length a.store.now / 12) a.k a.h))
     (sym (after_pass (two (asked told)) (lent (asked told)) (passed_two told)))
 
-returns-2 : tie.Need-returns-2
+returns-2 : tie.Need-returns-in-Refuse
 unfolding check_windows
 returns-2 c =
-    let q = c.before.before.before in
-    rw (after_refusal (two q) (lent q ∷ []) c.before.r.given.0.0 (sym (first q) ∙ c.before.r.given.1)) refl
+    let q = c.before in
+    rw (after_refusal (two q) (lent q ∷ []) c.in-Refuse.r (sym (first q) ∙ c.in-Refuse.is)) refl
 
-pub count-windows-spec : {M : Type 1} → statement M
-count-windows-spec =
+pub count_windows_spec : {M : Type 1} → statement M
+count_windows_spec =
     tie.close
     (tie.spec
     check-given-requires

@@ -9,57 +9,57 @@ use borrow.Author.Rules.{rules}
 use Rattle.window_checks.proofs.unless_short.Statement.{statement}
 use Rattle.window_checks.proofs.unless_short.Tie as tie
 
-check-table-requires : tie.Need-check-table-requires
+check-table-requires : tie.Need-check_table-requires
 check-table-requires c κs = search rules
 
-check-bounds-requires : tie.Need-check-bounds-requires
+check-bounds-requires : tie.Need-check_bounds-requires
 check-bounds-requires c κs = search rules
 
-in-order-requires : tie.Need-in-order-requires
+in-order-requires : tie.Need-in_order-lent-requires
 in-order-requires c κs = search rules
 
-check-room-requires : tie.Need-check-room-requires
+check-room-requires : tie.Need-check_room-requires
 check-room-requires c κs = search rules
 
-in-order-requires-2 : tie.Need-in-order-requires-2
+in-order-requires-2 : tie.Need-in_order-requires
 in-order-requires-2 c κs = search rules
 
-enum_told : tie.Need-enum-told
+enum_told : tie.Need-enum_told-1
 enum_told c = search rules
 
-enum-known-r : tie.Need-enum-known-r
+enum-known-r : tie.Need-enum_known-r
 enum-known-r c = search rules
 
 abbrev both : Check → Check → Check
 both x y = in_order (x ∷ y ∷ [])
 
 -- all three, as the code makes them
-module _ (c : tie.After-in-order2) where
+module _ (c : tie.After-in_order) where
   abbrev begun : tie.Start
   begun = c.before.before.before.before.before
 
-  checked : c.in-order2.result ≡ check_lent_for begun.args.count begun.args.numbers begun.args.entries begun.args.room
+  checked : c.in_order.result ≡ check_lent_for begun.args.count begun.args.numbers begun.args.entries begun.args.room
   unfolding check_lent_for
   checked =
       let lent = c.before.before in
-      c.in-order2.ensures
+      c.in_order.ensures
       ∙ ap₂ both
-      (lent.in_order.ensures ∙ ap₂ both lent.before.before.check-table.ensures lent.before.check-bounds.ensures)
-      c.before.check-room.ensures
+      (lent.in_order-lent.ensures ∙ ap₂ both lent.check_table.ensures lent.check_bounds.ensures)
+      c.check_room.ensures
       ∙ in_order_group (_ ∷ _ ∷ []) (_ ∷ [])
 
-returns : tie.Need-returns
+returns : tie.Need-returns-in-Pass
 returns c =
-    let q = c.before.before in
-    rw (sym (checked q) ∙ c.enum_told.given.1) refl
+    let q = c.before in
+    rw (sym (checked q) ∙ c.in-Pass.is) refl
 
-returns-2 : tie.Need-returns-2
+returns-2 : tie.Need-returns-in-Refuse
 returns-2 c =
-    let q = c.before.before.before in
-    rw (sym (checked q) ∙ c.before.r.given.1) refl
+    let q = c.before in
+    rw (sym (checked q) ∙ c.in-Refuse.is) refl
 
-pub unless-short-spec : {M : Type 1} → statement M
-unless-short-spec =
+pub unless_short_spec : {M : Type 1} → statement M
+unless_short_spec =
     tie.close
     (tie.spec
     check-table-requires
