@@ -1,5 +1,6 @@
 // Labels for C.
 #![tactic(auto)]
+
 ghost use Rattle.std.specs.Prelude.{◌≡◌};
 ghost use Rattle.c_boundary.specs.Boundary.{model_of, code_of, value_after};
 ghost use Rattle.c_labels.specs.Calls.{labels_call, labels_after};
