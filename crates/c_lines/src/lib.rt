@@ -1,5 +1,6 @@
 // Lines of coefficients for C, each coefficient by the bit pattern of its single-precision number.
 #![tactic(auto)]
+
 ghost use Rattle.std.specs.Prelude.{◌≡◌};
 ghost use Rattle.c_boundary.specs.Boundary.{code_of};
 ghost use Rattle.c_lines.specs.Calls.{line_lengths, write_line_call, patterns_after, read_line_call, coordinates_after};
