@@ -10,16 +10,11 @@ use Rattle.eval_kernel.proofs.Starting.{from_none}
 use borrow.Author.Rules.{rules}
 use Rattle.eval_kernel.proofs.chunk_loss.Statement.{statement}
 use Rattle.eval_kernel.proofs.chunk_loss.Tie as tie
-use Rattle.eval_kernel.proofs.chunk_loss.Reads as reads
-use Rattle.eval_kernel.proofs.chunk_loss.Lts as lts
-use Rattle.eval_kernel.proofs.lessen_all.Reads as lessen-all-reads
-use Rattle.eval_kernel.proofs.no_size_lem.Reads as no-size-reads
-use Rattle.eval_losses.proofs.total.Reads as total-reads
 
-no-size-requires : tie.Need-no-size-requires
+no-size-requires : tie.Need-no_size-least-requires
 no-size-requires c κs = search rules
 
-lessen-all-requires : tie.Need-lessen-all-requires
+lessen-all-requires : tie.Need-lessen_all-requires
 lessen-all-requires c κs = search rules
 
 total-requires : tie.Need-total-requires
@@ -28,15 +23,14 @@ total-requires c κs = search rules
 returns : tie.Need-returns
 unfolding chunk_loss
 returns c =
-    let lessen = c.before.before.lessen-all in
     let start = c.before.before.before.before in
-    let a = start.before.args in
+    let a = start.args in
     let m = a.m in
     let sizes =
-    from_none a.over a.s.now a.low.now a.high.now m _ lessen.new.0
-    (ap (λ (x : Float). replicate 80 x) start.no_size_lem.ensures) lessen.ensures in
+    from_none a.over a.s.now a.low.now a.high.now m _ c.lessen_all.new.least
+    (ap (λ (x : Float). replicate 80 x) start.no_size-least.ensures) c.lessen_all.ensures in
     let all = c.total.ensures.1 in
     (all.0 ∙ chunk_same _ _ (λ k h. ap (loss_in m.p (of_int binary64 (pos m.eps))) (sizes k h)), all.1)
 
-pub chunk-loss-spec : {M : Type 1} → statement M
-chunk-loss-spec = tie.close (tie.spec no-size-requires lessen-all-requires total-requires returns)
+pub chunk_loss_spec : {M : Type 1} → statement M
+chunk_loss_spec = tie.close (tie.spec no-size-requires lessen-all-requires total-requires returns)

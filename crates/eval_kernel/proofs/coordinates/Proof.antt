@@ -14,60 +14,57 @@ use Rattle.eval_kernel.proofs.Vectors.{Double, all_doubles}
 use borrow.Author.Rules.{rules}
 use Rattle.eval_kernel.proofs.coordinates.Statement.{statement}
 use Rattle.eval_kernel.proofs.coordinates.Tie as tie
-use Rattle.eval_kernel.proofs.coordinates.Reads as reads
-use Rattle.eval_kernel.proofs.coordinates.Lts as lts
-use Rattle.eval_kernel.proofs.double.Reads as double-reads
 
-abbrev invariant-loop : tie.invariant-loop
+abbrev invariant-loop : tie.invariant-loop-i
 invariant-loop v u₀ i₀ u i = Filled 0 (Double v) u₀ i u × (u₀ ≡ replicate 12 zeroth) × (i ≤ 8)
 
-abbrev decreases-loop : tie.decreases-loop
+abbrev decreases-loop : tie.decreases-loop-i
 decreases-loop v u₀ i₀ u i = 8 - i
 
-loop-holds : tie.Need-loop-init invariant-loop decreases-loop
+loop-holds : tie.Need-loop-i-init invariant-loop decreases-loop
 loop-holds c = (none_filled _ _ _, refl, omega arith)
 
-mul-double : tie.Need-overflow-mul-double invariant-loop decreases-loop
+mul-double : tie.Need-offset_bounds-v-i invariant-loop decreases-loop
 mul-double c = search rules
 
-array-copy-out-double : tie.Need-array-copy-out-double invariant-loop decreases-loop
+array-copy-out-double : tie.Need-bounds-v-i invariant-loop decreases-loop
 array-copy-out-double c = search rules
 
 double-requires : tie.Need-double-requires invariant-loop decreases-loop
 double-requires c κs = search rules
 
-mul-u : tie.Need-overflow-mul-u invariant-loop decreases-loop
+mul-u : tie.Need-offset_bounds-u-i invariant-loop decreases-loop
 mul-u c = search rules
 
-array-write-u : tie.Need-array-write-u invariant-loop decreases-loop
+array-write-u : tie.Need-bounds-u-i invariant-loop decreases-loop
 array-write-u c = search rules
 
-add-i : tie.Need-overflow-add-i invariant-loop decreases-loop
+add-i : tie.Need-overflow_step-i invariant-loop decreases-loop
 add-i c = search rules
 
-loop-less : tie.Need-loop-smaller invariant-loop decreases-loop
+loop-less : tie.Need-loop-i-smaller invariant-loop decreases-loop
 loop-less c = search rules
 
-loop-again : tie.Need-loop-preserved invariant-loop decreases-loop
+loop-again : tie.Need-loop-i-preserved invariant-loop decreases-loop
 loop-again c =
     let p = c.before.before.before in
-    let v = p.loop.invariant in
-    let i = c.before.before.loop-test.true in
-    let f : SFits w16 (get_or p.before.args.t1 p.loop.i (pos 0)) = record { sfits = c.before.double-arg.given } in
+    let v = p.loop-i.invariant in
+    let i = c.loop-i-test.true in
+    let f : SFits w16 (get_or p.args.v p.loop-i.i (pos 0)) = record { sfits = c.double-arg-1.given } in
     (one_filled _ v.0 (omega (arith, ap length v.1)) (rw (to_z-of_z f) at c.double.ensures), v.1, omega arith)
 
 returns : tie.Need-returns invariant-loop decreases-loop
 returns c =
     let p = c.before in
-    let a = p.before.args in
-    let v = p.loop.invariant in
-    let done : Filled 0 (Double a.t1) (replicate 12 zeroth) 8 p.loop.u =
-    rw (← v.1) (until_filled (omega (arith, v.2, c.loop-test.false)) v.0) in
-    let eight : length a.t1 ≡ 8 = search rules in
-    (all_doubles a.t1 p.loop.u eight done, λ k h. (all_filled v.0 c.loop-test.false k h).1)
+    let a = p.args in
+    let v = p.loop-i.invariant in
+    let done : Filled 0 (Double a.v) (replicate 12 zeroth) 8 p.loop-i.u =
+    rw (← v.1) (until_filled (omega (arith, v.2, c.loop-i-test.false)) v.0) in
+    let eight : length a.v ≡ 8 = search rules in
+    (all_doubles a.v p.loop-i.u eight done, λ k h. (all_filled v.0 c.loop-i-test.false k h).1)
 
-pub coordinates-spec : {M : Type 1} → statement M
-coordinates-spec =
+pub coordinates_spec : {M : Type 1} → statement M
+coordinates_spec =
     tie.close
     (tie.spec
     invariant-loop

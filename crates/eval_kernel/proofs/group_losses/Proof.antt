@@ -10,38 +10,30 @@ use Rattle.eval_kernel.proofs.Starting.{from_none}
 use borrow.Author.Rules.{rules}
 use Rattle.eval_kernel.proofs.group_losses.Statement.{statement}
 use Rattle.eval_kernel.proofs.group_losses.Tie as tie
-use Rattle.eval_kernel.proofs.group_losses.Reads as reads
-use Rattle.eval_kernel.proofs.group_losses.Lts as lts
-use Rattle.eval_kernel.proofs.lessen_all.Reads as lessen-all-reads
-use Rattle.eval_kernel.proofs.no_size_lem.Reads as no-size-reads
-use Rattle.eval_losses.proofs.group_sums.Reads as group-sums-reads
-use Rattle.eval_losses.proofs.lose.Reads as lose-reads
 
-no-size-requires : tie.Need-no-size-requires
+no-size-requires : tie.Need-no_size-sizes-requires
 no-size-requires c κs = search rules
 
-lessen-all-requires : tie.Need-lessen-all-requires
+lessen-all-requires : tie.Need-lessen_all-requires
 lessen-all-requires c κs = search rules
 
 lose-requires : tie.Need-lose-requires
 lose-requires c κs = search rules
 
-group-sums-requires : tie.Need-group-sums-requires
+group-sums-requires : tie.Need-group_sums-requires
 group-sums-requires c κs = search rules
 
 returns : tie.Need-returns
 unfolding group_losses
 returns c =
-    let lose = c.before.before.lose in
-    let lessen = c.before.before.before.before.lessen-all in
     let start = c.before.before.before.before.before.before in
-    let a = start.before.args in
+    let a = start.args in
     let m = a.m in
     let sizes =
-    from_none a.over a.s.now a.low.now a.high.now m _ lessen.new.0
-    (ap (λ (x : Float). replicate 80 x) start.no_size_lem.ensures) lessen.ensures in
-    c.group-sums.ensures ∙ groups_same _ _ (λ k h. lose.ensures k h ∙ ap (loss_in m.p (of_int binary64 (pos m.eps))) (sizes k h))
+    from_none a.over a.s.now a.low.now a.high.now m _ c.lessen_all.new.least
+    (ap (λ (x : Float). replicate 80 x) start.no_size-sizes.ensures) c.lessen_all.ensures in
+    c.group_sums.ensures ∙ groups_same _ _ (λ k h. c.lose.ensures k h ∙ ap (loss_in m.p (of_int binary64 (pos m.eps))) (sizes k h))
 
-pub group-losses-spec : {M : Type 1} → statement M
-group-losses-spec =
+pub group_losses_spec : {M : Type 1} → statement M
+group_losses_spec =
     tie.close (tie.spec no-size-requires lessen-all-requires lose-requires group-sums-requires returns)

@@ -7,10 +7,6 @@ use Rattle.eval_kernel.specs.Kernel.{size_by}
 use borrow.Author.Rules.{rules}
 use Rattle.eval_kernel.proofs.lessen_line.Statement.{statement}
 use Rattle.eval_kernel.proofs.lessen_line.Tie as tie
-use Rattle.eval_kernel.proofs.lessen_line.Reads as reads
-use Rattle.eval_kernel.proofs.lessen_line.Lts as lts
-use Rattle.eval_kernel.proofs.lessen.Reads as lessen-reads
-use Rattle.eval_kernel.proofs.place.Reads as place-reads
 
 place-requires : tie.Need-place-requires
 place-requires c κs = search rules
@@ -20,9 +16,9 @@ lessen-requires c κs = search rules
 
 returns : tie.Need-returns
 returns c =
-    let a = c.before.before.before.args in
+    let a = c.args in
     let size = size_by a.over a.s.now a.low.now a.high.now a.d in
-    λ k h. c.lessen.ensures k h ∙ ap (λ (b : ℕ). smaller_of (lane a.least.now k) (size b k)) c.before.place.ensures
+    λ k h. c.lessen.ensures k h ∙ ap (λ (b : ℕ). smaller_of (lane a.least.now k) (size b k)) c.place.ensures
 
-pub lessen-line-spec : {M : Type 1} → statement M
-lessen-line-spec = tie.close (tie.spec place-requires lessen-requires returns)
+pub lessen_line_spec : {M : Type 1} → statement M
+lessen_line_spec = tie.close (tie.spec place-requires lessen-requires returns)
