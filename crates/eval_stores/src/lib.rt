@@ -1,5 +1,6 @@
 // A whole store decoded into lanes, as a search keeps it.
 #![tactic(auto)]
+
 ghost use Rattle.eval_columns.specs.Columns.{DecodedInto};
 
 use eval_columns::{chunk_count, decode_chunk};
