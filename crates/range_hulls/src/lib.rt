@@ -1,5 +1,6 @@
 // The least and the greatest value of each coordinate among the vectors found, and the range of each coefficient that they tell.
 #![tactic(auto)]
+
 ghost use Rattle.std.specs.Prelude.{◌≡◌, ◌<◌, eqb};
 ghost use Rattle.integers.specs.Integers.{min_z, max_z};
 ghost use Rattle.boxes.specs.Boxes.{volume};

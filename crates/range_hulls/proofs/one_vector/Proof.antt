@@ -2,7 +2,7 @@
 use borrow.Author.Rules.{rules}
 use mathlib.Core.Path.{◌≡◌, refl, sym, ap, ◌∙◌}
 use mathlib.Core.List.{List}
-use Prim.Native.Nat.{ℕ, ◌-◌, ◌<◌}
+use Prim.Native.Nat.{ℕ, ◌-◌}
 use native.Mathlib.Numerals.{add-one}
 use native.Mathlib.Omega.{arith}
 use lib.Dec.{eqb}
@@ -16,40 +16,40 @@ use Rattle.range_hulls.proofs.OneVector.{equal_ends, other_ends, no_side}
 use Rattle.range_hulls.proofs.one_vector.Statement.{statement}
 use Rattle.range_hulls.proofs.one_vector.Tie as tie
 
-abbrev invariant-loop : tie.invariant-loop
+abbrev invariant-loop : tie.invariant-loop-k
 invariant-loop low high k₀ k = eqb (product (sides low high)) 1 ≡ eqb (product (sides (drop k low) (drop k high))) 1
 
-abbrev decreases-loop : tie.decreases-loop
+abbrev decreases-loop : tie.decreases-loop-k
 decreases-loop low high k₀ k = 8 - k
 
-loop-holds : tie.Need-loop-init invariant-loop decreases-loop
+loop-holds : tie.Need-loop-k-init invariant-loop decreases-loop
 loop-holds c = refl
 
-mul-if1 : tie.Need-overflow-mul-if1 invariant-loop decreases-loop
+mul-if1 : tie.Need-offset_bounds-low-k invariant-loop decreases-loop
 mul-if1 c = omega arith
 
-array-copy-out-if1 : tie.Need-array-copy-out-if1 invariant-loop decreases-loop
+array-copy-out-if1 : tie.Need-bounds-low-k invariant-loop decreases-loop
 array-copy-out-if1 c = omega arith
 
-mul-if1-2 : tie.Need-overflow-mul-if1-2 invariant-loop decreases-loop
+mul-if1-2 : tie.Need-offset_bounds-high-k invariant-loop decreases-loop
 mul-if1-2 c = omega arith
 
-array-copy-out-if1-2 : tie.Need-array-copy-out-if1-2 invariant-loop decreases-loop
+array-copy-out-if1-2 : tie.Need-bounds-high-k invariant-loop decreases-loop
 array-copy-out-if1-2 c = omega arith
 
 -- what a turn knows, once both coordinates are read
-module _ (c : tie.After-if13 invariant-loop decreases-loop) where
-  abbrev turn : tie.At-loop invariant-loop decreases-loop
+module _ (c : tie.After-t13-1 invariant-loop decreases-loop) where
+  abbrev turn : tie.At-loop-k invariant-loop decreases-loop
   turn = c.before.before.before
 
   abbrev low : List ℤ
-  low = turn.before.before.before.args.b.low
+  low = turn.args.b.low
 
   abbrev high : List ℤ
-  high = turn.before.before.before.args.b.high
+  high = turn.args.b.high
 
   abbrev k : ℕ
-  k = turn.loop.k
+  k = turn.loop-k.k
 
   abbrev l : ℤ
   l = get_or low k (pos 0)
@@ -63,39 +63,39 @@ module _ (c : tie.After-if13 invariant-loop decreases-loop) where
   -- equal bits are equal numbers
   same_number : of_z w16 l ≡ of_z w16 h → l ≡ h
   same_number e =
-      let fl : SFits w16 l = record { sfits = c.before.if12.given } in
-      let fh : SFits w16 h = record { sfits = c.if13.given } in
+      let fl : SFits w16 l = record { sfits = c.t9-1.given } in
+      let fh : SFits w16 h = record { sfits = c.t13-1.given } in
       sym (to_z-of_z fl) ∙ ap (to_z w16) e ∙ to_z-of_z fh
 
-returns : tie.Need-returns invariant-loop decreases-loop
+returns : tie.Need-returns-then-low-k invariant-loop decreases-loop
 returns c =
     let r = c.before in
     let n = long r in
-    sym ((turn r).loop.inv
-    ∙ other_ends (low r) (high r) (k r) (omega arith) (omega arith) (λ e. c.if1.true (ap (of_z w16) e)))
+    sym ((turn r).loop-k.invariant
+    ∙ other_ends (low r) (high r) (k r) (omega arith) (omega arith) (λ e. c.if-low-k.true (ap (of_z w16) e)))
 
-add-k : tie.Need-overflow-add-k invariant-loop decreases-loop
+add-k : tie.Need-overflow_add-k invariant-loop decreases-loop
 add-k c = omega arith
 
-loop-less : tie.Need-loop-smaller invariant-loop decreases-loop
+loop-less : tie.Need-loop-k-smaller invariant-loop decreases-loop
 loop-less c = omega arith
 
-loop-again : tie.Need-loop-preserved invariant-loop decreases-loop
+loop-again : tie.Need-loop-k-preserved invariant-loop decreases-loop
 loop-again c =
     let r = c.before in
     let n = long r in
-    rw add-one ((turn r).loop.inv
-    ∙ equal_ends (low r) (high r) (k r) (omega arith) (omega arith) (same_number r c.if1.false))
+    rw add-one ((turn r).loop-k.invariant
+    ∙ equal_ends (low r) (high r) (k r) (omega arith) (omega arith) (same_number r c.if-low-k.false))
 
-returns-2 : tie.Need-returns-2 invariant-loop decreases-loop
+returns-2 : tie.Need-returns invariant-loop decreases-loop
 returns-2 c =
-    let b = c.before.before.before.before.args.b in
+    let b = c.args.b in
     let long-low : length b.low ≡ 8 = search rules in
     let long-high : length b.high ≡ 8 = search rules in
-    sym (c.before.loop.invariant ∙ no_side b.low b.high c.before.loop.k (omega arith) (omega arith))
+    sym (c.loop-k.invariant ∙ no_side b.low b.high c.loop-k.k (omega arith) (omega arith))
 
-pub one-vector-spec : {M : Type 1} → statement M
-one-vector-spec =
+pub one_vector_spec : {M : Type 1} → statement M
+one_vector_spec =
     tie.close
     (tie.spec
     invariant-loop

@@ -1,10 +1,10 @@
 -- The invariant: the first k coordinates of both ends are those with one vector more. The measure is what is left of the 8.
 use borrow.Author.Rules.{rules}
-use mathlib.Core.Path.{◌≡◌, refl, sym, ap, ◌∙◌}
-use Prim.Native.Nat.{ℕ, ◌+◌, ◌-◌, ◌≤◌, ◌<◌}
+use mathlib.Core.Path.{◌≡◌, refl, ◌∙◌}
+use Prim.Native.Nat.{◌-◌, ◌≤◌}
 use native.Mathlib.Omega.{arith}
-use lib.IntN.{ℤ, pos}
-use lib.ListN.{length, get_or, length-set}
+use lib.IntN.{pos}
+use lib.ListN.{length, get_or}
 use mir.Syntax.{w16}
 use mir.Val.{SFits}
 use mir.Facts.{to_z-of_z}
@@ -15,104 +15,104 @@ use Rattle.range_hulls.proofs.Widening.{first_of, first_all, lower_turn, higher_
 use Rattle.range_hulls.proofs.with_vector.Statement.{statement}
 use Rattle.range_hulls.proofs.with_vector.Tie as tie
 
-abbrev invariant-loop : tie.invariant-loop
+abbrev invariant-loop : tie.invariant-loop-k
 invariant-loop v low₀ high₀ k₀ low high k =
     (k ≤ 8) × (length low ≡ 8) × (length high ≡ 8)
     × (low ≡ first_of low₀ (least low₀ v) (length_least low₀ v) k) × (high ≡ first_of high₀ (greatest high₀ v) (length_greatest high₀ v) k)
 
-abbrev decreases-loop : tie.decreases-loop
+abbrev decreases-loop : tie.decreases-loop-k
 decreases-loop v low₀ high₀ k₀ low high k = 8 - k
 
-loop-holds : tie.Need-loop-init invariant-loop decreases-loop
+loop-holds : tie.Need-loop-k-init invariant-loop decreases-loop
 loop-holds c = (omega arith, search rules, search rules, refl, refl)
 
-mul-lower : tie.Need-overflow-mul-lower invariant-loop decreases-loop
+mul-lower : tie.Need-offset_bounds-low-k invariant-loop decreases-loop
 mul-lower c = omega arith
 
-array-copy-out-lower : tie.Need-array-copy-out-lower invariant-loop decreases-loop
+array-copy-out-lower : tie.Need-bounds-low-k invariant-loop decreases-loop
 array-copy-out-lower c = omega arith
 
-mul-lower-2 : tie.Need-overflow-mul-lower-2 invariant-loop decreases-loop
+mul-lower-2 : tie.Need-offset_bounds-v-k invariant-loop decreases-loop
 mul-lower-2 c = omega arith
 
-array-copy-out-lower-2 : tie.Need-array-copy-out-lower-2 invariant-loop decreases-loop
+array-copy-out-lower-2 : tie.Need-bounds-v-k invariant-loop decreases-loop
 array-copy-out-lower-2 c = omega arith
 
 lower-requires : tie.Need-lower-requires invariant-loop decreases-loop
 lower-requires c κs = search rules
 
-mul_low : tie.Need-overflow-mul-low invariant-loop decreases-loop
+mul_low : tie.Need-offset_bounds-low-k-in-loop-k invariant-loop decreases-loop
 mul_low c = omega arith
 
-array-set-from-low : tie.Need-array-set-from-low invariant-loop decreases-loop
+array-set-from-low : tie.Need-bounds-low-k-in-loop-k invariant-loop decreases-loop
 array-set-from-low c = omega arith
 
-mul-higher : tie.Need-overflow-mul-higher invariant-loop decreases-loop
+mul-higher : tie.Need-offset_bounds-high-k invariant-loop decreases-loop
 mul-higher c = omega arith
 
-array-copy-out-higher : tie.Need-array-copy-out-higher invariant-loop decreases-loop
+array-copy-out-higher : tie.Need-bounds-high-k invariant-loop decreases-loop
 array-copy-out-higher c = omega arith
 
-mul-higher-2 : tie.Need-overflow-mul-higher-2 invariant-loop decreases-loop
+mul-higher-2 : tie.Need-offset_bounds-v-k-in-loop-k invariant-loop decreases-loop
 mul-higher-2 c = omega arith
 
-array-copy-out-higher-2 : tie.Need-array-copy-out-higher-2 invariant-loop decreases-loop
+array-copy-out-higher-2 : tie.Need-bounds-v-k-in-loop-k invariant-loop decreases-loop
 array-copy-out-higher-2 c = omega arith
 
 higher-requires : tie.Need-higher-requires invariant-loop decreases-loop
 higher-requires c κs = search rules
 
-mul-high : tie.Need-overflow-mul-high invariant-loop decreases-loop
+mul-high : tie.Need-offset_bounds-high-k-in-loop-k invariant-loop decreases-loop
 mul-high c = omega arith
 
-array-set-from-high : tie.Need-array-set-from-high invariant-loop decreases-loop
+array-set-from-high : tie.Need-bounds-high-k-in-loop-k invariant-loop decreases-loop
 array-set-from-high c = omega arith
 
-add-k : tie.Need-overflow-add-k invariant-loop decreases-loop
+add-k : tie.Need-overflow_add-k invariant-loop decreases-loop
 add-k c = omega arith
 
-loop-less : tie.Need-loop-smaller invariant-loop decreases-loop
+loop-less : tie.Need-loop-k-smaller invariant-loop decreases-loop
 loop-less c = omega arith
 
-loop-again : tie.Need-loop-preserved invariant-loop decreases-loop
+loop-again : tie.Need-loop-k-preserved invariant-loop decreases-loop
 loop-again c =
     let q = c.before.before.before in
     let l = q.before.before.before.before in
-    let a = l.before.before.before.args in
-    let v = a.t2 in
-    let k = l.loop.k in
+    let a = l.args in
+    let v = a.v in
+    let k = l.loop-k.k in
     let long-low : length a.ends.low ≡ 8 = search rules in
     let long-high : length a.ends.high ≡ 8 = search rules in
     let long-v : length v ≡ 8 = search rules in
-    let fl : SFits w16 (get_or l.loop.low k (pos 0)) = record { sfits = q.before.before.lower-arg.given } in
-    let fv : SFits w16 (get_or v k (pos 0)) = record { sfits = q.before.lower-arg2.given } in
-    let fh : SFits w16 (get_or l.loop.high k (pos 0)) = record { sfits = c.before.before.higher-arg.given } in
-    let smaller : q.lower.result ≡ min_z (get_or l.loop.low k (pos 0)) (get_or v k (pos 0)) = q.lower.ensures ∙ simp to_z-of_z in
-    let larger : c.higher.result ≡ max_z (get_or l.loop.high k (pos 0)) (get_or v k (pos 0)) = c.higher.ensures ∙ simp to_z-of_z in (
+    let fl : SFits w16 (get_or l.loop-k.low k (pos 0)) = record { sfits = q.lower-arg-1.given } in
+    let fv : SFits w16 (get_or v k (pos 0)) = record { sfits = q.lower-arg-in-loop-k-1.given } in
+    let fh : SFits w16 (get_or l.loop-k.high k (pos 0)) = record { sfits = c.higher-arg-1.given } in
+    let smaller : q.lower.result ≡ min_z (get_or l.loop-k.low k (pos 0)) (get_or v k (pos 0)) = q.lower.ensures ∙ simp to_z-of_z in
+    let larger : c.higher.result ≡ max_z (get_or l.loop-k.high k (pos 0)) (get_or v k (pos 0)) = c.higher.ensures ∙ simp to_z-of_z in (
       omega arith,
       search rules,
       search rules,
-      lower_turn a.ends.low v k (omega arith) (omega arith) fv l.loop.low q.lower.result l.loop.invariant.3 fl smaller,
-      higher_turn a.ends.high v k (omega arith) (omega arith) fv l.loop.high c.higher.result l.loop.invariant.4 fh larger,
+      lower_turn a.ends.low v k (omega arith) (omega arith) fv l.loop-k.low q.lower.result l.loop-k.invariant.3 fl smaller,
+      higher_turn a.ends.high v k (omega arith) (omega arith) fv l.loop-k.high c.higher.result l.loop-k.invariant.4 fh larger,
     )
 
 returns : tie.Need-returns invariant-loop decreases-loop
 returns c =
     let l = c.before in
-    let a = l.before.before.before.args in
+    let a = l.args in
     let long-low : length a.ends.low ≡ 8 = search rules in
     let long-high : length a.ends.high ≡ 8 = search rules in
-    let v = a.t2 in
-    let ends_at : l.loop.k ≡ 8 = omega arith in
+    let v = a.v in
+    let ends_at : l.loop-k.k ≡ 8 = omega arith in
     rw (
-      l.loop.invariant.3
-          ∙ first_all a.ends.low (least a.ends.low v) (length_least a.ends.low v) l.loop.k (omega arith),
-      l.loop.invariant.4
-          ∙ first_all a.ends.high (greatest a.ends.high v) (length_greatest a.ends.high v) l.loop.k (omega arith),
+      l.loop-k.invariant.3
+          ∙ first_all a.ends.low (least a.ends.low v) (length_least a.ends.low v) l.loop-k.k (omega arith),
+      l.loop-k.invariant.4
+          ∙ first_all a.ends.high (greatest a.ends.high v) (length_greatest a.ends.high v) l.loop-k.k (omega arith),
     )
 
-pub with-vector-spec : {M : Type 1} → statement M
-with-vector-spec =
+pub with_vector_spec : {M : Type 1} → statement M
+with_vector_spec =
     tie.close
     (tie.spec
     invariant-loop
