@@ -1,6 +1,5 @@
 -- The checks in the groups in which the code makes them, and what a call that passes them has. Assumes nothing.
 use mathlib.Core.Path.{◌≡◌, refl, sym, ap, ap₂, ◌∙◌}
-use mathlib.Core.Bool.{cond, ◌&&◌}
 use mathlib.Core.List.{List, [], ◌∷◌, ◌++◌}
 use Prim.Native.Nat.{ℕ, ◌/◌, ◌≤◌}
 use lib.Dec.{T, leb, eqb, leb→le, eqb→eq}

@@ -1,5 +1,6 @@
 // The checks of peeling.
 #![tactic(auto)]
+
 ghost use Rattle.std.specs.Prelude.{◌≡◌, ◌/◌, leb, eqb};
 ghost use Rattle.codes.specs.Codes.{pass_if, within, in_order};
 ghost use Rattle.codes.specs.declared.Refusal.{Refusal};

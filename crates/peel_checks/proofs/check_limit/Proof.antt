@@ -2,11 +2,11 @@
 use Rattle.peel_checks.proofs.check_limit.Statement.{statement}
 use Rattle.peel_checks.proofs.check_limit.Tie as tie
 
-returns : tie.Need-returns
-returns c = rw c.if1.true
+returns : tie.Need-returns-then-limit
+returns c = rw c.if-limit.true
 
-returns-2 : tie.Need-returns-2
-returns-2 c = rw c.if1.false
+returns-2 : tie.Need-returns-else-limit
+returns-2 c = rw c.if-limit.false
 
-pub check-limit-spec : {M : Type 1} → statement M
-check-limit-spec = tie.close (tie.spec returns returns-2)
+pub check_limit_spec : {M : Type 1} → statement M
+check_limit_spec = tie.close (tie.spec returns returns-2)

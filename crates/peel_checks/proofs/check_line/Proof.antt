@@ -4,11 +4,11 @@ use native.Mathlib.Omega.{arith}
 use Rattle.peel_checks.proofs.check_line.Statement.{statement}
 use Rattle.peel_checks.proofs.check_line.Tie as tie
 
-returns : tie.Need-returns
-returns c = rw (eq-eqb c.before.args.n 1 (omega (arith, c.if1.true)))
+returns : tie.Need-returns-then-n-eq1
+returns c = rw (eq-eqb c.args.n 1 (omega (arith, c.if-n-eq1.true)))
 
-returns-2 : tie.Need-returns-2
-returns-2 c = rw (ne_eqb c.before.args.n 1 c.if1.false)
+returns-2 : tie.Need-returns-else-n-eq1
+returns-2 c = rw (ne_eqb c.args.n 1 c.if-n-eq1.false)
 
-pub check-line-spec : {M : Type 1} → statement M
-check-line-spec = tie.close (tie.spec returns returns-2)
+pub check_line_spec : {M : Type 1} → statement M
+check_line_spec = tie.close (tie.spec returns returns-2)

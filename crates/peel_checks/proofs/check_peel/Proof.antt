@@ -1,5 +1,5 @@
 -- By the first group: where it passes, the checks of a search and the room decide.
-use mathlib.Core.Path.{◌≡◌, sym, ap₂, ◌∙◌}
+use mathlib.Core.Path.{sym, ap₂, ◌∙◌}
 use mathlib.Core.List.{[], ◌∷◌}
 use Rattle.codes.specs.declared.Check.{Check}
 use Rattle.codes.specs.Codes.{in_order}
@@ -8,47 +8,47 @@ use borrow.Author.Rules.{rules}
 use Rattle.peel_checks.proofs.check_peel.Statement.{statement}
 use Rattle.peel_checks.proofs.check_peel.Tie as tie
 
-check-given-requires : tie.Need-check-given-requires
+check-given-requires : tie.Need-check_given-requires
 check-given-requires c κs = search rules
 
-enum_told : tie.Need-enum-told
+enum_told : tie.Need-enum_told-1
 enum_told c = search rules
 
-check-search-requires : tie.Need-check-search-requires
+check-search-requires : tie.Need-check_search-requires
 check-search-requires c κs = search rules
 
-check-labels-requires : tie.Need-check-labels-requires
+check-labels-requires : tie.Need-check_labels-requires
 check-labels-requires c κs = search rules
 
-in-order-requires : tie.Need-in-order-requires
+in-order-requires : tie.Need-in_order-requires
 in-order-requires c κs = search rules
 
-enum-known-r : tie.Need-enum-known-r
+enum-known-r : tie.Need-enum_known-r
 enum-known-r c = search rules
 
 abbrev both : Check → Check → Check
 both x y = in_order (x ∷ y ∷ [])
 
-returns : tie.Need-returns
+returns : tie.Need-returns-in-Pass
 returns c =
     let q = c.before.before in
     let told = q.before in
-    let given = told.before.before in
-    let a = given.before.before.before.args in
+    let given = told.before in
+    let a = given.args in
     c.in_order.ensures
-    ∙ ap₂ both q.check-search.ensures c.before.check-labels.ensures
+    ∙ ap₂ both q.check_search.ensures c.check_labels.ensures
     ∙ sym (search_decides a.store.now a.job a.limit a.numbers a.entries a.labels
-    (sym given.check-given.ensures ∙ told.enum_told.given.1))
+    (sym given.check_given.ensures ∙ told.in-Pass.is))
 
-returns-2 : tie.Need-returns-2
+returns-2 : tie.Need-returns-in-Refuse
 returns-2 c =
-    let given = c.before.before.before in
-    let a = given.before.before.before.args in
-    sym (first_refuses a.store.now a.job a.limit a.numbers a.entries a.labels c.before.r.given.0.0
-    (sym given.check-given.ensures ∙ c.before.r.given.1))
+    let given = c.before in
+    let a = given.args in
+    sym (first_refuses a.store.now a.job a.limit a.numbers a.entries a.labels c.in-Refuse.r
+    (sym given.check_given.ensures ∙ c.in-Refuse.is))
 
-pub check-peel-spec : {M : Type 1} → statement M
-check-peel-spec =
+pub check_peel_spec : {M : Type 1} → statement M
+check_peel_spec =
     tie.close
     (tie.spec
     check-given-requires
