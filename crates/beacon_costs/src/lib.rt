@@ -1,5 +1,6 @@
 // "Cost shown beacon by beacon": the cost of a vector by groups of 19 records, as a full beacon holds, and then of all groups.
 #![tactic(auto)]
+
 ghost use Rattle.std.specs.Prelude.{◌≡◌, ◌+◌, ◌/◌, ◌%◌, ◌^◌, ◌≤◌, ◌<◌, leb, length};
 ghost use Rattle.codes.specs.declared.Refusal.TheVariants.{Short};
 ghost use Rattle.codes.specs.Codes.{pass_if};

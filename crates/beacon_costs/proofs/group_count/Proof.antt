@@ -3,14 +3,12 @@ use native.Mathlib.Omega.{arith}
 use borrow.Author.Rules.{rules}
 use Rattle.beacon_costs.proofs.group_count.Statement.{statement}
 use Rattle.beacon_costs.proofs.group_count.Tie as tie
-use Rattle.beacon_costs.proofs.group_count.Reads as reads
-use Rattle.beacon_costs.proofs.group_count.Lts as lts
 
-add-result : tie.Need-overflow-add-result
+add-result : tie.Need-overflow_add-result
 add-result c = search rules
 
 returns : tie.Need-returns
 returns c = omega arith
 
-pub group-count-spec : {M : Type 1} → statement M
-group-count-spec = tie.close (tie.spec add-result returns)
+pub group_count_spec : {M : Type 1} → statement M
+group_count_spec = tie.close (tie.spec add-result returns)
