@@ -1,6 +1,7 @@
 // The sums of losses over both halves of a box, which have every line in common but the one that is cut: the sizes of the others are found
 // once.
 #![tactic(auto)]
+
 ghost use Rattle.std.specs.Prelude.{◌≡◌, ℕ, ◌<◌};
 ghost use Rattle.residuals.specs.Inside.{box_of};
 ghost use Rattle.eval_lanes.specs.Lanes.{lane};

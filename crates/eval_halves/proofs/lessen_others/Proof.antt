@@ -3,7 +3,6 @@
 use mathlib.Core.Path.{◌≡◌, refl, sym, ap, ◌∙◌}
 use mathlib.Core.Bool.{true}
 use mathlib.Core.List.{List}
-use mathlib.Core.Logic.{⊎_elim}
 use Prim.Native.Nat.{ℕ, ◌*◌, ◌-◌, ◌≤◌, ◌<◌, min}
 use native.Mathlib.Omega.{arith}
 use lib.Ieee.{Float}
@@ -15,57 +14,55 @@ use Rattle.eval_halves.proofs.Others.{own_line, other_line}
 use borrow.Author.Rules.{rules}
 use Rattle.eval_halves.proofs.lessen_others.Statement.{statement}
 use Rattle.eval_halves.proofs.lessen_others.Tie as tie
-use Rattle.eval_halves.proofs.lessen_others.Reads as reads
-use Rattle.eval_halves.proofs.lessen_others.Lts as lts
-use Rattle.eval_kernel.proofs.lessen_line.Reads as lessen-line-reads
+use Rattle.eval_halves.proofs.lessen_others.Lts.{then-j-c, else-j-c}
 
-abbrev invariant-loop : tie.invariant-loop
+abbrev invariant-loop : tie.invariant-loop-j
 invariant-loop sizes₀ s low high n d c j₀ sizes j =
     (j ≤ n) × ((k : ℕ) → k < 80 → lane sizes k ≡ least_but s low high d c (lane sizes₀ k) j k)
 
-abbrev decreases-loop : tie.decreases-loop
+abbrev decreases-loop : tie.decreases-loop-j
 decreases-loop sizes₀ s low high n d c j₀ sizes j = n - j
 
-loop-holds : tie.Need-loop-init invariant-loop decreases-loop
+loop-holds : tie.Need-loop-j-init invariant-loop decreases-loop
 unfolding least_but
 loop-holds c = (omega arith, λ k h. refl)
 
-lessen-line-requires : tie.Need-lessen-line-requires invariant-loop decreases-loop
+lessen-line-requires : tie.Need-lessen_line-requires invariant-loop decreases-loop
 lessen-line-requires c κs = search rules
 
-add-j : tie.Need-overflow-add-j invariant-loop decreases-loop
+add-j : tie.Need-overflow_step-j invariant-loop decreases-loop
 add-j c = search rules
 
-loop-less : tie.Need-loop-smaller invariant-loop decreases-loop
+loop-less : tie.Need-loop-j-smaller invariant-loop decreases-loop
 loop-less c = search rules
 
-loop-again : tie.Need-loop-preserved invariant-loop decreases-loop
+loop-again : tie.Need-loop-j-preserved invariant-loop decreases-loop
 loop-again c =
     let p = c.before.before in
-    let a = p.before.args in
+    let a = p.args in
     let d = a.d in
-    let j = p.loop.j in
+    let j = p.loop-j.j in
     let size = size_by true a.s.now a.low.now a.high.now d (min (j * d) 8) in
     let most : ℕ → Float = lane a.sizes.now in (
-      omega (arith, c.before.loop-test.true),
+      omega (arith, c.loop-j-test.true),
       λ k h.
-          ⊎_elim
-          (λ w.
-          ap (λ (xs : List Float). lane xs k) w.3 ∙ w.2.ensures k h ∙ ap (λ (x : Float). smaller_of x (size k)) (p.loop.invariant.1 k h)
-          ∙ sym (other_line a.s.now a.low.now a.high.now d a.c (most k) j k w.0.taken))
-          (λ w.
-          ap (λ (xs : List Float). lane xs k) w.1 ∙ p.loop.invariant.1 k h
-          ∙ sym (own_line a.s.now a.low.now a.high.now d a.c (most k) j k w.0.left))
-          c.if1.branch,
+          elim c.if-j-c.branch [
+            | then-j-c w ↦
+                ap (λ (xs : List Float). lane xs k) w.sizes-is ∙ w.lessen_line.ensures k h ∙ ap (λ (x : Float). smaller_of x (size k)) (p.loop-j.invariant.1 k h)
+                ∙ sym (other_line a.s.now a.low.now a.high.now d a.c (most k) j k w.if-j-c.true)
+            | else-j-c w ↦
+                ap (λ (xs : List Float). lane xs k) w.sizes-is ∙ p.loop-j.invariant.1 k h
+                ∙ sym (own_line a.s.now a.low.now a.high.now d a.c (most k) j k w.if-j-c.false)
+          ],
     )
 
 returns : tie.Need-returns invariant-loop decreases-loop
 returns c =
     let p = c.before in
-    let a = p.before.args in
-    let e : p.loop.j ≡ a.n = omega (arith, p.loop.invariant.0, c.loop-test.false) in
+    let a = p.args in
+    let e : p.loop-j.j ≡ a.n = omega (arith, p.loop-j.invariant.0, c.loop-j-test.false) in
     let least = least_but a.s.now a.low.now a.high.now a.d a.c in
-    λ k h. p.loop.invariant.1 k h ∙ ap (λ (n : ℕ). least (lane a.sizes.now k) n k) e
+    λ k h. p.loop-j.invariant.1 k h ∙ ap (λ (n : ℕ). least (lane a.sizes.now k) n k) e
 
-pub lessen-others-spec : {M : Type 1} → statement M
-lessen-others-spec = tie.close (tie.spec invariant-loop decreases-loop loop-holds lessen-line-requires add-j loop-less loop-again returns)
+pub lessen_others_spec : {M : Type 1} → statement M
+lessen_others_spec = tie.close (tie.spec invariant-loop decreases-loop loop-holds lessen-line-requires add-j loop-less loop-again returns)
