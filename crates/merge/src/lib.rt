@@ -1,5 +1,6 @@
 // "Both polarisations in one store": two stores of a pass, each with strictly rising frame numbers, made one.
 #![tactic(auto)]
+
 mod write;
 
 ghost use Rattle.std.specs.Prelude.{◌≡◌};

@@ -9,7 +9,7 @@ fn put(out: &mut [u8], n: usize, store: &[u8], i: usize)
     requires { (n + 12 ≤ length out.old) × (i + 12 ≤ length store.now) }
     ensures { out.new ≡ put out.old n (take 12 (drop i store.now)) }
 {
-    bytes::copy(&store[i..i + 12], &mut out[n..]);
+    out[n..n + 12].copy_from_slice(&store[i..i + 12]);
 }
 
 // The union at the front of the output, `bytes` bytes of it.

@@ -2,7 +2,6 @@
 use borrow.Author.Rules.{rules}
 use mathlib.Core.Path.{◌≡◌, refl, ap, ◌∙◌}
 use mathlib.Core.List.{List, ◌++◌, append_assoc}
-use mathlib.Core.Logic.{⊎_elim}
 use Prim.Native.Nat.{ℕ, ◌+◌, ◌-◌, ◌≤◌}
 use native.Mathlib.Omega.{arith}
 use lib.ListN.{length, take, drop, length-append, length-drop}
@@ -12,6 +11,7 @@ use Rattle.frames.specs.Frames.{merged}
 use Rattle.frames.proofs.Walked.{Walked, Step, begun, step, more_left}
 use Rattle.merge.specs.Inside.{put}
 use Rattle.merge.proofs.write.write.Statement.{statement}
+use Rattle.merge.proofs.write.write.Lts.{then-f-eq12, else-f-eq12}
 use Rattle.merge.proofs.write.write.Tie as tie
 
 -- the next record, behind n bytes that are written
@@ -29,13 +29,13 @@ record Writing (first second before out : List ℕ) (i j n : ℕ) : Type 0 where
   written : out ≡ take n (merged first second) ++ drop n before
   same_length : length out ≡ length before
 
-abbrev invariant-loop : tie.invariant-loop
+abbrev invariant-loop : tie.invariant-loop-n
 invariant-loop first second out₀ bytes i₀ j₀ n₀ out i j n = Writing first second out₀ out i j n
 
-abbrev decreases-loop : tie.decreases-loop
+abbrev decreases-loop : tie.decreases-loop-n
 decreases-loop first second out₀ bytes i₀ j₀ n₀ out i j n = bytes - n
 
-loop-holds : tie.Need-loop-init invariant-loop decreases-loop
+loop-holds : tie.Need-loop-n-init invariant-loop decreases-loop
 loop-holds c =
     let a = c.before.before.before in
     record {
@@ -44,77 +44,76 @@ loop-holds c =
       same_length = refl;
     }
 
-stride-requires : tie.Need-stride-requires invariant-loop decreases-loop
+stride-requires : tie.Need-stride-f-requires invariant-loop decreases-loop
 stride-requires c κs = search rules
 
-stride-requires-2 : tie.Need-stride-requires-2 invariant-loop decreases-loop
+stride-requires-2 : tie.Need-stride-s-requires invariant-loop decreases-loop
 stride-requires-2 c κs = search rules
 
 -- the step that is being made
 stepping :
-    (c : tie.After-stride2 invariant-loop decreases-loop) →
+    (c : tie.After-stride-s invariant-loop decreases-loop) →
     let l = c.before.before.before in
-    let a = l.before.before.before.before.args in
-    Step a.first.now a.second.now l.loop.i l.loop.j l.loop.n c.before.stride.result c.stride2.result
+    let a = l.args in
+    Step a.first.now a.second.now l.loop-n.i l.loop-n.j l.loop-n.n c.stride-f.result c.stride-s.result
 stepping c =
     let l = c.before.before.before in
     let a = l.before.before.before.before in
     let one = a.args.first.now in
     let two = a.args.second.now in
     let p = a.requires.0 in
-    let v = l.loop in
-    let more = more_left one two p.0 p.1 v.i v.j v.n v.invariant.walked (omega arith) in
-    step one two p.0 p.1 v.i v.j v.n v.invariant.walked more _ _ c.before.stride.ensures c.stride2.ensures
+    let more = more_left one two p.0 p.1 l.loop-n.i l.loop-n.j l.loop-n.n l.loop-n.invariant.walked (omega arith) in
+    step one two p.0 p.1 l.loop-n.i l.loop-n.j l.loop-n.n l.loop-n.invariant.walked more _ _ c.stride-f.ensures c.stride-s.ensures
 
 put-requires : tie.Need-put-requires invariant-loop decreases-loop
 put-requires c κs =
     let p = stepping c.before.before in
     let l = c.before.before.before.before.before in
-    let twelve = c.before.if1.true in
-    (omega (arith, p.walked.in_merged, l.loop.invariant.same_length), omega (arith, p.walked.in_first))
+    let twelve = c.if-f-eq12.true in
+    (omega (arith, p.walked.in_merged, l.loop-n.invariant.same_length), omega (arith, p.walked.in_first))
 
-put-requires-2 : tie.Need-put-requires-2 invariant-loop decreases-loop
+put-requires-2 : tie.Need-put-requires-else-f-eq12 invariant-loop decreases-loop
 put-requires-2 c κs =
     let p = stepping c.before.before in
     let l = c.before.before.before.before.before in
-    let twelve = (p.from_two c.before.if1.false).0 in
-    (omega (arith, p.walked.in_merged, l.loop.invariant.same_length), omega (arith, p.walked.in_second))
+    let twelve = (p.from_two c.if-f-eq12.false).0 in
+    (omega (arith, p.walked.in_merged, l.loop-n.invariant.same_length), omega (arith, p.walked.in_second))
 
-add-i : tie.Need-overflow-add-i invariant-loop decreases-loop
+add-i : tie.Need-overflow_add-i invariant-loop decreases-loop
 add-i c = omega (arith, (stepping c.before).walked.in_first)
 
-add-j : tie.Need-overflow-add-j invariant-loop decreases-loop
+add-j : tie.Need-overflow_add-j invariant-loop decreases-loop
 add-j c = omega (arith, (stepping c.before).walked.in_second)
 
-add-n : tie.Need-overflow-add-n invariant-loop decreases-loop
+add-n : tie.Need-overflow_add-n invariant-loop decreases-loop
 add-n c = omega (arith, (stepping c.before).walked.in_merged)
 
-loop-less : tie.Need-loop-smaller invariant-loop decreases-loop
+loop-less : tie.Need-loop-n-smaller invariant-loop decreases-loop
 loop-less c = omega arith
 
 -- the next record of the union is written, from either store
 wrote :
-    (c : tie.Joined1 invariant-loop decreases-loop) →
+    (c : tie.Joined-f-eq12 invariant-loop decreases-loop) →
     let l = c.before.before.before.before in
-    let a = l.before.before.before.before.args in
-    c.if1.out ≡ put l.loop.out l.loop.n (take 12 (drop l.loop.n (merged a.first.now a.second.now)))
+    let a = l.args in
+    c.if-f-eq12.out ≡ put l.loop-n.out l.loop-n.n (take 12 (drop l.loop-n.n (merged a.first.now a.second.now)))
 wrote c =
     let p = stepping c.before in
-    ⊎_elim
-    (λ w. rw (p.from_one w.0.taken) (w.5 ∙ w.2.ensures))
-    (λ w. rw (p.from_two w.0.left).1 (w.5 ∙ w.2.ensures))
-    c.if1.branch
+    elim c.if-f-eq12.branch [
+      | then-f-eq12 w ↦ rw (p.from_one w.if-f-eq12.true) (w.out-is ∙ w.put.ensures)
+      | else-f-eq12 w ↦ rw (p.from_two w.if-f-eq12.false).1 (w.out-is ∙ w.put-else-f-eq12.ensures)
+    ]
 
-loop-again : tie.Need-loop-preserved invariant-loop decreases-loop
+loop-again : tie.Need-loop-n-preserved invariant-loop decreases-loop
 loop-again c =
     let l = c.before.before.before.before in
-    let a = l.before.before.before.before.args in
-    let v = l.loop.invariant in
+    let a = l.args in
+    let v = l.loop-n.invariant in
     let p = stepping c.before in
     let whole = merged a.first.now a.second.now in
-    let n = l.loop.n + 12 in
-    let e : c.if1.out ≡ take n whole ++ drop n a.out.now =
-    wrote c ∙ rw v.written (put_next whole a.out.now l.loop.n v.walked.in_merged) in
+    let n = l.loop-n.n + 12 in
+    let e : c.if-f-eq12.out ≡ take n whole ++ drop n a.out.now =
+    wrote c ∙ rw v.written (put_next whole a.out.now l.loop-n.n v.walked.in_merged) in
     let k : length (take n whole) ≡ n = length-take-le n whole p.walked.in_merged in
     record {
       walked = p.walked;
@@ -122,16 +121,16 @@ loop-again c =
       same_length = omega (arith, simp (length-append, length-drop) at (ap length e), p.walked.in_merged);
     }
 
-same_length : tie.Need-same-length invariant-loop decreases-loop
-same_length c = c.before.loop.invariant.same_length
+same_length : tie.Need-shape_of-out invariant-loop decreases-loop
+same_length c = c.loop-n.invariant.same_length
 
 returns : tie.Need-returns invariant-loop decreases-loop
 unfolding over
 returns c =
     let l = c.before in
-    let a = l.before.before.before.before.args in
-    let v = l.loop.invariant in
-    let e : l.loop.n ≡ length (merged a.first.now a.second.now) = omega (arith, v.walked.in_merged) in
+    let a = l.args in
+    let v = l.loop-n.invariant in
+    let e : l.loop-n.n ≡ length (merged a.first.now a.second.now) = omega (arith, v.walked.in_merged) in
     rw (v.written, e, take-length)
 
 pub write_spec : {M : Type 1} → statement M
