@@ -14,7 +14,6 @@ use Rattle.points.specs.Points.{points_of}
 use Rattle.ranks.specs.Largest.{nth_largest}
 use Rattle.ranks.specs.Laws.{exceeding}
 use Rattle.ranks.proofs.Largest.{largest}
-use Rattle.residuals.specs.Cost.{least}
 use Rattle.integers.specs.Sums.{sum_of}
 use Rattle.residuals.specs.Inside.{Ready}
 use Rattle.residuals.proofs.Sums.{sum_same, sum_more, Summed, count_small, all_total}

@@ -1,5 +1,6 @@
 // The cost of a vector and the bound of a box, over a store of point records.
 #![tactic(auto)]
+
 mod ranking;
 mod sums;
 mod values;

@@ -11,42 +11,42 @@ use Rattle.model_checks.proofs.Passed.{ready, bound_model}
 use Rattle.costs.proofs.bound.Statement.{statement}
 use Rattle.costs.proofs.bound.Tie as tie
 
-module _ (c : tie.After-enum-told) where
-  pass : check_bound c.before.before.before.before.args.store.now c.before.before.before.before.args.m
-      c.before.before.before.before.args.b ≡ Pass
-  pass = sym c.before.before.check-bound.ensures ∙ c.enum_told.given.1
+module _ (c : tie.In-Pass) where
+  pass : check_bound c.args.store.now c.args.m
+      c.args.b ≡ Pass
+  pass = sym c.check_bound.ensures ∙ c.in-Pass.is
 
-  was-ready : Ready (length c.before.before.before.before.args.store.now) c.before.before.before.before.args.m
+  was-ready : Ready (length c.args.store.now) c.args.m
   was-ready =
-      ready c.before.before.before.before.args.store.now c.before.before.before.before.args.m (bound_model _ _ _ pass)
+      ready c.args.store.now c.args.m (bound_model _ _ _ pass)
 
-check-bound-requires : tie.Need-check-bound-requires
+check-bound-requires : tie.Need-check_bound-requires
 check-bound-requires c κs = search rules
 
-enum_told : tie.Need-enum-told
+enum_told : tie.Need-enum_told-1
 enum_told c = search rules
 
 whole-requires : tie.Need-whole-requires
 whole-requires c κs = was-ready c.before.before
 
-enum-known-r : tie.Need-enum-known-r
+enum-known-r : tie.Need-enum_known-r
 enum-known-r c = search rules
 
-returns : tie.Need-returns
+returns : tie.Need-returns-in-Pass
 unfolding bound_answer
 returns c =
     let e = c.before.before.before in
     rw (pass e) (ap Value c.whole.ensures)
 
-returns-2 : tie.Need-returns-2
+returns-2 : tie.Need-returns-in-Refuse
 unfolding bound_answer
 returns-2 c =
-    let e = c.before.before.before in
-    let refuse : check_bound e.before.before.args.store.now e.before.before.args.m e.before.before.args.b
-    ≡ Refuse c.before.r.given.0.0 = sym e.check-bound.ensures ∙ c.before.r.given.1 in
+    let e = c.before in
+    let refuse : check_bound e.args.store.now e.args.m e.args.b
+    ≡ Refuse c.in-Refuse.r = sym e.check_bound.ensures ∙ c.in-Refuse.is in
     rw refuse refl
 
-pub bound-spec : {M : Type 1} → statement M
-bound-spec =
+pub bound_spec : {M : Type 1} → statement M
+bound_spec =
     tie.close
     (tie.spec check-bound-requires enum_told whole-requires enum-known-r returns returns-2)

@@ -8,35 +8,35 @@ use Rattle.model_checks.proofs.Passed.{ready}
 use Rattle.costs.proofs.bound_in.Statement.{statement}
 use Rattle.costs.proofs.bound_in.Tie as tie
 
-pass : (c : tie.After-enum-told)
-    → check_model c.before.before.before.before.args.store.now c.before.before.before.before.args.m ≡ Pass
-pass c = sym c.before.before.check-model.ensures ∙ c.enum_told.given.1
+pass : (c : tie.In-Pass)
+    → check_model c.args.store.now c.args.m ≡ Pass
+pass c = sym c.check_model.ensures ∙ c.in-Pass.is
 
-check-model-requires : tie.Need-check-model-requires
+check-model-requires : tie.Need-check_model-requires
 check-model-requires c κs = search rules
 
-enum_told : tie.Need-enum-told
+enum_told : tie.Need-enum_told-1
 enum_told c = search rules
 
-up-to-requires : tie.Need-up-to-requires
-up-to-requires c κs = let e = c.before.before in let a = e.before.before.before.before.args in ready a.store.now a.m (pass e)
+up-to-requires : tie.Need-up_to-requires
+up-to-requires c κs = let e = c.before.before in let a = e.args in ready a.store.now a.m (pass e)
 
-enum-told-2 : tie.Need-enum-told-2
+enum-told-2 : tie.Need-enum_told-in-Refuse
 enum-told-2 c = search rules
 
-returns : tie.Need-returns
+returns : tie.Need-returns-in-Pass
 unfolding bound_in bound_up_to
-returns c = rw (pass c.before.before.before) (let e = c.up_to_lem.ensures in (e.by_lanes, e.by_points))
+returns c = rw (pass c.before.before.before) (let e = c.up_to.ensures in (e.by_lanes, e.by_points))
 
-returns-2 : tie.Need-returns-2
+returns-2 : tie.Need-returns-in-Refuse
 unfolding bound_in bound_up_to
 returns-2 c =
-    let e = c.before.before in
-    let refuse : check_model e.before.before.args.store.now e.before.before.args.m ≡ Refuse c.enum-told2.given.0.0 =
-    sym e.check-model.ensures ∙ c.enum-told2.given.1 in
+    let e = c.before in
+    let refuse : check_model e.args.store.now e.args.m ≡ Refuse c.in-Refuse.field-0 =
+    sym e.check_model.ensures ∙ c.in-Refuse.is in
     rw refuse (refl, λ decoded. refl)
 
-pub bound-in-spec : {M : Type 1} → statement M
-bound-in-spec =
+pub bound_in_spec : {M : Type 1} → statement M
+bound_in_spec =
     tie.close
     (tie.spec check-model-requires enum_told up-to-requires enum-told-2 returns returns-2)

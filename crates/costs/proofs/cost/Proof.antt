@@ -11,42 +11,42 @@ use Rattle.model_checks.proofs.Passed.{ready, cost_model}
 use Rattle.costs.proofs.cost.Statement.{statement}
 use Rattle.costs.proofs.cost.Tie as tie
 
-module _ (c : tie.After-enum-told) where
-  pass : check_cost c.before.before.before.before.args.store.now c.before.before.before.before.args.m
-      c.before.before.before.before.args.v ≡ Pass
-  pass = sym c.before.before.check-cost.ensures ∙ c.enum_told.given.1
+module _ (c : tie.In-Pass) where
+  pass : check_cost c.args.store.now c.args.m
+      c.args.v ≡ Pass
+  pass = sym c.check_cost.ensures ∙ c.in-Pass.is
 
-  was-ready : Ready (length c.before.before.before.before.args.store.now) c.before.before.before.before.args.m
+  was-ready : Ready (length c.args.store.now) c.args.m
   was-ready =
-      ready c.before.before.before.before.args.store.now c.before.before.before.before.args.m (cost_model _ _ _ pass)
+      ready c.args.store.now c.args.m (cost_model _ _ _ pass)
 
-check-cost-requires : tie.Need-check-cost-requires
+check-cost-requires : tie.Need-check_cost-requires
 check-cost-requires c κs = search rules
 
-enum_told : tie.Need-enum-told
+enum_told : tie.Need-enum_told-1
 enum_told c = search rules
 
 whole-requires : tie.Need-whole-requires
 whole-requires c κs = was-ready (c)
 
-enum-known-r : tie.Need-enum-known-r
+enum-known-r : tie.Need-enum_known-r
 enum-known-r c = search rules
 
-returns : tie.Need-returns
+returns : tie.Need-returns-in-Pass
 unfolding cost_answer
 returns c =
     let e = c.before in
     rw (pass e) (ap Value c.whole.ensures)
 
-returns-2 : tie.Need-returns-2
+returns-2 : tie.Need-returns-in-Refuse
 unfolding cost_answer
 returns-2 c =
-    let e = c.before.before.before in
-    let refuse : check_cost e.before.before.args.store.now e.before.before.args.m e.before.before.args.v
-    ≡ Refuse c.before.r.given.0.0 = sym e.check-cost.ensures ∙ c.before.r.given.1 in
+    let e = c.before in
+    let refuse : check_cost e.args.store.now e.args.m e.args.v
+    ≡ Refuse c.in-Refuse.r = sym e.check_cost.ensures ∙ c.in-Refuse.is in
     rw refuse refl
 
-pub cost-spec : {M : Type 1} → statement M
-cost-spec =
+pub cost_spec : {M : Type 1} → statement M
+cost_spec =
     tie.close
     (tie.spec check-cost-requires enum_told whole-requires enum-known-r returns returns-2)

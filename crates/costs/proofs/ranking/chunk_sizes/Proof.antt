@@ -1,6 +1,5 @@
 -- Lanes that hold what sizes begin with, by the call or before it.
 use mathlib.Core.Path.{◌≡◌, ap, ◌∙◌}
-use mathlib.Core.Logic.{⊎_elim}
 use lib.ListN.{replicate}
 use lib.Ieee.{Float}
 use Rattle.eval_kernel.specs.Kernel.{no_sizes}
@@ -8,29 +7,26 @@ use Rattle.eval_kernel.proofs.Starting.{from_none}
 use borrow.Author.Rules.{rules}
 use Rattle.costs.proofs.ranking.chunk_sizes.Statement.{statement}
 use Rattle.costs.proofs.ranking.chunk_sizes.Tie as tie
-use Rattle.costs.proofs.ranking.chunk_sizes.Reads as reads
-use Rattle.costs.proofs.ranking.chunk_sizes.Lts as lts
-use Rattle.eval_kernel.proofs.lessen_all.Reads as lessen-all-reads
-use Rattle.eval_kernel.proofs.no_size_lem.Reads as no-size-reads
+use Rattle.costs.proofs.ranking.chunk_sizes.Lts.{then-fill, else-fill}
 
-no-size-requires : tie.Need-no-size-requires
+no-size-requires : tie.Need-no_size-sizes-requires
 no-size-requires c κs = search rules
 
-lessen-all-requires : tie.Need-lessen-all-requires
+lessen-all-requires : tie.Need-lessen_all-requires
 lessen-all-requires c κs = search rules
 
 -- what the sizes are found in
-begun : (c : tie.After-lessen-all) → c.before.before.if1.sizes ≡ no_sizes
+begun : (c : tie.After-lessen_all) → c.if-fill.sizes ≡ no_sizes
 begun c =
-    ⊎_elim
-    (λ w. w.3 ∙ ap (λ (x : Float). replicate 80 x) w.1.ensures)
-    (λ w. w.1 ∙ c.before.before.before.requires w.0.left)
-    c.before.before.if1.branch
+    elim c.if-fill.branch [
+      | then-fill w ↦ w.sizes-is ∙ ap (λ (x : Float). replicate 80 x) w.no_size-sizes.ensures
+      | else-fill w ↦ w.sizes-is ∙ c.requires w.if-fill.false
+    ]
 
 returns : tie.Need-returns
 returns c =
-    let a = c.before.before.before.args in
-    from_none a.over a.s.now a.from.now a.to.now a.m _ c.lessen-all.new.0 (begun c) c.lessen-all.ensures
+    let a = c.args in
+    from_none a.over a.s.now a.from.now a.to.now a.m _ c.lessen_all.new.least (begun c) c.lessen_all.ensures
 
-pub chunk-sizes-spec : {M : Type 1} → statement M
-chunk-sizes-spec = tie.close (tie.spec no-size-requires lessen-all-requires returns)
+pub chunk_sizes_spec : {M : Type 1} → statement M
+chunk_sizes_spec = tie.close (tie.spec no-size-requires lessen-all-requires returns)

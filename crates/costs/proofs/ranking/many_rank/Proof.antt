@@ -8,51 +8,43 @@ use Rattle.costs.proofs.Counting.{rank_in}
 use borrow.Author.Rules.{rules}
 use Rattle.costs.proofs.ranking.many_rank.Statement.{statement}
 use Rattle.costs.proofs.ranking.many_rank.Tie as tie
-use Rattle.costs.proofs.ranking.many_rank.Reads as reads
-use Rattle.costs.proofs.ranking.many_rank.Lts as lts
-use Rattle.eval_columns.proofs.chunk_count.Reads as chunk-count-reads
-use Rattle.eval_kernel.proofs.coordinates.Reads as coordinates-reads
-use Rattle.costs.proofs.ranking.long_rank.Reads as long-rank-reads
-use Rattle.costs.proofs.ranking.short_rank.Reads as short-rank-reads
 
-coordinates-requires : tie.Need-coordinates-requires
+coordinates-requires : tie.Need-coordinates-from-requires
 coordinates-requires c κs = search rules
 
-coordinates-requires-2 : tie.Need-coordinates-requires-2
+coordinates-requires-2 : tie.Need-coordinates-to-requires
 coordinates-requires-2 c κs = search rules
 
-chunk-count-requires : tie.Need-chunk-count-requires
+chunk-count-requires : tie.Need-chunk_count-count-requires
 chunk-count-requires c κs = search rules
 
-ranked : (c : tie.After-chunk-count) (r : ℕ) →
-    let a = c.before.before.before.before.args in
-    let by = exceeding_by a.over a.lanes.now c.before.before.coordinates.result c.before.coordinates2.result a.m in
-    r ≡ selected (by c.chunk_count.result) a.m.eps (min a.cap 4503599627370496)
+ranked : (c : tie.After-chunk_count-count) (r : ℕ) →
+    let a = c.args in
+    let by = exceeding_by a.over a.lanes.now c.coordinates-from.result c.coordinates-to.result a.m in
+    r ≡ selected (by c.chunk_count-count.result) a.m.eps (min a.cap 4503599627370496)
     → RankIn a.over a.store.now a.lanes.now a.m a.low a.high a.cap r
 ranked c r e =
     let s = c.before.before.before.before in
     let a = s.args in
-    let one = c.before.before.coordinates in
-    let two = c.before.coordinates2 in
-    let by = exceeding_by a.over a.lanes.now one.result two.result a.m in
-    rank_in a.store.now s.requires a.low a.high a.lanes.now one.result two.result
-    one.ensures.0 two.ensures.0 one.ensures.1 two.ensures.1 a.over a.cap r
-    (e ∙ ap (λ (k : ℕ). selected (by k) a.m.eps (min a.cap 4503599627370496)) c.chunk_count.ensures)
+    let by = exceeding_by a.over a.lanes.now c.coordinates-from.result c.coordinates-to.result a.m in
+    rank_in a.store.now s.requires a.low a.high a.lanes.now c.coordinates-from.result c.coordinates-to.result
+    c.coordinates-from.ensures.0 c.coordinates-to.ensures.0 c.coordinates-from.ensures.1 c.coordinates-to.ensures.1 a.over a.cap r
+    (e ∙ ap (λ (k : ℕ). selected (by k) a.m.eps (min a.cap 4503599627370496)) c.chunk_count-count.ensures)
 
-short-rank-requires : tie.Need-short-rank-requires
+short-rank-requires : tie.Need-short_rank-requires
 short-rank-requires c κs = search rules
 
-returns : tie.Need-returns
-returns c = ranked c.before.before.before.before _ c.short-rank.ensures
+returns : tie.Need-returns-then-count-lt9
+returns c = ranked c.before.before.before.before _ c.short_rank.ensures
 
-long-rank-requires : tie.Need-long-rank-requires
+long-rank-requires : tie.Need-long_rank-requires
 long-rank-requires c κs = search rules
 
-returns-2 : tie.Need-returns-2
-returns-2 c = ranked c.before.before.before.before _ c.long-rank.ensures
+returns-2 : tie.Need-returns
+returns-2 c = ranked c.before.before.before.before _ c.long_rank.ensures
 
-pub many-rank-spec : {M : Type 1} → statement M
-many-rank-spec =
+pub many_rank_spec : {M : Type 1} → statement M
+many_rank_spec =
     tie.close
     (tie.spec
     coordinates-requires

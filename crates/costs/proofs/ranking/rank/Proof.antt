@@ -15,96 +15,87 @@ use Rattle.costs.proofs.Kept.{KeptSizes, none_kept, one_kept}
 use borrow.Author.Rules.{rules}
 use Rattle.costs.proofs.ranking.rank.Statement.{statement}
 use Rattle.costs.proofs.ranking.rank.Tie as tie
-use Rattle.costs.proofs.ranking.rank.Reads as reads
-use Rattle.costs.proofs.ranking.rank.Lts as lts
-use Rattle.eval_columns.proofs.chunk_count.Reads as chunk-count-reads
-use Rattle.eval_columns.proofs.decode_chunk.Reads as decode-chunk-reads
-use Rattle.eval_kernel.proofs.lessen_all.Reads as lessen-all-reads
-use Rattle.eval_kernel.proofs.coordinates.Reads as coordinates-reads
-use Rattle.scale.proofs.power.Reads as power-reads
-use Rattle.eval_selection.proofs.nth_largest.Reads as nth-largest-reads
 
-abbrev invariant-loop : tie.invariant-loop
+abbrev invariant-loop : tie.invariant-loop-t
 invariant-loop store m over power from to chunk₀ most none sizes₀ count t₀ chunk sizes t = (t ≤ count) × KeptSizes store m over from to sizes t
 
-abbrev decreases-loop : tie.decreases-loop
+abbrev decreases-loop : tie.decreases-loop-t
 decreases-loop store m over power from to chunk₀ most none sizes₀ count t₀ chunk sizes t = count - t
 
-power-requires : tie.Need-power-requires invariant-loop decreases-loop
+power-requires : tie.Need-power-power-requires invariant-loop decreases-loop
 power-requires c κs = search rules
 
-coordinates-requires : tie.Need-coordinates-requires invariant-loop decreases-loop
+coordinates-requires : tie.Need-coordinates-from-requires invariant-loop decreases-loop
 coordinates-requires c κs = search rules
 
-coordinates-requires-2 : tie.Need-coordinates-requires-2 invariant-loop decreases-loop
+coordinates-requires-2 : tie.Need-coordinates-to-requires invariant-loop decreases-loop
 coordinates-requires-2 c κs = search rules
 
-int-to-float-most : tie.Need-int-to-float-most invariant-loop decreases-loop
+int-to-float-most : tie.Need-int_to_float-most invariant-loop decreases-loop
 int-to-float-most c = cast_asks (pos 8589934592) (omega arith)
 
-chunk-count-requires : tie.Need-chunk-count-requires invariant-loop decreases-loop
+chunk-count-requires : tie.Need-chunk_count-count-requires invariant-loop decreases-loop
 chunk-count-requires c κs = search rules
 
-loop-holds : tie.Need-loop-init invariant-loop decreases-loop
+loop-holds : tie.Need-loop-t-init invariant-loop decreases-loop
 loop-holds c = (omega arith, none_kept _ _ _ _ _ _)
 
-cast-decode-chunk : tie.Need-overflow-cast-decode-chunk invariant-loop decreases-loop
+cast-decode-chunk : tie.Need-overflow_cast-t invariant-loop decreases-loop
 cast-decode-chunk c =
-    let p = c.before.before in record { fits = omega (arith, c.before.loop-test.true, p.before.chunk_count.ensures) }
+    let p = c.before.before in record { fits = omega (arith, c.loop-t-test.true, p.chunk_count-count.ensures) }
 
-decode-chunk-requires : tie.Need-decode-chunk-requires invariant-loop decreases-loop
+decode-chunk-requires : tie.Need-decode_chunk-requires invariant-loop decreases-loop
 decode-chunk-requires c κs = search rules
 
-mul-sizes : tie.Need-overflow-mul-sizes invariant-loop decreases-loop
+mul-sizes : tie.Need-offset_bounds-sizes-t invariant-loop decreases-loop
 mul-sizes c = search rules
 
-mul-lessen-all : tie.Need-overflow-mul-lessen-all invariant-loop decreases-loop
+mul-lessen-all : tie.Need-offset_bounds-sizes-t-in-loop-t invariant-loop decreases-loop
 mul-lessen-all c = search rules
 
 -- a turn's chunk has its place among the sizes
-inside : (c : tie.In-loop invariant-loop decreases-loop) → c.before.loop.t < 54
-inside c = omega (arith, c.loop-test.true, c.before.before.chunk_count.ensures)
+inside : (c : tie.In-loop-t invariant-loop decreases-loop) → c.loop-t.t < 54
+inside c = omega (arith, c.loop-t-test.true, c.chunk_count-count.ensures)
 
-array-set-from-sizes : tie.Need-array-set-from-sizes invariant-loop decreases-loop
+array-set-from-sizes : tie.Need-bounds-sizes-t invariant-loop decreases-loop
 array-set-from-sizes c = inside c.before.before
 
-index-1-lessen-all : tie.Need-bounds-1-lessen-all invariant-loop decreases-loop
+index-1-lessen-all : tie.Need-bounds-sizes-t-in-loop-t invariant-loop decreases-loop
 index-1-lessen-all c = inside c.before.before
 
-lessen-all-requires : tie.Need-lessen-all-requires invariant-loop decreases-loop
+lessen-all-requires : tie.Need-lessen_all-requires invariant-loop decreases-loop
 lessen-all-requires c κs = search rules
 
-add-t : tie.Need-overflow-add-t invariant-loop decreases-loop
+add-t : tie.Need-overflow_add-t invariant-loop decreases-loop
 add-t c = search rules
 
-loop-less : tie.Need-loop-smaller invariant-loop decreases-loop
+loop-less : tie.Need-loop-t-smaller invariant-loop decreases-loop
 loop-less c = search rules
 
-loop-again : tie.Need-loop-preserved invariant-loop decreases-loop
+loop-again : tie.Need-loop-t-preserved invariant-loop decreases-loop
 loop-again c =
     let turn = c.before.before.before.before.before.before.before in
     let p = turn.before in
     let two = p.before.before in
     let s = two.before.before.before.before in
     let m = s.args.m in
-    let power = power_of m.scale two.before.before.power.result s.requires.scaled two.before.before.power.ensures in
-    let decodes = c.before.before.before.before.before.decode-chunk in (
-      omega (arith, turn.loop-test.true),
-      one_kept s.args.store.now m s.args.over two.before.coordinates.result two.coordinates2.result p.loop.sizes
-          p.loop.t
-          p.loop.invariant.1 decodes.new.0 c.lessen-all.new.0 (inside turn)
-          (subst (λ (n : ℕ). ChunkOf s.args.store.now p.loop.t m.d n decodes.new.0) power decodes.ensures.0)
-          c.lessen-all.ensures,
+    let power = power_of m.scale two.power-power.result s.requires.scaled two.power-power.ensures in (
+      omega (arith, turn.loop-t-test.true),
+      one_kept s.args.store.now m s.args.over two.coordinates-from.result two.coordinates-to.result p.loop-t.sizes
+          p.loop-t.t
+          p.loop-t.invariant.1 c.decode_chunk.new.chunk c.lessen_all.new.least (inside turn)
+          (subst (λ (n : ℕ). ChunkOf s.args.store.now p.loop-t.t m.d n c.decode_chunk.new.chunk) power c.decode_chunk.ensures.0)
+          c.lessen_all.ensures,
     )
 
-array-share-prefix-sizes : tie.Need-array-share-prefix-sizes invariant-loop decreases-loop
-array-share-prefix-sizes c = omega (arith, c.before.loop.invariant.1.sized.long, c.before.before.chunk_count.ensures)
+array-share-prefix-sizes : tie.Need-slice_bounds-sizes-end invariant-loop decreases-loop
+array-share-prefix-sizes c = omega (arith, c.loop-t.invariant.1.sized.long, c.chunk_count-count.ensures)
 
-slice-aggregate-nth-largest : tie.Need-slice-aggregate-nth-largest invariant-loop decreases-loop
+slice-aggregate-nth-largest : tie.Need-slice_bounds-nth_largest-end invariant-loop decreases-loop
 slice-aggregate-nth-largest c =
-    sym (length-take-le _ _ (omega (arith, c.before.before.loop.invariant.1.sized.long, c.before.before.before.chunk_count.ensures)))
+    sym (length-take-le _ _ (omega (arith, c.loop-t.invariant.1.sized.long, c.chunk_count-count.ensures)))
 
-nth-largest-requires : tie.Need-nth-largest-requires invariant-loop decreases-loop
+nth-largest-requires : tie.Need-nth_largest-requires invariant-loop decreases-loop
 nth-largest-requires c κs = search rules
 
 returns : tie.Need-returns invariant-loop decreases-loop
@@ -115,33 +106,33 @@ returns c =
     let s = two.before.before.before.before in
     let a = s.args in
     let store = a.store.now in
-    let one = two.before.coordinates.ensures in
-    let other = two.coordinates2.ensures in
-    let from = two.before.coordinates.result in
-    let to = two.coordinates2.result in
-    let v = p.loop.invariant in
+    let one = two.coordinates-from.ensures in
+    let other = two.coordinates-to.ensures in
+    let from = two.coordinates-from.result in
+    let to = two.coordinates-to.result in
+    let v = p.loop-t.invariant in
     let kept = v.1 in
-    let n = p.before.chunk_count.result in
-    let ended : p.loop.t ≡ n = omega (arith, v.0, l.loop-test.false) in
-    let all : n ≡ chunks store = omega (arith, p.before.chunk_count.ensures, s.requires.few) in
+    let n = p.chunk_count-count.result in
+    let ended : p.loop-t.t ≡ n = omega (arith, v.0, l.loop-t-test.false) in
+    let all : n ≡ chunks store = omega (arith, p.chunk_count-count.ensures, s.requires.few) in
     let decoded : DecodedFor store a.m kept.lanes = record {
       all = omega (arith, kept.many, all, ended, s.requires.few);
       chunk = λ t h. kept.chunk t (omega (arith, all, ended));
     } in
     let limit = min 18446744073709551615 4503599627370496 in
-    let r = c.nth-largest.result in
+    let r = c.nth_largest.result in
     let e =
     rank_in store s.requires a.low a.high kept.lanes from to one.0 other.0 one.1 other.1 a.over 18446744073709551615 r
-    (c.nth-largest.ensures
-    ∙ kept_selected a.over a.m kept.lanes from to p.loop.sizes n
-    (omega (arith, kept.sized.long, p.before.chunk_count.ensures))
+    (c.nth_largest.ensures
+    ∙ kept_selected a.over a.m kept.lanes from to p.loop-t.sizes n
+    (omega (arith, kept.sized.long, p.chunk_count-count.ensures))
     (λ i h. kept.sized.sizes i (omega (arith, ended))) a.m.eps limit
     ∙ ap (λ (k : ℕ). selected (exceeding_by a.over kept.lanes from to a.m k) a.m.eps limit) (all ∙ sym decoded.all))
     in
     e.by_points decoded ∙ min-eq_left (omega (arith, e.small decoded))
 
-pub rank-spec : {M : Type 1} → statement M
-rank-spec =
+pub rank_spec : {M : Type 1} → statement M
+rank_spec =
     tie.close
     (tie.spec
     invariant-loop

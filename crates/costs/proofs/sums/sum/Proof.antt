@@ -11,82 +11,75 @@ use Rattle.costs.proofs.Summing.{Through, none_through, one_through}
 use borrow.Author.Rules.{rules}
 use Rattle.costs.proofs.sums.sum.Statement.{statement}
 use Rattle.costs.proofs.sums.sum.Tie as tie
-use Rattle.costs.proofs.sums.sum.Reads as reads
-use Rattle.costs.proofs.sums.sum.Lts as lts
-use Rattle.eval_columns.proofs.chunk_count.Reads as chunk-count-reads
-use Rattle.eval_columns.proofs.decode_chunk.Reads as decode-chunk-reads
-use Rattle.eval_kernel.proofs.chunk_loss.Reads as chunk-loss-reads
-use Rattle.eval_kernel.proofs.coordinates.Reads as coordinates-reads
-use Rattle.scale.proofs.power.Reads as power-reads
 
-abbrev invariant-loop : tie.invariant-loop
+abbrev invariant-loop : tie.invariant-loop-t
 invariant-loop store m over power from to chunk₀ count total₀ t₀ chunk total t =
     (t ≤ count) × (total ≤ t * 36028797018963968)
     × ((low high : List ℤ) → Doubles low from → Doubles high to → Through over m store low high t total)
 
-abbrev decreases-loop : tie.decreases-loop
+abbrev decreases-loop : tie.decreases-loop-t
 decreases-loop store m over power from to chunk₀ count total₀ t₀ chunk total t = count - t
 
-power-requires : tie.Need-power-requires invariant-loop decreases-loop
+power-requires : tie.Need-power-power-requires invariant-loop decreases-loop
 power-requires c κs = search rules
 
-coordinates-requires : tie.Need-coordinates-requires invariant-loop decreases-loop
+coordinates-requires : tie.Need-coordinates-from-requires invariant-loop decreases-loop
 coordinates-requires c κs = search rules
 
-coordinates-requires-2 : tie.Need-coordinates-requires-2 invariant-loop decreases-loop
+coordinates-requires-2 : tie.Need-coordinates-to-requires invariant-loop decreases-loop
 coordinates-requires-2 c κs = search rules
 
-chunk-count-requires : tie.Need-chunk-count-requires invariant-loop decreases-loop
+chunk-count-requires : tie.Need-chunk_count-count-requires invariant-loop decreases-loop
 chunk-count-requires c κs = search rules
 
-loop-holds : tie.Need-loop-init invariant-loop decreases-loop
+loop-holds : tie.Need-loop-t-init invariant-loop decreases-loop
 loop-holds c =
-    let a = c.before.before.before.before.before.args in
+    let a = c.args in
     (omega arith, omega arith, λ low high l h. none_through a.over a.m a.store.now low high)
 
-cast-decode-chunk : tie.Need-overflow-cast-decode-chunk invariant-loop decreases-loop
+cast-decode-chunk : tie.Need-overflow_cast-t invariant-loop decreases-loop
 cast-decode-chunk c =
-    let p = c.before.before in record { fits = omega (arith, c.before.loop-test.true, p.before.chunk_count.ensures) }
+    let p = c.before.before in record { fits = omega (arith, c.loop-t-test.true, p.chunk_count-count.ensures) }
 
-decode-chunk-requires : tie.Need-decode-chunk-requires invariant-loop decreases-loop
+decode-chunk-requires : tie.Need-decode_chunk-requires invariant-loop decreases-loop
 decode-chunk-requires c κs = search rules
 
-chunk-loss-requires : tie.Need-chunk-loss-requires invariant-loop decreases-loop
+chunk-loss-requires : tie.Need-chunk_loss-total-requires invariant-loop decreases-loop
 chunk-loss-requires c κs = search rules
 
-add_total : tie.Need-overflow-add-total invariant-loop decreases-loop
+add_total : tie.Need-overflow_add-total invariant-loop decreases-loop
 add_total c =
     let p = c.before.before.before.before.before.before.before in
     record {
       fits = omega (
         arith,
-        p.loop.invariant.1,
-        c.before.before.before.before.before.before.loop-test.true,
-        p.before.chunk_count.ensures,
-        c.chunk-loss.ensures.1,
+        p.loop-t.invariant.1,
+        c.loop-t-test.true,
+        p.chunk_count-count.ensures,
+        c.chunk_loss-total.ensures.1,
       );
     }
 
-add-t : tie.Need-overflow-add-t invariant-loop decreases-loop
+add-t : tie.Need-overflow_add-t invariant-loop decreases-loop
 add-t c = search rules
 
-loop-less : tie.Need-loop-smaller invariant-loop decreases-loop
+loop-less : tie.Need-loop-t-smaller invariant-loop decreases-loop
 loop-less c = search rules
 
-loop-again : tie.Need-loop-preserved invariant-loop decreases-loop
+loop-again : tie.Need-loop-t-preserved invariant-loop decreases-loop
 loop-again c =
     let p = c.before.before.before.before.before.before.before in
     let two = p.before.before in
     let s = two.before.before.before.before in
     let m = s.args.m in
-    let i = c.before.before.before.before.before.before.loop-test.true in
-    let power = power_of m.scale two.before.before.power.result s.requires.scaled two.before.before.power.ensures in (
+    let i = c.loop-t-test.true in
+    let power = power_of m.scale two.power-power.result s.requires.scaled two.power-power.ensures in (
       omega arith,
-      omega (arith, p.loop.invariant.1, c.chunk-loss.ensures.1),
+      omega (arith, p.loop-t.invariant.1, c.chunk_loss-total.ensures.1),
       λ low high l h.
-          one_through s.requires s.args.store.now low high two.before.coordinates.result two.coordinates2.result l h
+          one_through s.requires s.args.store.now low high two.coordinates-from.result two.coordinates-to.result l h
           s.args.over
-          power c.before.before.before.before.decode-chunk.ensures.0 c.chunk-loss.ensures.0 (p.loop.invariant.2 low high l h),
+          power c.decode_chunk.ensures.0 c.chunk_loss-total.ensures.0 (p.loop-t.invariant.2 low high l h),
     )
 
 returns : tie.Need-returns invariant-loop decreases-loop
@@ -97,11 +90,11 @@ returns c =
     let a = s.args in
     let few = s.requires.few in
     all_total a.m (sizes_by a.over a.m a.low a.high) a.store.now
-    (p.loop.invariant.2 a.low a.high two.before.coordinates.ensures.1 two.coordinates2.ensures.1)
-    (omega (arith, p.loop.invariant.0, c.loop-test.false, p.before.chunk_count.ensures))
+    (p.loop-t.invariant.2 a.low a.high two.coordinates-from.ensures.1 two.coordinates-to.ensures.1)
+    (omega (arith, p.loop-t.invariant.0, c.loop-t-test.false, p.chunk_count-count.ensures))
 
-pub sum-spec : {M : Type 1} → statement M
-sum-spec =
+pub sum_spec : {M : Type 1} → statement M
+sum_spec =
     tie.close
     (tie.spec
     invariant-loop
