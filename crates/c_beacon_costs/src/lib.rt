@@ -1,5 +1,6 @@
 // The cost beacon by beacon for C.
 #![tactic(auto)]
+
 ghost use Rattle.std.specs.Prelude.{◌≡◌};
 ghost use Rattle.c_boundary.specs.Boundary.{model_of, code_of, value_after};
 ghost use Rattle.c_beacon_costs.specs.Calls.{cost_by_beacon_call, sums_after_call};
