@@ -1,5 +1,6 @@
 // Stores made from what was received, for C: a beacon taken in, two stores made one.
 #![tactic(auto)]
+
 ghost use Rattle.std.specs.Prelude.{◌≡◌};
 ghost use Rattle.beacon.specs.Beacon.{store_after};
 ghost use Rattle.c_boundary.specs.Boundary.{code_of, value_after};

@@ -9,7 +9,7 @@ merge-requires c κs = search rules
 settle-requires : tie.Need-settle-requires
 settle-requires c κs = search rules
 
-same_length : tie.Need-same-length
+same_length : tie.Need-shape_of-out
 same_length c = search rules
 
 returns : tie.Need-returns
@@ -17,5 +17,5 @@ returns c =
     let k = c.before.before.before.before in
     rw (← k.merge.ensures.0) (c.settle.ensures.0, (c.settle.ensures.1, k.merge.ensures.1))
 
-pub merge-spec : {M : Type 1} → statement M
-merge-spec = tie.close (tie.spec merge-requires settle-requires same_length returns)
+pub merge_spec : {M : Type 1} → statement M
+merge_spec = tie.close (tie.spec merge-requires settle-requires same_length returns)
