@@ -1,5 +1,6 @@
 // Losses, costs and bounds for C.
 #![tactic(auto)]
+
 ghost use Rattle.std.specs.Prelude.{◌≡◌};
 ghost use Rattle.c_boundary.specs.Boundary.{model_of, code_of, value_after};
 ghost use Rattle.c_evaluation.specs.Calls.{loss_call, cost_call, bound_call};

@@ -20,5 +20,5 @@ returns c =
     let e : l.loss.result ≡ loss_answer s.args.p s.args.eps s.args.e = l.loss.ensures ∙ simp to_z-of_z in
     rw (← e) c.settle.ensures
 
-pub loss-spec : {M : Type 1} → statement M
-loss-spec = tie.close (tie.spec loss-requires settle-requires returns)
+pub loss_spec : {M : Type 1} → statement M
+loss_spec = tie.close (tie.spec loss-requires settle-requires returns)
