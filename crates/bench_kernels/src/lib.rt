@@ -1,5 +1,6 @@
 // A cost and a bound over a store that was decoded once, for bench/.
 #![tactic(auto)]
+
 ghost use Rattle.std.specs.Prelude.{◌≡◌, ◌^◌, ◌%◌};
 ghost use Rattle.eval_columns.specs.Columns.{DecodedInto};
 ghost use Rattle.costs.specs.Calls.{cost_in, bound_in};

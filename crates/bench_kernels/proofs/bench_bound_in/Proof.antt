@@ -3,17 +3,17 @@ use borrow.Author.Rules.{rules}
 use Rattle.bench_kernels.proofs.bench_bound_in.Statement.{statement}
 use Rattle.bench_kernels.proofs.bench_bound_in.Tie as tie
 
-model-of-requires : tie.Need-model-of-requires
+model-of-requires : tie.Need-model_of-m-requires
 model-of-requires c κs = search rules
 
-read-row-requires : tie.Need-read-row-requires
+read-row-requires : tie.Need-read_row-requires
 read-row-requires c κs = search rules
 
-bound-in-requires : tie.Need-bound-in-requires
+bound-in-requires : tie.Need-bound_in-requires
 bound-in-requires c κs = search rules
 
 returns : tie.Need-returns
-returns c = rw (← c.before.read-row.ensures, ← c.before.before.model_of.ensures) c.bound-in.ensures.0
+returns c = rw (← c.read_row.ensures, ← c.model_of-m.ensures) c.bound_in.ensures.0
 
-pub bench-bound-in-spec : {M : Type 1} → statement M
-bench-bound-in-spec = tie.close (tie.spec model-of-requires read-row-requires bound-in-requires returns)
+pub bench_bound_in_spec : {M : Type 1} → statement M
+bench_bound_in_spec = tie.close (tie.spec model-of-requires read-row-requires bound-in-requires returns)

@@ -9,11 +9,11 @@ power-requires c κs = search rules
 decode-requires : tie.Need-decode-requires
 decode-requires c κs = search rules
 
-same_length : tie.Need-same-length
+same_length : tie.Need-shape_of-lanes
 same_length c = search rules
 
 returns : tie.Need-returns
-returns c = rw (← c.before.before.power.ensures) c.before.decode.ensures
+returns c = rw (← c.power.ensures) c.decode.ensures
 
-pub bench-decode-spec : {M : Type 1} → statement M
-bench-decode-spec = tie.close (tie.spec power-requires decode-requires same_length returns)
+pub bench_decode_spec : {M : Type 1} → statement M
+bench_decode_spec = tie.close (tie.spec power-requires decode-requires same_length returns)
