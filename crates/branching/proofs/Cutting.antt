@@ -1,6 +1,6 @@
 -- A box that is cut: of a right half that is dropped no vector becomes best, and what was found of a half's bound beside the best vector
 -- from before decides beside the one after both low vectors were tried. Assumes nothing.
-use mathlib.Core.Path.{◌≡◌, refl, sym, ap, subst, ◌∙◌}
+use mathlib.Core.Path.{◌≡◌, sym, ap, subst, ◌∙◌}
 use mathlib.Core.Bool.{Bool, true, false, not}
 use mathlib.Core.List.{List}
 use Prim.Native.Nat.{ℕ, ◌≤◌, ◌<◌, min}
@@ -20,10 +20,9 @@ use Rattle.certificate.proofs.Ahead.{Settled, better_le, none_better}
 use Rattle.certificate.proofs.Dropped.{dropped}
 use Rattle.incumbent.specs.declared.Child.{Child}
 use Rattle.incumbent.specs.declared.Mark.{Mark}
-use Rattle.incumbent.specs.Incumbent.{ahead_of, child_of, kept_by, mark_of, Marks, Tested}
+use Rattle.incumbent.specs.Incumbent.{ahead_of, child_of, mark_of, Marks}
 use Rattle.incumbent.proofs.UpTo.{same_test, found_tested}
 use Rattle.branching.specs.declared.HalfBounds.{HalfBounds}
-use Rattle.branching.specs.declared.Branches.{Branches}
 use Rattle.branching.specs.Branching.{just_above, bounds_up_to, Cut}
 
 -- where C fits, the cap is one more

@@ -14,7 +14,7 @@ use Rattle.eval_halves.specs.Halves.{half_loss_in}
 use Rattle.certificate.specs.Search.{better}
 use Rattle.incumbent.specs.declared.Child.{Child}
 use Rattle.incumbent.specs.declared.Mark.{Mark}
-use Rattle.incumbent.specs.Incumbent.{ahead_of, child_of, kept_by, mark_of, Marks, Tested}
+use Rattle.incumbent.specs.Incumbent.{ahead_of, child_of, kept_by, mark_of, Tested}
 use Rattle.branching.specs.declared.HalfBounds.{HalfBounds}
 use Rattle.branching.specs.declared.Branches.{Branches}
 

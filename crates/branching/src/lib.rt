@@ -1,5 +1,6 @@
 // A box is cut: the bounds of its halves, the best vector after it, and which halves are kept.
 #![tactic(auto)]
+
 ghost use Rattle.std.specs.Prelude.{◌≡◌, false, ◌≤◌, ◌<◌};
 ghost use Rattle.boxes.specs.Boxes.{volume};
 ghost use Rattle.boxes.specs.Split.{left_half, right_half};

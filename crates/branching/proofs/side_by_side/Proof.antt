@@ -4,17 +4,17 @@ use borrow.Author.Tests.{lt-ltb, le-ltb}
 use Rattle.branching.proofs.side_by_side.Statement.{statement}
 use Rattle.branching.proofs.side_by_side.Tie as tie
 
-cast-result : tie.Need-overflow-cast-result
+cast-result : tie.Need-overflow_cast-result
 cast-result c = search rules
 
-returns : tie.Need-returns
-returns c = rw (lt-ltb _ _ c.before.before.before.if1.true, lt-ltb _ _ c.before.if2.true)
+returns : tie.Need-returns-then-m-gt1
+returns c = rw (lt-ltb _ _ c.if-m-lt3.true, lt-ltb _ _ c.if-m-gt1.true)
 
-returns-2 : tie.Need-returns-2
-returns-2 c = rw (lt-ltb _ _ c.before.before.if1.true, le-ltb _ _ c.if2.false)
+returns-2 : tie.Need-returns-else-m-gt1
+returns-2 c = rw (lt-ltb _ _ c.if-m-lt3.true, le-ltb _ _ c.if-m-gt1.false)
 
-returns-3 : tie.Need-returns-3
-returns-3 c = rw (le-ltb _ _ c.if1.false)
+returns-3 : tie.Need-returns-else-m-lt3
+returns-3 c = rw (le-ltb _ _ c.if-m-lt3.false)
 
-pub side-by-side-spec : {M : Type 1} → statement M
-side-by-side-spec = tie.close (tie.spec cast-result returns returns-2 returns-3)
+pub side_by_side_spec : {M : Type 1} → statement M
+side_by_side_spec = tie.close (tie.spec cast-result returns returns-2 returns-3)
