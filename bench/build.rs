@@ -1,4 +1,4 @@
-//! Links what `rt staticlib bench_kernels` writes; the product's own library comes with tests/bindings.
+//! Links what `tools/build bench_kernels` writes; the product's own library comes with tests/bindings.
 fn main() {
     let libraries = format!("{}/../target/staticlib", env!("CARGO_MANIFEST_DIR"));
     println!("cargo:rustc-link-search=native={libraries}");

@@ -1,7 +1,7 @@
 /* The library from C: the cost of a vector, also beacon by beacon and with a limit on spoiled samples, the bound of a box, and which line
  * each point belongs to.
  *
- *   rt staticlib capi
+ *   tools/build capi
  *   cc -std=c99 -Wall -Iinclude examples/cost.c target/staticlib/libcapi.a -o target/cost && target/cost
  */
 #include <stdio.h>

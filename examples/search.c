@@ -1,6 +1,6 @@
 /* The library from C: a search, its answer as a record, and the line that it found as single-precision coefficients.
  *
- *   rt staticlib capi
+ *   tools/build capi
  *   cc -std=c99 -Wall -Iinclude examples/search.c target/staticlib/libcapi.a -o target/search && target/search
  */
 #include <stdio.h>

@@ -1,5 +1,5 @@
 /* The line fitter, for C and everything that speaks C. Link the libvengutari that is installed with this header, or
- * target/staticlib/libcapi.a, which `rt staticlib capi` writes.
+ * target/staticlib/libcapi.a, which `tools/build capi` writes.
  *
  * Each call returns a code:
  *   0                  accepted

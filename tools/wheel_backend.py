@@ -2,7 +2,7 @@
 
     python3 tools/wheel_backend.py FOLDER      writes FOLDER/vengutari-VERSION-py3-none-PLATFORM.whl and prints its name
 
-The static library has to be there already (rt staticlib capi). Nothing is fetched, and no other package is needed.
+The static library has to be there already (tools/build capi). Nothing is fetched, and no other package is needed.
 """
 
 import base64
