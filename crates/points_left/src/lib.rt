@@ -1,5 +1,6 @@
 // The points left of a store, by their labels: a label of 0 says that no round has removed the point.
 #![tactic(auto)]
+
 ghost use Rattle.std.specs.Prelude.{cond, ◌&&◌, map, ◌≡◌, ◌+◌, ◌*◌, ◌/◌, ◌≤◌, ◌<◌, leb, eqb, length, take, drop};
 ghost use Rattle.integers.specs.Lists.{over};
 ghost use Rattle.points.specs.Points.{point_at, points_of};
@@ -60,7 +61,7 @@ fn put_left(label: u8, out: &mut [u8], n: usize, store: &[u8], o: usize) -> usiz
         ≡ cond (eqb label 0) (put out.old n (take 12 (drop o store.now))) out.old }
 {
     if label == 0 {
-        bytes::copy(&store[o..o + 12], &mut out[n..]);
+        out[n..n + 12].copy_from_slice(&store[o..o + 12]);
         12
     } else {
         0
