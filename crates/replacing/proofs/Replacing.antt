@@ -1,36 +1,36 @@
 -- The box that was found is taken out, the others that are kept stay, and its halves that are kept follow. Assumes nothing.
 use mathlib.Core.Path.{◌≡◌, refl, sym, ap, subst, subst₂, ◌∙◌}
-use mathlib.Core.Bool.{Bool, true, false, cond, ◌&&◌, and-true}
+use mathlib.Core.Bool.{Bool, true, false, cond, and-true}
 use mathlib.Core.List.{List, [], ◌∷◌, ◌++◌, append_assoc}
 use mathlib.Core.Logic.{⊎_elim}
-use Prim.Native.Nat.{ℕ, ◌+◌, ◌*◌, ◌≤◌, ◌<◌, min, max}
+use Prim.Native.Nat.{ℕ, ◌+◌, ◌*◌, ◌≤◌, ◌<◌, max}
 use native.Mathlib.Omega.{arith}
 use borrow.Author.Tests.{lt-ltb, ne_eqb}
 use lib.Dec.{T}
 use lib.IntN.{ℤ}
-use lib.ListN.{length, set, drop, length-set, length-take}
+use lib.ListN.{length, set, drop, length-set}
 use lib.Seq.{drop-set-lt}
 use Rattle.integers.specs.Lists.{All, none, also}
 use Rattle.boxes.specs.declared.Box.{Box}
 use Rattle.boxes.specs.Split.{zero_box}
-use Rattle.list_rows.specs.Rows.{row_count, with_row}
+use Rattle.list_rows.specs.Rows.{with_row}
 use Rattle.list_rows.proofs.Rows.{Whole, length_with}
 use Rattle.list_blocks.specs.Blocks.{gone}
 use Rattle.incumbent.specs.declared.Child.{Child}
 use Rattle.incumbent.specs.declared.Mark.{Mark}
 use Rattle.incumbent.specs.Incumbent.{kept_by, Tested}
 use Rattle.branching.specs.declared.Branches.{Branches}
-use Rattle.list_open_boxes.specs.OpenBoxes.{room_in, fits, if_kept, kept_boxes}
+use Rattle.list_open_boxes.specs.OpenBoxes.{room_in, if_kept}
 use Rattle.list_running.specs.declared.Found.{Found}
 use Rattle.list_running.specs.declared.Listing.{Listing}
-use Rattle.list_running.specs.Listing.{list_of, with_late, TakenBy, SettledBy, Listed}
+use Rattle.list_running.specs.Listing.{with_late, TakenBy, SettledBy, Listed}
 use Rattle.list_running.proofs.Taking.{taken}
 use Rattle.list_running.proofs.Settling.{settled, settled_together}
 use Rattle.list_running.proofs.Adding.{added}
 use Rattle.certificate.specs.Search.{first_smallest, keep_if, without}
 use Rattle.certificate.proofs.Ahead.{ahead_le}
 use Rattle.certificate.proofs.Lists.{append_kept, length_kept, takes_at, takes_all}
-use Rattle.replacing.specs.Replacing.{Memory, takes_in, put_late, put_row, put_entry, list_with, memory_with, list_in, HeldIn, RoomMade}
+use Rattle.replacing.specs.Replacing.{Memory, takes_in, put_row, put_entry, list_with, memory_with, list_in, HeldIn, RoomMade}
 use Rattle.replacing.specs.Replacing.{Made, LateLong, Within, Replaceable, remaining, ReplacedIn}
 
 -- a half, kept or not, for any test

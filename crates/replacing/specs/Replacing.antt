@@ -1,6 +1,6 @@
 -- What a step does to the list, by the memory that holds it. These definitions say what this crate's functions do; the contract of a search
 -- does not rest on them, and a reader of that need not believe them.
-use Rattle.std.specs.Prelude.{◌≡◌, Bool, true, false, cond, ◌&&◌, List, [], ◌∷◌, ◌++◌, ◌⊎◌, ℕ, ◌+◌, ◌*◌, ◌≤◌, ◌<◌, min, max, ltb, leb, eqb, ℤ, length, set, drop}
+use Rattle.std.specs.Prelude.{◌≡◌, Bool, true, false, cond, List, [], ◌∷◌, ◌++◌, ◌⊎◌, ℕ, ◌+◌, ◌*◌, ◌≤◌, ◌<◌, min, max, ltb, leb, eqb, ℤ, length, set, drop}
 use Rattle.integers.specs.Lists.{All}
 use Rattle.boxes.specs.declared.Box.{Box}
 use Rattle.certificate.specs.Search.{keep_if, first_smallest, without}

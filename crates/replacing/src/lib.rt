@@ -1,5 +1,6 @@
 // What a step does to the list: the box that was found goes, the others that are kept stay, and its halves that are kept follow.
 #![tactic(auto)]
+
 ghost use Rattle.std.specs.Prelude.{◌≡◌, cond};
 ghost use Rattle.incumbent.specs.Incumbent.{ahead_of};
 ghost use Rattle.list_running.specs.Listing.{box_in, nearer};
@@ -85,6 +86,7 @@ pub fn add(late: &mut [i16], beside: &mut [u64], list: Listing, child: Child) ->
 
 // Whether more boxes would remain than there is room for. They are counted only where there may be too many: where best stays, so do all
 // others, and it is known how many; else the box that was found is one too many, if it is kept itself.
+#[tactic(auto, using(list_open_boxes::proofs::Picking::number_few, list_open_boxes::proofs::Picking::one_at_most, crate::proofs::Counting::too_long, crate::proofs::Counting::enough, crate::proofs::Counting::all_stay, crate::proofs::Counting::counted))]
 fn too_many(
     table: &[i16],
     bounds: &[u64],
@@ -140,6 +142,7 @@ fn make_room(
 
 // Takes out the box that was found and those that are not kept, and puts its halves behind the others. Where more would remain than the
 // table has rows nothing is written.
+#[tactic(auto, using(list_rows::proofs::Rows::Whole, list_running::proofs::Entries::one_answer, crate::proofs::Adding::two_added, crate::proofs::Replacing::added_long, crate::proofs::Replacing::late_long, crate::proofs::Replacing::entries_long, crate::proofs::Replacing::room_long))]
 pub fn replace(
     table: &mut [i16],
     bounds: &mut [u64],

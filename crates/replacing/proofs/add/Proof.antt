@@ -4,47 +4,45 @@ use borrow.Author.Rules.{rules}
 use Rattle.replacing.proofs.add.Statement.{statement}
 use Rattle.replacing.proofs.add.Tie as tie
 
-returns : tie.Need-returns
+returns : tie.Need-returns-then-list
 returns c =
-    let a = c.before.before.before.args in none_more a.late.now a.beside.now a.list a.child c.if1.true
+    let a = c.args in none_more a.late.now a.beside.now a.list a.child c.if-list.true
 
-put-requires : tie.Need-put-requires
+put-requires : tie.Need-put-end-requires
 put-requires c κs = search rules
 
-same_length : tie.Need-same-length
+same_length : tie.Need-shape_of-late-then-end-list
 same_length c = search rules
 
-same-length-2 : tie.Need-same-length-2
+same-length-2 : tie.Need-shape_of-beside-then-end-list
 same-length-2 c = search rules
 
-returns-2 : tie.Need-returns-2
+returns-2 : tie.Need-returns-then-end-list
 returns-2 c =
-    let a = c.before.before.before.before.before.before.before.before.before.before.before.args in
-    let put = c.before.before.before.before.before.put in
-    put_none a.late.now a.beside.now a.list a.child put.result _ _
-    c.before.before.before.before.before.before.before.before.if1.false put.ensures.0 put.ensures.1.0
-    put.ensures.1.1 c.if2.true
+    let a = c.args in
+    put_none a.late.now a.beside.now a.list a.child c.put-end.result _ _
+    c.if-list.false c.put-end.ensures.0 c.put-end.ensures.1.0
+    c.put-end.ensures.1.1 c.if-end-list.true
 
 nearest-requires : tie.Need-nearest-requires
 nearest-requires c κs = search rules
 
-add-t7 : tie.Need-overflow-add-t7
+add-t7 : tie.Need-overflow_add-result
 add-t7 c = search rules
 
-same-length-3 : tie.Need-same-length-3
+same-length-3 : tie.Need-shape_of-late
 same-length-3 c = search rules
 
-same-length-4 : tie.Need-same-length-4
+same-length-4 : tie.Need-shape_of-beside
 same-length-4 c = search rules
 
-returns-3 : tie.Need-returns-3
+returns-3 : tie.Need-returns
 returns-3 c =
-    let a = c.before.before.before.before.before.before.before.before.before.before.before.before.before.before.args in
-    let put = c.before.before.before.before.before.before.before.before.put in
-    put_one a.late.now a.beside.now a.list a.child put.result _ _
-    c.before.before.before.before.before.before.before.before.before.before.before.if1.false put.ensures.0
-    put.ensures.1.0
-    put.ensures.1.1 c.before.before.before.if2.false c.before.nearest.result c.before.nearest.ensures
+    let a = c.args in
+    put_one a.late.now a.beside.now a.list a.child c.put-end.result _ _
+    c.if-list.false c.put-end.ensures.0
+    c.put-end.ensures.1.0
+    c.put-end.ensures.1.1 c.if-end-list.false c.nearest.result c.nearest.ensures
 
 pub add_spec : {M : Type 1} → statement M
 add_spec =
