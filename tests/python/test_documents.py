@@ -32,7 +32,7 @@ def text(path):
 def dependencies():
     """crates.txt: what each crate names, in its order."""
     lines = [line.split("#")[0].split(":") for line in text(ROOT / "crates.txt").splitlines()]
-    return {line[0].strip(): line[1].split() for line in lines if len(line) == 2}
+    return {line[0].split()[0]: line[1].split() for line in lines if len(line) == 2}
 
 
 def layers(page):

@@ -197,7 +197,7 @@ class Trace(unittest.TestCase):
         self.assertEqual(wrong_rows(self.page), [])
 
     def test_a_wrong_name_is_noticed(self):
-        for name in ("loss/Loss: lossOff", "loss/Lost: lossOf", "loss/proofs/Laws: lossOf", "loss::losses", "losses::loss"):
+        for name in ("loss/Loss: loss_off", "loss/Lost: loss_of", "loss/proofs/Laws: loss_of", "loss::losses", "losses::loss"):
             self.assertFalse(stands(name), name)
         for name in ("must-fail loss/none", "compare none", "slip Nothing", "program loss", "python test_none", "some words"):
             self.assertFalse(stands(name), name)
@@ -216,12 +216,12 @@ class Trace(unittest.TestCase):
 
     def test_a_wrong_page_is_noticed(self):
         head = "| Name | What is meant |\n|---|---|\n## Part\n| Sentence | Stated | Proved | Run |\n|---|---|---|---|\n"
-        sound = '| A "a" | `loss/Loss: lossOf` | `loss::loss` | – |\n'
+        sound = '| A "a" | `loss/Loss: loss_of` | `loss::loss` | – |\n'
         self.assertEqual((wrong_rows(head + sound), wrong_names(head + sound)), ([], []))
         for row in ('| A "a" | b | c |', '| A "a" | b | c | d | e |', 'A "a" | b | c | d |', '| A "a" | b | c | d', '| A "a" | b | | d |'):
             self.assertEqual(wrong_rows(head + sound + row), [row])
-        for line in ('| A "a" | `loss/Loss: lossOff` | c | d |', "Words of `loss/Loss: lossOff`."):
-            self.assertEqual(wrong_names(head + sound + line), ["loss/Loss: lossOff"])
+        for line in ('| A "a" | `loss/Loss: loss_off` | c | d |', "Words of `loss/Loss: loss_off`."):
+            self.assertEqual(wrong_names(head + sound + line), ["loss/Loss: loss_off"])
         self.assertEqual(wrong_names("| `loss::losses` | a function |\n" + head + sound), ["loss::losses"])
 
 
