@@ -1,5 +1,6 @@
 // Values out of the lent buffers of the calls for C, and elements into them.
 #![tactic(auto)]
+
 ghost use Rattle.std.specs.Prelude.{◌≡◌, pos};
 ghost use Rattle.c_buffers.specs.Buffers.{exactly, vector_from, filled};
 

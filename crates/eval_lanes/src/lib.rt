@@ -1,5 +1,6 @@
 // Points side by side, in double precision.
 #![tactic(auto)]
+
 ghost use Rattle.std.specs.Prelude.{◌≡◌, length};
 
 // Eighty points in five columns: x1 to x4, and y times 2^S.

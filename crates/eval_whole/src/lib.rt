@@ -1,5 +1,6 @@
 // Whole numbers in double precision: the larger and the smaller of two, and one as an integer.
 #![tactic(auto)]
+
 ghost use Rattle.std.specs.Prelude.{◌≡◌};
 ghost use Rattle.eval_whole.specs.Whole.{larger_of, smaller_of, counted};
 

@@ -1,5 +1,6 @@
 // Big-endian fields at their places in a record's bytes: numbers and vectors. What does not lie in the bytes is neither read nor written.
 #![tactic(auto)]
+
 ghost use Rattle.std.specs.Prelude.{[], ◌∷◌, ◌≡◌, ◌+◌, ◌^◌, ◌<◌, ltb, length};
 ghost use Rattle.std.specs.Int.{w16};
 ghost use Rattle.std.proofs.Common.{of_z, to_z};

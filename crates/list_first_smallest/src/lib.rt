@@ -1,5 +1,6 @@
 // The first smallest of the numbers of a list.
 #![tactic(auto)]
+
 ghost use Rattle.std.specs.Prelude.{◌≡◌, ◌≤◌, min, length};
 ghost use Rattle.list_first_smallest.specs.FirstSmallest.{FirstLeast, LowestOf, entry_at};
 

@@ -1,5 +1,6 @@
 // The smaller and the larger of two numbers: of places and counts, and of costs.
 #![tactic(auto)]
+
 ghost use Rattle.std.specs.Prelude.{◌≡◌, max, min};
 
 pub fn smaller(a: usize, b: usize) -> usize

@@ -1,5 +1,6 @@
 // The scale S: a parameter w stands for w / 2^S.
 #![tactic(auto)]
+
 ghost use Rattle.std.specs.Prelude.{◌≡◌, ◌^◌, ◌%◌};
 ghost use Rattle.scale.specs.Scale.{check_scale};
 

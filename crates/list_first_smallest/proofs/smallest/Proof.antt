@@ -41,8 +41,9 @@ loop-again c =
     let at = l.loop-i.at in
     let inv = l.loop-i.invariant in
     elim c.if-x-low.branch [
-      then-x-low w ↦ rw (w.low-is, w.at-is) (omega arith, least_new d i at inv.1 (omega (arith, w.if-x-low.true)), refl)
-    | else-x-low w ↦ rw (w.low-is, w.at-is) (omega arith, least_kept d i at inv.1 (omega (arith, w.if-x-low.false)), inv.2) ]
+      | then-x-low w ↦ rw (w.low-is, w.at-is) (omega arith, least_new d i at inv.1 (omega (arith, w.if-x-low.true)), refl)
+      | else-x-low w ↦ rw (w.low-is, w.at-is) (omega arith, least_kept d i at inv.1 (omega (arith, w.if-x-low.false)), inv.2)
+    ]
 
 returns : tie.Need-returns invariant-loop decreases-loop
 returns c =
