@@ -2,7 +2,7 @@
 use mathlib.Core.Path.{◌≡◌, refl, sym, ap, subst, ◌∙◌}
 use mathlib.Core.Bool.{Bool, true, false, cond}
 use mathlib.Core.List.{List, [], ◌∷◌}
-use Prim.Native.Nat.{ℕ, ◌+◌, ◌≤◌, ◌<◌, min}
+use Prim.Native.Nat.{ℕ, ◌≤◌, ◌<◌, min}
 use native.Mathlib.Omega.{arith}
 use lib.IntN.{ℤ}
 use lib.ListN.{length}
@@ -16,7 +16,7 @@ use Rattle.range_hulls.specs.Hulls.{found_of}
 use Rattle.branching.specs.Branching.{just_above}
 use Rattle.ranges.specs.declared.step.State.{State}
 use Rattle.ranges.specs.declared.step.Tested.{Tested}
-use Rattle.ranges.specs.Inside.{tested_by, pushed, place_after, state_in, Within, Begun}
+use Rattle.ranges.specs.Inside.{tested_by, pushed, Within, Begun}
 use Rattle.ranges.proofs.Testing.{kept_same, costed_same}
 use Rattle.ranges.proofs.Pushing.{push_rows, push_within}
 

@@ -16,7 +16,7 @@ use Rattle.boxes.specs.declared.Box.{Box}
 use Rattle.boxes.specs.Split.{left_half, right_half}
 use Rattle.boxes.specs.Laws.{Bounds, Halved}
 use Rattle.boxes.proofs.Halving.{halved}
-use Rattle.list_rows.specs.Rows.{row_count, row_at, rows_of}
+use Rattle.list_rows.specs.Rows.{row_count, rows_of}
 use Rattle.list_rows.proofs.Rows.{rows_more, rows_length, row_whole}
 use Rattle.certificate.specs.Search.{keep_if}
 use Rattle.certificate.proofs.Lists.{append_kept}

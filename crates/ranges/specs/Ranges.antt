@@ -17,7 +17,6 @@ use Rattle.range_search.specs.RangeSearch as Search
 use Rattle.range_search.specs.RangeSearch.{Found, nothing, range_search}
 use Rattle.range_search.specs.Ranged.{Ranged}
 use Rattle.coefficients.specs.Coefficient.{coefficient_of}
-use Rattle.range_hulls.specs.declared.Slot.{Slot}
 use Rattle.range_hulls.specs.declared.Range.TheVariants.{Nothing}
 use Rattle.range_hulls.specs.Hulls.{slots_of}
 use Rattle.search_checks.specs.Checks.{check_job}

@@ -1,6 +1,7 @@
 // The range of every coefficient: the least and the greatest value that each used coordinate has among all vectors of a job's box that cost
 // at most a ceiling.
 #![tactic(auto)]
+
 mod run;
 mod step;
 

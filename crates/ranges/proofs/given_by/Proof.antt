@@ -1,44 +1,43 @@
 -- By the kind.
-use native.Mathlib.Omega.{arith}
 use borrow.Author.Rules.{rules}
 use Rattle.ranges.proofs.given_by.Statement.{statement}
 use Rattle.ranges.proofs.given_by.Tie as tie
 
-enum_told : tie.Need-enum-told
+enum_told : tie.Need-enum_told-1
 enum_told c = search rules
 
-enum-told-2 : tie.Need-enum-told-2
+enum-told-2 : tie.Need-enum_told-in-Spent
 enum-told-2 c = search rules
 
-no-hull-requires : tie.Need-no-hull-requires
+no-hull-requires : tie.Need-no_hull-requires
 no-hull-requires c κs = search rules
 
-enum-told-3 : tie.Need-enum-told-3
+enum-told-3 : tie.Need-enum_told-in-Full
 enum-told-3 c = search rules
 
-no-hull-requires-2 : tie.Need-no-hull-requires-2
+no-hull-requires-2 : tie.Need-no_hull-requires-in-Full
 no-hull-requires-2 c κs = search rules
 
-enum-told-4 : tie.Need-enum-told-4
+enum-told-4 : tie.Need-enum_told-in-Refused
 enum-told-4 c = search rules
 
-no-hull-requires-3 : tie.Need-no-hull-requires-3
+no-hull-requires-3 : tie.Need-no_hull-requires-in-Refused
 no-hull-requires-3 c κs = search rules
 
-returns : tie.Need-returns
-returns c = rw c.enum_told.given.1
+returns : tie.Need-returns-in-Finished
+returns c = rw c.in-Finished.is
 
-returns-2 : tie.Need-returns-2
-returns-2 c = rw (c.no-hull.ensures, c.before.enum-told2.given.1)
+returns-2 : tie.Need-returns-in-Spent
+returns-2 c = rw (c.no_hull.ensures, c.in-Spent.is)
 
-returns-3 : tie.Need-returns-3
-returns-3 c = rw (c.no-hull2.ensures, c.before.enum-told3.given.1)
+returns-3 : tie.Need-returns-in-Full
+returns-3 c = rw (c.no_hull-in-Full.ensures, c.in-Full.is)
 
-returns-4 : tie.Need-returns-4
-returns-4 c = rw (c.no-hull3.ensures, c.before.enum-told4.given.1)
+returns-4 : tie.Need-returns-in-Refused
+returns-4 c = rw (c.no_hull-in-Refused.ensures, c.in-Refused.is)
 
-pub given-by-spec : {M : Type 1} → statement M
-given-by-spec =
+pub given_by_spec : {M : Type 1} → statement M
+given_by_spec =
     tie.close
     (tie.spec
     enum_told

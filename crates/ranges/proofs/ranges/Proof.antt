@@ -16,25 +16,25 @@ use borrow.Author.Rules.{rules}
 use Rattle.ranges.proofs.ranges.Statement.{statement}
 use Rattle.ranges.proofs.ranges.Tie as tie
 
-check-ranges-requires : tie.Need-check-ranges-requires
+check-ranges-requires : tie.Need-check_ranges-requires
 check-ranges-requires c κs = search rules
 
-enum_told : tie.Need-enum-told
+enum_told : tie.Need-enum_told-1
 enum_told c = search rules
 
-slice-aggregate-sixteen-bits : tie.Need-slice-aggregate-sixteen-bits
+slice-aggregate-sixteen-bits : tie.Need-slice_bounds-sixteen_bits-end
 slice-aggregate-sixteen-bits c = search rules
 
-sixteen-bits-requires : tie.Need-sixteen-bits-requires
+sixteen-bits-requires : tie.Need-sixteen_bits-requires
 sixteen-bits-requires c κs = search rules
 
-slice-aggregate-sixteen-bits-2 : tie.Need-slice-aggregate-sixteen-bits-2
+slice-aggregate-sixteen-bits-2 : tie.Need-slice_bounds-sixteen_bits-end-in-Pass
 slice-aggregate-sixteen-bits-2 c = search rules
 
-sixteen-bits-requires-2 : tie.Need-sixteen-bits-requires-2
+sixteen-bits-requires-2 : tie.Need-sixteen_bits-requires-in-Pass
 sixteen-bits-requires-2 c κs = search rules
 
-slice-aggregate-decode : tie.Need-slice-aggregate-decode
+slice-aggregate-decode : tie.Need-slice_bounds-decode-end
 slice-aggregate-decode c = search rules
 
 power-requires : tie.Need-power-requires
@@ -43,16 +43,16 @@ power-requires c κs = search rules
 decode-requires : tie.Need-decode-requires
 decode-requires c κs = search rules
 
-slice-aggregate-begin : tie.Need-slice-aggregate-begin
+slice-aggregate-begin : tie.Need-slice_bounds-begin-end
 slice-aggregate-begin c = search rules
 
 -- an accepted job
-module _ (c : tie.After-enum-told) where
+module _ (c : tie.In-Pass) where
   abbrev begun : tie.Start
-  begun = c.before.before.before.before
+  begun = c.before.before.before
 
   pass : check_lent begun.args.store.now begun.args.job begun.args.ceiling begun.args.table.now ≡ Pass
-  pass = sym c.before.before.check-ranges.ensures ∙ c.enum_told.given.1
+  pass = sym c.check_ranges.ensures ∙ c.in-Pass.is
 
   rows : 16 ≤ length begun.args.table.now
   rows = rows_lent begun.args.store.now begun.args.job begun.args.ceiling begun.args.table.now pass
@@ -62,26 +62,26 @@ module _ (c : tie.After-enum-told) where
 
 -- the store is decoded
 module _ (c : tie.After-decode) where
-  abbrev told : tie.After-enum-told
+  abbrev told : tie.In-Pass
   told = c.before.before.before.before.before.before.before.before.before.before.before
 
-  evaluable : Evaluable (begun told).args.store.now c.decode.last.0 (begun told).args.job.model
+  evaluable : Evaluable (begun told).args.store.now c.decode.new.lanes (begun told).args.job.model
   evaluable =
       let a = (begun told).args in
       let checked = (accepted a.store.now a.job a.ceiling a.table.now (pass told)).checked in
       record {
         checked = checked;
         decoded =
-            decoded_for a.store.now a.job.model checked c.before.power.ensures refl (search rules) c.decode.ensures;
+            decoded_for a.store.now a.job.model checked c.power.ensures refl (search rules) c.decode.ensures;
       }
 
   limit : Limited (bound (begun told).args.job.model (points_of (begun told).args.store.now)) (begun told).args.job.domain
   limit =
       let a = (begun told).args in
       limited a.store.now a.job a.ceiling a.table.now (pass told)
-      c.before.before.before.before.before.sixteen-bits.ensures c.before.before.before.sixteen-bits2.ensures
+      c.sixteen_bits.ensures c.sixteen_bits-in-Pass.ensures
 
-begin-requires : tie.Need-begin-requires
+begin-requires : tie.Need-begin-first-requires
 begin-requires c κs =
     let d = c.before.before.before in
     let e = told d in (
@@ -91,7 +91,7 @@ begin-requires c κs =
       limit d (begun e).args.job.domain (some e) (λ v i. i),
     )
 
-slice-aggregate-steps : tie.Need-slice-aggregate-steps
+slice-aggregate-steps : tie.Need-slice_bounds-steps-end
 slice-aggregate-steps c = search rules
 
 steps-requires : tie.Need-steps-requires
@@ -99,44 +99,44 @@ steps-requires c κs =
     let b = c.before.before.before in
     let d = b.before.before.before.before in
     let e = told d in
-    let first = b.begin.ensures in
+    let first = b.begin-first.ensures in
     let same = first.within.long in
     ((evaluable d, omega (arith, rows e, same), some e, limit d), first.state)
 
 tell-requires : tie.Need-tell-requires
 tell-requires c κs = search rules
 
-enum-known-why : tie.Need-enum-known-why
+enum-known-why : tie.Need-enum_known-why
 enum-known-why c = search rules
 
 refusal-requires : tie.Need-refusal-requires
 refusal-requires c κs = search rules
 
-same_length : tie.Need-same-length
+same_length : tie.Need-shape_of-table
 same_length c = search rules
 
-returns : tie.Need-returns
+returns : tie.Need-returns-in-Pass
 returns c =
     let q = c.before.before in
     let b = q.before.before.before.before in
     let d = b.before.before.before.before in
     let e = told d in
     let a = (begun e).args in
-    promised_pass a.store.now a.job a.ceiling a.table.now (pass e) q.steps.last.1.1.1.1.0 q.steps.result
-    (ended_from a.store.now a.job a.ceiling a.table.now (pass e) b.begin.last.1.1.1.1.0
-    q.steps.last.1.1.1.1.0 b.begin.result q.steps.result b.begin.ensures q.steps.ensures)
+    promised_pass a.store.now a.job a.ceiling a.table.now (pass e) q.steps.new.table q.steps.result
+    (ended_from a.store.now a.job a.ceiling a.table.now (pass e) b.begin-first.new.table
+    q.steps.new.table b.begin-first.result q.steps.result b.begin-first.ensures q.steps.ensures)
     c.tell.result c.tell.ensures
 
-returns-2 : tie.Need-returns-2
+returns-2 : tie.Need-returns-in-Refuse
 returns-2 c =
-    let w = c.before.before in
-    let q = w.before.before in
-    let a = q.before.before.args in
-    promised_refused a.store.now a.job a.ceiling a.table.now w.why.given.0.0 c.refusal.result
-    (sym q.check-ranges.ensures ∙ w.why.given.1) c.refusal.ensures
+    let w = c.before in
+    let q = w.before in
+    let a = q.args in
+    promised_refused a.store.now a.job a.ceiling a.table.now w.in-Refuse.why c.refusal.result
+    (sym q.check_ranges.ensures ∙ w.in-Refuse.is) c.refusal.ensures
 
-pub ranges-spec : {M : Type 1} → statement M
-ranges-spec =
+pub ranges_spec : {M : Type 1} → statement M
+ranges_spec =
     tie.close
     (tie.spec
     check-ranges-requires

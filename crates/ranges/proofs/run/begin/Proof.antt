@@ -8,33 +8,32 @@ use Rattle.list_rows.proofs.Rows.{Whole}
 use Rattle.branching.specs.Branching.{just_above}
 use Rattle.branching.proofs.UpTo.{bound_found}
 use Rattle.ranges.proofs.Beginning.{begun}
-use native.Mathlib.Omega.{arith}
 use borrow.Author.Rules.{rules}
 use Rattle.ranges.proofs.run.begin.Statement.{statement}
 use Rattle.ranges.proofs.run.begin.Tie as tie
 
-just-above-requires : tie.Need-just-above-requires
+just-above-requires : tie.Need-just_above-requires
 just-above-requires c κs = search rules
 
-bound-in-requires : tie.Need-bound-in-requires
+bound-in-requires : tie.Need-bound_in-x-requires
 bound-in-requires c κs = search rules
 
-test-requires : tie.Need-test-requires
+test-requires : tie.Need-test-given-requires
 test-requires c κs = search rules
 
 push-requires : tie.Need-push-requires
 push-requires c κs = search rules
 
-one-if-requires : tie.Need-one-if-requires
+one-if-requires : tie.Need-one_if-number-requires
 one-if-requires c κs = search rules
 
-no-hull-requires : tie.Need-no-hull-requires
+no-hull-requires : tie.Need-no_hull-requires
 no-hull-requires c κs = search rules
 
 costed-requires : tie.Need-costed-requires
 costed-requires c κs = search rules
 
-same_length : tie.Need-same-length
+same_length : tie.Need-shape_of-table
 same_length c = search rules
 
 whole : (s : tie.Start) → Whole s.args.domain
@@ -51,16 +50,16 @@ returns c =
     let a = start.args in
     let C = cost a.m (points_of a.store.now) in
     let B = bound a.m (points_of a.store.now) in
-    let is_x : found.bound-in.result ≡ min (B a.domain) (just_above a.ceiling) =
-    bound_found a.store.now a.m start.pre.0.checked a.domain _ _ (found.bound-in.ensures.1 start.pre.0.decoded)
-    ∙ ap (min (B a.domain)) above.just-above.ensures in
+    let is_x : found.bound_in-x.result ≡ min (B a.domain) (just_above a.ceiling) =
+    bound_found a.store.now a.m start.requires.0.checked a.domain _ _ (found.bound_in-x.ensures.1 start.requires.0.decoded)
+    ∙ ap (min (B a.domain)) above.just_above.ensures in
     rw p.push.ensures
-    (begun C B (bound_laws a.m (points_of a.store.now)) a.ceiling a.domain start.pre.2 (whole start) start.pre.3
-    a.table.now start.pre.1 _ is_x test.test.result test.test.ensures _
-    (c.costed.ensures ∙ rw n.no-hull.ensures) n.before.one-if.ensures refl n.before.one-if.ensures)
+    (begun C B (bound_laws a.m (points_of a.store.now)) a.ceiling a.domain start.requires.2 (whole start) start.requires.3
+    a.table.now start.requires.1 _ is_x test.test-given.result test.test-given.ensures _
+    (c.costed.ensures ∙ rw n.no_hull.ensures) n.one_if-number.ensures refl n.one_if-number.ensures)
 
-pub begin-spec : {M : Type 1} → statement M
-begin-spec =
+pub begin_spec : {M : Type 1} → statement M
+begin_spec =
     tie.close
     (tie.spec
     just-above-requires

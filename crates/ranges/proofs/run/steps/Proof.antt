@@ -1,6 +1,6 @@
 -- The invariant: the definition's run has come to the state, with its list in the first rows. The measure is what is left of the budget.
 use borrow.Author.Rules.{rules}
-use mathlib.Core.Path.{◌≡◌, sym, ap, ◌∙◌}
+use mathlib.Core.Path.{◌≡◌, ap, ◌∙◌}
 use mathlib.Core.List.{List}
 use Prim.Native.Nat.{ℕ, ◌-◌, ◌≤◌}
 use borrow.Author.Tests.{eqb-true, eqb-false}
@@ -19,11 +19,11 @@ use native.Mathlib.Omega.{arith}
 use Rattle.ranges.proofs.run.steps.Statement.{statement}
 use Rattle.ranges.proofs.run.steps.Tie as tie
 
-abbrev invariant-loop : tie.invariant-loop
+abbrev invariant-loop : tie.invariant-loop-job
 invariant-loop store lanes job ceiling table₀ m s₀ table s =
     Going (cost job.model (points_of store)) (bound job.model (points_of store)) ceiling job.budget job.domain table₀ s table
 
-abbrev decreases-loop : tie.decreases-loop
+abbrev decreases-loop : tie.decreases-loop-job
 decreases-loop store lanes job ceiling table₀ m s₀ table s = job.budget - s.count
 
 module _ (b : tie.Start invariant-loop decreases-loop) where
@@ -37,28 +37,28 @@ module _ (b : tie.Start invariant-loop decreases-loop) where
   laws = bound_laws b.args.job.model (points_of b.args.store.now)
 
   budget-fits : b.args.job.budget ≤ 4294967295
-  budget-fits = search (rules, b.good.1.1.0)
+  budget-fits = search (rules, b.well_formed.1.1.0)
 
 -- what a turn knows once its tests are made
-module _ (k : tie.After-struct-known3 invariant-loop decreases-loop) where
-  abbrev turn : tie.At-loop invariant-loop decreases-loop
+module _ (k : tie.After-struct_known-in-loop-job-2-1 invariant-loop decreases-loop) where
+  abbrev turn : tie.At-loop-job invariant-loop decreases-loop
   turn = k.before.before.before
 
   abbrev begun : tie.Start invariant-loop decreases-loop
   begun = turn.before.before.before
 
   abbrev s : State
-  s = turn.loop.s
+  s = turn.loop-job.s
 
 -- where a box is open
-some : (e : tie.Else1 invariant-loop decreases-loop) → 1 ≤ (s e.before).«open»
-some e = let other : (s e.before).«open» ≡ 0 → ⊥ = eqb-false (s e.before).«open» 0 e.if1.false in omega arith
+some : (e : tie.Else-done invariant-loop decreases-loop) → 1 ≤ (s e.before).«open»
+some e = let other : (s e.before).«open» ≡ 0 → ⊥ = eqb-false (s e.before).«open» 0 e.if-done.false-raw in omega arith
 
 -- and a split is left
-left : (c : tie.Else2 invariant-loop decreases-loop) → (s c.before.before).count ≡ (begun c.before.before).args.job.budget → ⊥
-left c = eqb-false (s c.before.before).count (begun c.before.before).args.job.budget c.if2.false
+left : (c : tie.Else-spent invariant-loop decreases-loop) → (s c.before.before).count ≡ (begun c.before.before).args.job.budget → ⊥
+left c = eqb-false (s c.before.before).count (begun c.before.before).args.job.budget c.if-spent.false-raw
 
-loop-holds : tie.Need-loop-init invariant-loop decreases-loop
+loop-holds : tie.Need-loop-job-init invariant-loop decreases-loop
 loop-holds c =
     let b = c.before.before in
     going_begins (C b) (B b) b.args.ceiling b.args.job.budget b.args.job.domain b.args.table.now b.args.first
@@ -67,57 +67,57 @@ loop-holds c =
 ended-requires : tie.Need-ended-requires invariant-loop decreases-loop
 ended-requires c κs = search rules
 
-same_length : tie.Need-same-length invariant-loop decreases-loop
-same_length c = (turn c.before.before).loop.inv.within.long
+same_length : tie.Need-shape_of-table-then-done invariant-loop decreases-loop
+same_length c = (turn c.before.before).loop-job.invariant.within.long
 
-returns : tie.Need-returns invariant-loop decreases-loop
+returns : tie.Need-returns-then-done invariant-loop decreases-loop
 unfolding ranges_in
 returns c =
     let k = c.before.before in
     let b = begun k in
     rw c.ended.ensures
     (going_finished (C b) (B b) b.args.ceiling b.args.job.budget b.args.job.domain b.args.table.now (laws b)
-    b.pre.0.2 b.pre.0.3 b.pre.0.1 (s k) (turn k).loop.table (turn k).loop.invariant
-    (eqb-true (s k).«open» 0 c.before.if1.true))
+    b.requires.0.2 b.requires.0.3 b.requires.0.1 (s k) (turn k).loop-job.table (turn k).loop-job.invariant
+    (eqb-true (s k).«open» 0 c.if-done.true-raw))
 
-ended-requires-2 : tie.Need-ended-requires-2 invariant-loop decreases-loop
+ended-requires-2 : tie.Need-ended-requires-then-spent invariant-loop decreases-loop
 ended-requires-2 c κs = search rules
 
-same-length-2 : tie.Need-same-length-2 invariant-loop decreases-loop
-same-length-2 c = (turn c.before.before.before).loop.inv.within.long
+same-length-2 : tie.Need-shape_of-table-then-spent invariant-loop decreases-loop
+same-length-2 c = (turn c.before.before.before).loop-job.invariant.within.long
 
-returns-2 : tie.Need-returns-2 invariant-loop decreases-loop
+returns-2 : tie.Need-returns-then-spent invariant-loop decreases-loop
 unfolding ranges_in
 returns-2 c =
     let e = c.before.before in
     let k = e.before in
     let b = begun k in
-    rw c.ended2.ensures
+    rw c.ended-then-spent.ensures
     (going_spent (C b) (B b) b.args.ceiling b.args.job.budget b.args.job.domain b.args.table.now (laws b)
-    b.pre.0.2 b.pre.0.3 b.pre.0.1 (s k) (turn k).loop.table (turn k).loop.invariant (some e)
-    (eqb-true (s k).count b.args.job.budget c.before.if2.true))
+    b.requires.0.2 b.requires.0.3 b.requires.0.1 (s k) (turn k).loop-job.table (turn k).loop-job.invariant (some e)
+    (eqb-true (s k).count b.args.job.budget c.if-spent.true-raw))
 
-step-requires : tie.Need-step-requires invariant-loop decreases-loop
+step-requires : tie.Need-step-next-requires invariant-loop decreases-loop
 step-requires c κs =
     let two = c.before in
     let e = two.before in
     let k = e.before in
     let b = begun k in (
-      b.pre.0.0,
+      b.requires.0.0,
       going_steppable (C b) (B b) b.args.ceiling b.args.job.budget b.args.job.domain b.args.table.now (laws b)
-          b.pre.0.2 b.pre.0.3 b.pre.0.1 (s k) (turn k).loop.table (turn k).loop.invariant (some e) (left two)
+          b.requires.0.2 b.requires.0.3 b.requires.0.1 (s k) (turn k).loop-job.table (turn k).loop-job.invariant (some e) (left two)
           (budget-fits b),
     )
 
-ended-requires-3 : tie.Need-ended-requires-3 invariant-loop decreases-loop
+ended-requires-3 : tie.Need-ended-requires-then-next invariant-loop decreases-loop
 ended-requires-3 c κs = search rules
 
-same-length-3 : tie.Need-same-length-3 invariant-loop decreases-loop
+same-length-3 : tie.Need-shape_of-table-then-next invariant-loop decreases-loop
 same-length-3 c =
     let q = c.before.before.before in
-    ap length (q.step.ensures.kept c.before.if3.true) ∙ (turn q.before.before.before.before).loop.inv.within.long
+    ap length (q.step-next.ensures.kept c.if-next.true) ∙ (turn q.before.before.before.before).loop-job.invariant.within.long
 
-returns-3 : tie.Need-returns-3 invariant-loop decreases-loop
+returns-3 : tie.Need-returns-then-next invariant-loop decreases-loop
 unfolding ranges_in
 returns-3 c =
     let q = c.before.before.before in
@@ -125,12 +125,12 @@ returns-3 c =
     let e = two.before in
     let k = e.before in
     let b = begun k in
-    rw c.ended3.ensures
+    rw c.ended-then-next.ensures
     (going_full (C b) (B b) b.args.ceiling b.args.job.budget b.args.job.domain b.args.table.now (laws b)
-    b.pre.0.2 b.pre.0.3 b.pre.0.1 (s k) (turn k).loop.table (turn k).loop.invariant (some e) (left two) q.step.result
-    q.step.new.1.1.1.1.0 q.step.ensures c.before.if3.true)
+    b.requires.0.2 b.requires.0.3 b.requires.0.1 (s k) (turn k).loop-job.table (turn k).loop-job.invariant (some e) (left two) q.step-next.result
+    q.step-next.new.table q.step-next.ensures c.if-next.true)
 
-loop-less : tie.Need-loop-smaller invariant-loop decreases-loop
+loop-less : tie.Need-loop-job-smaller invariant-loop decreases-loop
 loop-less c =
     let q = c.before.before.before in
     let two = q.before.before in
@@ -138,10 +138,10 @@ loop-less c =
     let k = e.before in
     let b = begun k in
     going_counts (C b) (B b) b.args.ceiling b.args.job.budget b.args.job.domain b.args.table.now (laws b)
-    b.pre.0.2 b.pre.0.3 b.pre.0.1 (s k) (turn k).loop.table (turn k).loop.invariant (some e) (left two) q.step.result
-    q.step.new.1.1.1.1.0 q.step.ensures c.before.if3.false
+    b.requires.0.2 b.requires.0.3 b.requires.0.1 (s k) (turn k).loop-job.table (turn k).loop-job.invariant (some e) (left two) q.step-next.result
+    q.step-next.new.table q.step-next.ensures c.if-next.false
 
-loop-again : tie.Need-loop-preserved invariant-loop decreases-loop
+loop-again : tie.Need-loop-job-preserved invariant-loop decreases-loop
 loop-again c =
     let q = c.before.before.before in
     let two = q.before.before in
@@ -149,11 +149,11 @@ loop-again c =
     let k = e.before in
     let b = begun k in
     going_on (C b) (B b) b.args.ceiling b.args.job.budget b.args.job.domain b.args.table.now (laws b)
-    b.pre.0.2 b.pre.0.3 b.pre.0.1 (s k) (turn k).loop.table (turn k).loop.invariant (some e) (left two) q.step.result
-    q.step.new.1.1.1.1.0 q.step.ensures c.before.if3.false
+    b.requires.0.2 b.requires.0.3 b.requires.0.1 (s k) (turn k).loop-job.table (turn k).loop-job.invariant (some e) (left two) q.step-next.result
+    q.step-next.new.table q.step-next.ensures c.if-next.false
 
-pub steps-spec : {M : Type 1} → statement M
-steps-spec =
+pub steps_spec : {M : Type 1} → statement M
+steps_spec =
     tie.close
     (tie.spec
     invariant-loop

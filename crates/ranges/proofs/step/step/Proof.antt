@@ -17,34 +17,34 @@ use Rattle.branching.specs.declared.HalfBounds.{HalfBounds}
 use Rattle.branching.specs.Branching.{just_above, bounds_up_to}
 use Rattle.ranges.specs.declared.step.State.{State}
 use Rattle.ranges.specs.Inside.{last_in, Steppable}
-use Rattle.ranges.proofs.Stepping.{full_step, made_step, number_is}
+use Rattle.ranges.proofs.Stepping.{full_step, made_step}
 use native.Mathlib.Omega.{arith}
 use borrow.Author.Rules.{rules}
 use Rattle.ranges.proofs.step.step.Statement.{statement}
 use Rattle.ranges.proofs.step.step.Tie as tie
 
-sub_at : tie.Need-sub-at
+sub_at : tie.Need-overflow_sub-at
 sub_at c = search rules
 
-read-row-requires : tie.Need-read-row-requires
+read-row-requires : tie.Need-read_row-b-requires
 read-row-requires c κs = search rules
 
-cut-requires : tie.Need-cut-requires
+cut-requires : tie.Need-cut-cut-requires
 cut-requires c κs = search rules
 
-just-above-requires : tie.Need-just-above-requires
+just-above-requires : tie.Need-just_above-requires
 just-above-requires c κs = search rules
 
-half-bounds-requires : tie.Need-half-bounds-requires
+half-bounds-requires : tie.Need-half_bounds-bounds-requires
 half-bounds-requires c κs = search rules
 
-test-requires : tie.Need-test-requires
+test-requires : tie.Need-test-first-requires
 test-requires c κs = search rules
 
-test-requires-2 : tie.Need-test-requires-2
+test-requires-2 : tie.Need-test-second-requires
 test-requires-2 c κs = search rules
 
-one-if-requires : tie.Need-one-if-requires
+one-if-requires : tie.Need-one_if-requires
 one-if-requires c κs = search rules
 
 one_at_most : (k : Bool) → cond k 1 0 ≤ 1
@@ -52,24 +52,24 @@ one_at_most true = omega arith
 one_at_most false = omega arith
 
 -- what is known once both halves are tested
-module _ (c : tie.After-test2) where
-  abbrev first : tie.After-test
+module _ (c : tie.After-test-second) where
+  abbrev first : tie.After-test-first
   first = c.before
 
-  abbrev found : tie.After-half-bounds
+  abbrev found : tie.After-half_bounds-bounds
   found = first.before
 
-  abbrev above : tie.After-just-above
+  abbrev above : tie.After-just_above
   above = found.before
 
-  abbrev halved : tie.After-cut
+  abbrev halved : tie.After-cut-cut
   halved = above.before.before.before
 
-  abbrev row : tie.After-read-row
+  abbrev row : tie.After-read_row-b
   row = halved.before
 
   abbrev start : tie.Start
-  start = row.before.before.before.before.before
+  start = row.before.before.before.before
 
   abbrev t : List ℤ
   t = start.args.table.now
@@ -87,74 +87,74 @@ module _ (c : tie.After-test2) where
   K = start.args.ceiling
 
   steppable : Steppable B K t s
-  steppable = start.pre.1
+  steppable = start.requires.1
 
-  is_row : row.read-row.result ≡ last_in t s
-  is_row = row.read-row.ensures
+  is_row : row.read_row-b.result ≡ last_in t s
+  is_row = row.read_row-b.ensures
 
-  cuts : halved.cut.result ≡ halves_unless_refused Pass (last_in t s)
-  cuts = halved.cut.ensures ∙ ap cut_answer is_row ∙ cut_passes (last_in t s) steppable.two
+  cuts : halved.cut-cut.result ≡ halves_unless_refused Pass (last_in t s)
+  cuts = halved.cut-cut.ensures ∙ ap cut_answer is_row ∙ cut_passes (last_in t s) steppable.two
 
-  is-left : halved.cut.result.left ≡ left_half (last_in t s)
+  is-left : halved.cut-cut.result.left ≡ left_half (last_in t s)
   is-left = ap (λ (h : Halves). h.left) cuts
 
-  is_right : halved.cut.result.right ≡ right_half (last_in t s)
+  is_right : halved.cut-cut.result.right ≡ right_half (last_in t s)
   is_right = ap (λ (h : Halves). h.right) cuts
 
-  bounds : found.half-bounds.result ≡ bounds_up_to B halved.cut.result.left halved.cut.result.right (just_above K)
+  bounds : found.half_bounds-bounds.result ≡ bounds_up_to B halved.cut-cut.result.left halved.cut-cut.result.right (just_above K)
   bounds =
-      found.half-bounds.ensures.1 start.pre.0 (is-left ∙ ap left_half (sym is_row)) (is_right ∙ ap right_half (sym is_row))
-      ∙ ap (bounds_up_to B halved.cut.result.left halved.cut.result.right) above.just-above.ensures
+      found.half_bounds-bounds.ensures.1 start.requires.0 (is-left ∙ ap left_half (sym is_row)) (is_right ∙ ap right_half (sym is_row))
+      ∙ ap (bounds_up_to B halved.cut-cut.result.left halved.cut-cut.result.right) above.just_above.ensures
 
   laws : Bounds C B
   laws = bound_laws start.args.m (points_of start.args.store.now)
 
-add-between : tie.Need-add-between
+add-between : tie.Need-overflow_add-between
 add-between c =
     let q = c.before in
     record {
       fits = omega (
         arith,
-        (start q).good,
-        c.one-if.ensures,
+        (start q).well_formed,
+        c.one_if.ensures,
         (steppable q).room,
         (steppable q).some,
-        one_at_most (first q).test.result.kept,
+        one_at_most (first q).test-first.result.kept,
       );
     }
 
-one-if-requires-2 : tie.Need-one-if-requires-2
+one-if-requires-2 : tie.Need-one_if-requires-2
 one-if-requires-2 c κs = search rules
 
-add-number : tie.Need-add-number
+add-number : tie.Need-overflow_add-number
 add-number c =
     let o = c.before in
     let q = o.before in
     record {
       fits = omega (
         arith,
-        (start q).good,
-        o.one-if.ensures,
-        c.one-if2.ensures,
+        (start q).well_formed,
+        o.one_if.ensures,
+        c.one_if-2.ensures,
         (steppable q).room,
         (steppable q).some,
-        one_at_most (first q).test.result.kept,
-        one_at_most q.test2.result.kept,
+        one_at_most (first q).test-first.result.kept,
+        one_at_most q.test-second.result.kept,
       );
     }
 
-same_length : tie.Need-same-length
+same_length : tie.Need-shape_of-table-then-table-number
 same_length c = search rules
 
-returns : tie.Need-returns
+returns : tie.Need-returns-then-table-number
 returns c =
     let o = c.before in
     let q = o.before.before in
     let h = steppable q in
     full_step (C q) (B q) (K q) (t q) (s q) h (laws q) _ _ (is-left q) (is_right q) _ _
     (ap (λ (x : HalfBounds). x.left) (bounds q)) (ap (λ (x : HalfBounds). x.right) (bounds q))
-    (first q).test.result q.test2.result (first q).test.ensures q.test2.ensures
-    _ _ o.before.one-if.ensures o.one-if2.ensures (omega arith) _ refl
+    (first q).test-first.result q.test-second.result (first q).test-first.ensures q.test-second.ensures
+    _ _ o.one_if.ensures o.one_if-2.ensures (omega arith) _ refl
 
 push-requires : tie.Need-push-requires
 push-requires c κs = search rules
@@ -162,13 +162,13 @@ push-requires c κs = search rules
 push-requires-2 : tie.Need-push-requires-2
 push-requires-2 c κs = search rules
 
-costed-requires : tie.Need-costed-requires
+costed-requires : tie.Need-costed-one-requires
 costed-requires c κs = search rules
 
-costed-requires-2 : tie.Need-costed-requires-2
+costed-requires-2 : tie.Need-costed-requires
 costed-requires-2 c κs = search rules
 
-add-t31 : tie.Need-add-t31
+add-t31 : tie.Need-overflow_add-result
 add-t31 c =
     let q = c.before.before.before.before.before.before.before.before.before.before.before.before in
     record { fits = omega (arith, (steppable q).countable) }
@@ -176,10 +176,10 @@ add-t31 c =
 larger-requires : tie.Need-larger-requires
 larger-requires c κs = search rules
 
-same-length-2 : tie.Need-same-length-2
+same-length-2 : tie.Need-shape_of-table
 same-length-2 c = search rules
 
-returns-2 : tie.Need-returns-2
+returns-2 : tie.Need-returns
 returns-2 c =
     let one = c.before.before.before in
     let p2 = one.before.before in
@@ -188,9 +188,9 @@ returns-2 c =
     let q = o.before.before in
     made_step (C q) (B q) (K q) (t q) (s q) (steppable q) (laws q) _ _ (is-left q) (is_right q) _ _
     (ap (λ (x : HalfBounds). x.left) (bounds q)) (ap (λ (x : HalfBounds). x.right) (bounds q))
-    (first q).test.result q.test2.result (first q).test.ensures q.test2.ensures
-    _ _ o.before.one-if.ensures o.one-if2.ensures (omega arith) _ _ p1.push.ensures p2.push2.ensures
-    one.costed.result one.costed.ensures _ refl c.before.before.costed2.ensures refl refl c.larger.ensures
+    (first q).test-first.result q.test-second.result (first q).test-first.ensures q.test-second.ensures
+    _ _ o.one_if.ensures o.one_if-2.ensures (omega arith) _ _ p1.push.ensures p2.push-2.ensures
+    one.costed-one.result one.costed-one.ensures _ refl c.costed.ensures refl refl c.larger.ensures
 
 pub step_spec : {M : Type 1} → statement M
 step_spec =
