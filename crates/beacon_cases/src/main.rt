@@ -28,23 +28,27 @@ fn first(store: &[u8]) -> usize {
     store.len()
 }
 
+fn field(rt: &impl Print, word: &str, n: usize) -> io::Result<()> {
+    print!(rt; "{word}{n}")
+}
+
 // One beacon, and what its taking in comes to.
 fn report(rt: &impl Print, store: &mut [u8], mark: usize, body: &[u8]) -> io::Result<()> {
-    let room = store.len();
-    let bytes = body.len();
-    print!(rt; "store {room} mark {mark} beacon {bytes}")?;
+    field(rt, "store ", store.len())?;
+    field(rt, " mark ", mark)?;
+    field(rt, " beacon ", body.len())?;
     match beacon::take_in(store, mark, body) {
         Outcome::Value(next) => {
-            let from = first(store);
-            print!(rt; ": mark {next}, from {from}")?;
+            print!(rt; ": mark {next}")?;
+            field(rt, ", from ", first(store))?;
         }
         Outcome::Refused(r) => {
             let number = codes::number(r);
             print!(rt; ": refused {number}")?;
         }
     }
-    let ones = stored(store);
-    println!(rt; ", stored {ones}")
+    field(rt, ", stored ", stored(store))?;
+    println!(rt)
 }
 
 // The contracts give the lengths alone: the proof of `case` needs no more.
