@@ -14,17 +14,17 @@ getD-other [] k d e h = absurd (omega arith)
 getD-other (x ∷ xs) zero d e h = refl
 getD-other (x ∷ xs) (suc k) d e h = getD-other xs k d e (omega arith)
 
-mul-slot : tie.Need-overflow-mul-slot
+mul-slot : tie.Need-offset_bounds-slots-k
 mul-slot c = search rules
 
-array-copy-out-slot : tie.Need-array-copy-out-slot
+array-copy-out-slot : tie.Need-bounds-slots-k
 array-copy-out-slot c = search rules
 
 returns : tie.Need-returns
 returns c =
-    let a = c.before.args in
-    let long : length a.t1 ≡ 8 = search rules in
-    ap (λ (s : Slot). s.range) (getD-other a.t1 a.k _ _ (omega (arith, c.before.requires)))
+    let a = c.args in
+    let long : length a.slots ≡ 8 = search rules in
+    ap (λ (s : Slot). s.range) (getD-other a.slots a.k _ _ (omega (arith, c.requires)))
 
-pub range-at-spec : {M : Type 1} → statement M
-range-at-spec = tie.close (tie.spec mul-slot array-copy-out-slot returns)
+pub range_at_spec : {M : Type 1} → statement M
+range_at_spec = tie.close (tie.spec mul-slot array-copy-out-slot returns)

@@ -15,13 +15,13 @@ use borrow.Author.Rules.{rules}
 use Rattle.c_ranges.proofs.ranges.Statement.{statement}
 use Rattle.c_ranges.proofs.ranges.Tie as tie
 
-lengths-right-requires : tie.Need-lengths-right-requires
+lengths-right-requires : tie.Need-lengths_right-requires
 lengths-right-requires c κs = search rules
 
-returns : tie.Need-returns
+returns : tie.Need-returns-then-not-lengths_right
 returns c =
     let l = c.before in
-    let wrong = sym l.lengths-right.ensures ∙ not-true _ c.if1.taken in
+    let wrong = sym l.lengths_right.ensures ∙ not-true _ c.if-not-lengths_right.true-raw in
     rw wrong (
       refl,
       (
@@ -39,58 +39,58 @@ returns c =
       ),
     )
 
-model-of-requires : tie.Need-model-of-requires
+model-of-requires : tie.Need-model_of-requires
 model-of-requires c κs = search rules
 
-job-of-requires : tie.Need-job-of-requires
+job-of-requires : tie.Need-job_of-job-requires
 job-of-requires c κs = search rules
 
 ranges-requires : tie.Need-ranges-requires
 ranges-requires c κs = search rules
 
-hand-over-requires : tie.Need-hand-over-requires
+hand-over-requires : tie.Need-hand_over-requires
 hand-over-requires c κs = search rules
 
-same_length : tie.Need-same-length
+same_length : tie.Need-shape_of-table
 same_length c = search rules
 
-same-length-2 : tie.Need-same-length-2
+same-length-2 : tie.Need-shape_of-patterns
 same-length-2 c = search rules
 
-same-length-3 : tie.Need-same-length-3
+same-length-3 : tie.Need-shape_of-cases
 same-length-3 c = search rules
 
-same-length-4 : tie.Need-same-length-4
+same-length-4 : tie.Need-shape_of-numbers
 same-length-4 c = search rules
 
-returns-2 : tie.Need-returns-2
+returns-2 : tie.Need-returns
 returns-2 c =
     let h = c.before.before.before.before.before.before in
     let s = h.before.before.before.before.before.before in
     let j = s.before.before in
     let test = j.before.before in
-    let a = test.before.before.before.before.before.before.args in
+    let a = test.args in
     let m = model_of a.n a.d a.scale a.p a.eps in
     let job = job_from m 0 a.budget 0 a.corners.now a.start.now in
-    let is_job : j.Job-of.result ≡ job =
-    j.Job-of.ensures ∙ ap (λ m. job_from m 0 a.budget 0 a.corners.now a.start.now) j.before.model_of.ensures in
-    let found : s.ranges.result ≡ ranges_answer a.store.now job a.ceiling a.table.now =
-    s.ranges.ensures.0 ∙ ap (λ (x : Job). ranges_answer a.store.now x a.ceiling a.table.now) is_job in
+    let is_job : j.job_of-job.result ≡ job =
+    j.job_of-job.ensures ∙ ap (λ m. job_from m 0 a.budget 0 a.corners.now a.start.now) j.model_of.ensures in
+    let found : s.ranges-2.result ≡ ranges_answer a.store.now job a.ceiling a.table.now =
+    s.ranges-2.ensures.0 ∙ ap (λ (x : Job). ranges_answer a.store.now x a.ceiling a.table.now) is_job in
     let right : ranges_lengths (length a.corners.now) (length a.start.now) (length a.patterns.now) (length a.cases.now)
-    (length a.numbers.now) ≡ true = sym test.before.lengths-right.ensures ∙ not-false _ test.if1.left in
+    (length a.numbers.now) ≡ true = sym test.lengths_right.ensures ∙ not-false _ test.if-not-lengths_right.false-raw in
     let room =
     ranges_lengths_lem (length a.corners.now) (length a.start.now) (length a.patterns.now) (length a.cases.now)
     (length a.numbers.now) right in
-    let out = h.hand-over.ensures in
-    let bits = filled_whole a.patterns.now (patterns_of s.ranges.result.slots) room.0 in
-    let which = filled_whole a.cases.now (cases_of s.ranges.result.slots) room.1 in
-    let told = filled_whole a.numbers.now (ranges_numbers s.ranges.result) room.2 in
+    let out = h.hand_over.ensures in
+    let bits = filled_whole a.patterns.now (patterns_of s.ranges-2.result.slots) room.0 in
+    let which = filled_whole a.cases.now (cases_of s.ranges-2.result.slots) room.1 in
+    let told = filled_whole a.numbers.now (ranges_numbers s.ranges-2.result) room.2 in
     let handed-patterns = rw bits at out.1.1.0 in
     let handed-cases = rw which at out.1.1.1.0 in
     let handed-numbers = rw told at out.1.1.1.1 in
     let certificate =
-    subst (λ (x : Job). RangesCertified a.store.now x a.ceiling a.table.now s.ranges.result) is_job
-    s.ranges.ensures.1.1 in
+    subst (λ (x : Job). RangesCertified a.store.now x a.ceiling a.table.now s.ranges-2.result) is_job
+    s.ranges-2.ensures.1.1 in
     rw (right, ← found) (
       out.0,
       (
@@ -104,13 +104,13 @@ returns-2 c =
               (
                 record {
                   searched = λ _.
-                      subst (λ (x : Job). TableRanged a.store.now x a.ceiling a.table.now s.ranges.last.1.1.1.0) is_job
-                      s.ranges.ensures.1.0;
+                      subst (λ (x : Job). TableRanged a.store.now x a.ceiling a.table.now s.ranges-2.new.table) is_job
+                      s.ranges-2.ensures.1.0;
                   kept = λ wrong. absurd (true≢false (sym right ∙ wrong));
                 },
                 λ e.
                     certified_call a.store.now m a.budget a.ceiling a.corners.now a.start.now a.table.now
-                    a.patterns.now a.cases.now a.numbers.now s.ranges.result a.value.now _ _ _ _ found certificate
+                    a.patterns.now a.cases.now a.numbers.now s.ranges-2.result a.value.now _ _ _ _ found certificate
                     (sym out.0 ∙ e) out.1.0 handed-patterns handed-cases handed-numbers,
               ),
             ),
@@ -119,8 +119,8 @@ returns-2 c =
       ),
     )
 
-pub ranges-spec : {M : Type 1} → statement M
-ranges-spec =
+pub ranges_spec : {M : Type 1} → statement M
+ranges_spec =
     tie.close
     (tie.spec
     lengths-right-requires
