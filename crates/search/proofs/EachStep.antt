@@ -7,7 +7,6 @@ use native.Mathlib.Omega.{arith}
 use lib.IntN.{ℤ}
 use lib.ListN.{length, take, length-append, length-map}
 use lib.Seq.{take-append_seam, take-take}
-use Rattle.codes.specs.declared.Check.TheVariants.{Pass}
 use Rattle.boxes.specs.declared.Box.{Box}
 use Rattle.jobs.specs.declared.Job.{Job}
 use Rattle.points.specs.Points.{points_of}
@@ -15,10 +14,9 @@ use Rattle.residuals.specs.Cost.{cost, bound}
 use Rattle.list_rows.specs.Rows.{row_count, rows_of}
 use Rattle.list_rows.proofs.Rows.{rows_length, rows_take}
 use Rattle.certificate.specs.Search.{State, Answer}
-use Rattle.certificate.specs.Certificate.{state_of, Reached}
 use Rattle.search.proofs.Stopped.{stops_at}
 use Rattle.search_checks.specs.Checks.{check_job, check_search}
-use Rattle.search.specs.Search.{searched, check_lent, TableSearched, BoundsSearched}
+use Rattle.search.specs.Search.{searched, check_lent}
 use Rattle.search.specs.Laws.{with_budget, EachStep}
 
 -- no check asks for the budget

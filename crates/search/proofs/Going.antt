@@ -25,7 +25,6 @@ use Rattle.certificate.proofs.Smallest.{lower_le}
 use Rattle.certificate.proofs.Steps.{unsolved_open}
 use Rattle.certificate.proofs.Running.{Running, running_begins, running_sound, running_costed, running_solved, running_spent, running_full}
 use Rattle.certificate.proofs.Running.{running_goes}
-use Rattle.incumbent.specs.declared.Mark.{Mark}
 use Rattle.incumbent.specs.Incumbent.{kept_by, solved_by}
 use Rattle.list_rows.specs.Rows.{row_count}
 use Rattle.list_rows.proofs.Rows.{rest_later}

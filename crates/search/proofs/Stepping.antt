@@ -14,7 +14,7 @@ use borrow.Author.Tests.{leb-true, leb-false, le-ltb, lt-ltb}
 use Rattle.integers.specs.Lists.{All}
 use Rattle.integers.proofs.Tests.{by_test, le_or_lt}
 use Rattle.boxes.specs.declared.Box.{Box}
-use Rattle.boxes.specs.Split.{left_half, right_half, zero_box}
+use Rattle.boxes.specs.Split.{zero_box}
 use Rattle.certificate.specs.Search as Search
 use Rattle.certificate.specs.Search.{keep_if, first_smallest, without, split}
 use Rattle.certificate.proofs.Lists.{sum, append_kept, length_kept, takes_at, takes_all, takes_sum}

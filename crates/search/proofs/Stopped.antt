@@ -1,12 +1,12 @@
 -- A search whose budget is a number of splits that another one counted stops at the state that these lead to. Assumes nothing.
-use mathlib.Core.Path.{◌≡◌, refl, sym, ap, ◌∙◌}
+use mathlib.Core.Path.{◌≡◌, refl, ap}
 use mathlib.Core.Bool.{Bool, true, false}
 use mathlib.Core.List.{List}
 use Prim.Native.Nat.{ℕ, suc, ◌≤◌}
 use native.Mathlib.Omega.{arith}
 use lib.IntN.{ℤ}
 use Rattle.boxes.specs.declared.Box.{Box}
-use Rattle.certificate.specs.Search.{State, Answer, solved, spent, go, begin, split, is_solved, answer, search}
+use Rattle.certificate.specs.Search.{State, go, begin, split, is_solved, answer, search}
 use Rattle.certificate.specs.Certificate.{Reached, beginning, counting, state_of}
 use Rattle.search.specs.Laws.{StopsAt}
 use Rattle.certificate.proofs.Steps.{Case, goes, step_case}

@@ -1,5 +1,6 @@
 // The search: branch and bound over the boxes of a lent table, with the certificate of its answer.
 #![tactic(auto)]
+
 mod run;
 mod step;
 

@@ -13,19 +13,19 @@ use borrow.Author.Rules.{rules}
 use Rattle.search.proofs.search.Statement.{statement}
 use Rattle.search.proofs.search.Tie as tie
 
-check-search-requires : tie.Need-check-search-requires
+check-search-requires : tie.Need-check_search-requires
 check-search-requires c κs = search rules
 
-enum_told : tie.Need-enum-told
+enum_told : tie.Need-enum_told-1
 enum_told c = search rules
 
 -- an accepted job
-module _ (c : tie.After-enum-told) where
+module _ (c : tie.In-Pass) where
   abbrev begun : tie.Start
-  begun = c.before.before.before.before.before
+  begun = c.before.before.before.before
 
   pass : check_lent begun.args.store.now begun.args.job begun.args.table.now begun.args.bounds.now ≡ Pass
-  pass = sym c.before.before.check-search.ensures ∙ c.enum_told.given.1
+  pass = sym c.check_search.ensures ∙ c.in-Pass.is
 
   runs : Runs begun.args.store.now begun.args.job
   runs =
@@ -40,7 +40,7 @@ module _ (c : tie.After-enum-told) where
       entries_accepted begun.args.store.now begun.args.job (length begun.args.table.now) (length begun.args.bounds.now)
       pass
 
-slice-aggregate-decode : tie.Need-slice-aggregate-decode
+slice-aggregate-decode : tie.Need-slice_bounds-decode-end
 slice-aggregate-decode c = search rules
 
 power-requires : tie.Need-power-requires
@@ -49,27 +49,27 @@ power-requires c κs = search rules
 decode-requires : tie.Need-decode-requires
 decode-requires c κs = search rules
 
-slice-aggregate-run : tie.Need-slice-aggregate-run
+slice-aggregate-run : tie.Need-slice_bounds-run-end
 slice-aggregate-run c = search rules
 
-slice-aggregate-run-2 : tie.Need-slice-aggregate-run-2
+slice-aggregate-run-2 : tie.Need-slice_bounds-run-end-in-Pass
 slice-aggregate-run-2 c = search rules
 
-slice-aggregate-run-3 : tie.Need-slice-aggregate-run-3
+slice-aggregate-run-3 : tie.Need-slice_bounds-run-end-in-Pass-2
 slice-aggregate-run-3 c = search rules
 
 -- the store is decoded
 module _ (c : tie.After-decode) where
-  abbrev told : tie.After-enum-told
+  abbrev told : tie.In-Pass
   told = c.before.before.before.before
 
-  evaluable : Evaluable (begun told).args.store.now c.decode.new.0 (begun told).args.job.model
+  evaluable : Evaluable (begun told).args.store.now c.decode.new.lanes (begun told).args.job.model
   evaluable =
       let a = (begun told).args in
       record {
         checked = (runs told).checked;
         decoded =
-            decoded_for a.store.now a.job.model (runs told).checked c.before.power.ensures refl (search rules)
+            decoded_for a.store.now a.job.model (runs told).checked c.power.ensures refl (search rules)
             c.decode.ensures;
       }
 
@@ -87,37 +87,37 @@ run-requires c κs =
       search rules,
     )
 
-enum-known-why : tie.Need-enum-known-why
+enum-known-why : tie.Need-enum_known-why
 enum-known-why c = search rules
 
 refusal-requires : tie.Need-refusal-requires
 refusal-requires c κs = search rules
 
-same_length : tie.Need-same-length
+same_length : tie.Need-shape_of-table
 same_length c = search rules
 
-same-length-2 : tie.Need-same-length-2
+same-length-2 : tie.Need-shape_of-bounds
 same-length-2 c = search rules
 
-returns : tie.Need-returns
+returns : tie.Need-returns-in-Pass
 returns c =
     let r = c.before.before.before.before.before in
     let e = told r.before.before.before.before.before.before.before.before.before in
     let a = (begun e).args in
-    promised_pass a.store.now a.job a.table.now a.bounds.now (pass e) r.run.new.1.1.1.0
-    r.run.new.1.1.1.1.0 r.run.result
+    promised_pass a.store.now a.job a.table.now a.bounds.now (pass e) r.run.new.table
+    r.run.new.bounds r.run.result
     r.run.ensures
 
-returns-2 : tie.Need-returns-2
+returns-2 : tie.Need-returns-in-Refuse
 returns-2 c =
-    let w = c.before.before in
-    let q = w.before.before in
-    let a = q.before.before.before.args in
-    promised_refused a.store.now a.job a.table.now a.bounds.now w.why.given.0.0 c.refusal.result
-    (sym q.check-search.ensures ∙ w.why.given.1) c.refusal.ensures
+    let w = c.before in
+    let q = w.before in
+    let a = q.args in
+    promised_refused a.store.now a.job a.table.now a.bounds.now w.in-Refuse.why c.refusal.result
+    (sym q.check_search.ensures ∙ w.in-Refuse.is) c.refusal.ensures
 
-pub search-spec : {M : Type 1} → statement M
-search-spec =
+pub search_spec : {M : Type 1} → statement M
+search_spec =
     tie.close
     (tie.spec
     check-search-requires

@@ -6,5 +6,5 @@ use Rattle.search.proofs.run.answer.Tie as tie
 returns : tie.Need-returns
 returns c = refl
 
-pub answer-spec : {M : Type 1} → statement M
-answer-spec = tie.close (tie.spec returns)
+pub answer_spec : {M : Type 1} → statement M
+answer_spec = tie.close (tie.spec returns)
