@@ -1,15 +1,13 @@
 -- One more search of a table that serves several, by what it leaves of the table and the list of bounds. Assumes nothing.
 use mathlib.Core.Path.{◌≡◌, refl, sym, ap, ◌∙◌}
 use mathlib.Core.List.{List, [], ◌∷◌, ◌++◌, map, append-nil}
-use Prim.Native.Nat.{ℕ, ◌*◌, ◌+◌, ◌≤◌, max}
+use Prim.Native.Nat.{ℕ, ◌*◌, ◌≤◌, max}
 use native.Mathlib.Omega.{arith}
 use lib.IntN.{ℤ}
 use lib.ListN.{length, take, drop, length-append, length-take}
 use lib.Seq.{take_at, take-take}
 use Rattle.codes.specs.declared.Check.{Check}
 use Rattle.codes.specs.declared.Check.TheVariants.{Pass, Refuse}
-use Rattle.codes.specs.declared.Refusal.{Refusal}
-use Rattle.boxes.specs.declared.Box.{Box}
 use Rattle.list_rows.specs.Rows.{rows_of}
 use Rattle.list_rows.proofs.Rows.{rows_length, rows_take, rest_later}
 use Rattle.search.specs.Search.{TableAfter, BoundsAfter}
