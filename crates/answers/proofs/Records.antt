@@ -35,7 +35,6 @@ use Rattle.certificate.specs.Search as Search
 use Rattle.certificate.specs.Search.{solved, spent, full}
 use Rattle.certificate.proofs.Certified.{finished}
 use Rattle.search_checks.proofs.Passed.{Runs, runs_accepted}
-use Rattle.search.specs.declared.Answer.{Answer}
 use Rattle.search.specs.Search.{kind_of, kind_number, told, searched, CertifiedIn, check_lent, searched_lent, search_answer}
 use Rattle.search.proofs.Accepted.{certificate}
 use Rattle.job_records.specs.Laws.{IsJob}

@@ -1,5 +1,6 @@
 // The record of a search's answer.
 #![tactic(auto)]
+
 ghost use Rattle.std.specs.Prelude.{◌≡◌};
 ghost use Rattle.search.specs.Search.{kind_number};
 ghost use Rattle.answers.specs.Records.{record_of};

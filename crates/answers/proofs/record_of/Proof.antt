@@ -4,12 +4,12 @@ use Rattle.answers.specs.Records.{record_of}
 use Rattle.answers.proofs.record_of.Statement.{statement}
 use Rattle.answers.proofs.record_of.Tie as tie
 
-kind-number-requires : tie.Need-kind-number-requires
+kind-number-requires : tie.Need-kind_number-requires
 kind-number-requires c κs = search rules
 
 returns : tie.Need-returns
 unfolding record_of
-returns c = rw c.kind-number.ensures
+returns c = rw c.kind_number.ensures
 
-pub record-of-spec : {M : Type 1} → statement M
-record-of-spec = tie.close (tie.spec kind-number-requires returns)
+pub record_of_spec : {M : Type 1} → statement M
+record_of_spec = tie.close (tie.spec kind-number-requires returns)
