@@ -1,5 +1,6 @@
 // One of several jobs: under the budget that it gets, and its search in the table of all.
 #![tactic(auto)]
+
 ghost use Rattle.std.specs.Prelude.{◌≡◌, ◌/◌, min};
 ghost use Rattle.search.specs.Search.{refused};
 ghost use Rattle.job_records.specs.Jobs.{read_job};
