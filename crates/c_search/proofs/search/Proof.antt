@@ -15,13 +15,13 @@ use borrow.Author.Rules.{rules}
 use Rattle.c_search.proofs.search.Statement.{statement}
 use Rattle.c_search.proofs.search.Tie as tie
 
-lengths-right-requires : tie.Need-lengths-right-requires
+lengths-right-requires : tie.Need-lengths_right-requires
 lengths-right-requires c κs = search rules
 
-returns : tie.Need-returns
+returns : tie.Need-returns-then-not-lengths_right
 returns c =
     let l = c.before in
-    let wrong = sym l.lengths-right.ensures ∙ not-true _ c.if1.true in
+    let wrong = sym l.lengths_right.ensures ∙ not-true _ c.if-not-lengths_right.true-raw in
     rw wrong (
       refl,
       (
@@ -39,48 +39,48 @@ returns c =
       ),
     )
 
-model-of-requires : tie.Need-model-of-requires
+model-of-requires : tie.Need-model_of-requires
 model-of-requires c κs = search rules
 
-job-of-requires : tie.Need-job-of-requires
+job-of-requires : tie.Need-job_of-job-requires
 job-of-requires c κs = search rules
 
 search-requires : tie.Need-search-requires
 search-requires c κs = search rules
 
-hand-over-requires : tie.Need-hand-over-requires
+hand-over-requires : tie.Need-hand_over-requires
 hand-over-requires c κs = search rules
 
-same_length : tie.Need-same-length
+same_length : tie.Need-shape_of-table
 same_length c = search rules
 
-same-length-2 : tie.Need-same-length-2
+same-length-2 : tie.Need-shape_of-bounds
 same-length-2 c = search rules
 
-same-length-3 : tie.Need-same-length-3
+same-length-3 : tie.Need-shape_of-vector
 same-length-3 c = search rules
 
-same-length-4 : tie.Need-same-length-4
+same-length-4 : tie.Need-shape_of-numbers
 same-length-4 c = search rules
 
-returns-2 : tie.Need-returns-2
+returns-2 : tie.Need-returns
 returns-2 c =
     let h = c.before.before.before in
     let s = h.before.before.before.before.before.before.before in
     let j = s.before.before.before in
     let test = j.before.before in
-    let a = test.before.before.before.before.before.args in
+    let a = test.args in
     let m = model_of a.n a.d a.scale a.p a.eps in
     let job = job_from m a.t a.budget 0 a.corners.now a.start.now in
-    let is_job : j.Job-of.result ≡ job =
-    j.Job-of.ensures ∙ ap (λ m. job_from m a.t a.budget 0 a.corners.now a.start.now) j.before.model_of.ensures in
+    let is_job : j.job_of-job.result ≡ job =
+    j.job_of-job.ensures ∙ ap (λ m. job_from m a.t a.budget 0 a.corners.now a.start.now) j.model_of.ensures in
     let found : s.search.result ≡ search_answer a.store.now job a.table.now a.bounds.now =
     s.search.ensures.0 ∙ ap (λ (x : Job). search_answer a.store.now x a.table.now a.bounds.now) is_job in
     let right : search_lengths (length a.corners.now) (length a.start.now) (length a.vector.now) (length a.numbers.now)
-    ≡ true = sym test.before.lengths-right.ensures ∙ not-false _ test.if1.false in
+    ≡ true = sym test.lengths_right.ensures ∙ not-false _ test.if-not-lengths_right.false-raw in
     let room =
     search_lengths_lem (length a.corners.now) (length a.start.now) (length a.vector.now) (length a.numbers.now) right in
-    let out = h.hand-over.ensures in
+    let out = h.hand_over.ensures in
     let laid = filled_whole a.vector.now s.search.result.vector (room.0 ∙ sym out.1.1.1.1) in
     let told = filled_whole a.numbers.now (search_numbers s.search.result) room.1 in
     let handed-vector = rw laid at out.1.1.0 in
@@ -99,14 +99,14 @@ returns-2 c =
             (
               record {
                 searched = λ _.
-                    subst (λ (x : Job). TableSearched a.store.now x a.table.now a.bounds.now s.search.new.1.1.0) is_job
+                    subst (λ (x : Job). TableSearched a.store.now x a.table.now a.bounds.now s.search.new.table) is_job
                     s.search.ensures.1.0;
                 kept = λ wrong. absurd (true≢false (sym right ∙ wrong));
               },
               (
                 record {
                   searched = λ _.
-                      subst (λ (x : Job). BoundsSearched a.store.now x a.table.now a.bounds.now s.search.new.1.1.1.0)
+                      subst (λ (x : Job). BoundsSearched a.store.now x a.table.now a.bounds.now s.search.new.bounds)
                       is_job
                       s.search.ensures.1.1.0;
                   kept = λ wrong. absurd (true≢false (sym right ∙ wrong));
@@ -123,8 +123,8 @@ returns-2 c =
       ),
     )
 
-pub search-spec : {M : Type 1} → statement M
-search-spec =
+pub search_spec : {M : Type 1} → statement M
+search_spec =
     tie.close
     (tie.spec
     lengths-right-requires
