@@ -1,5 +1,6 @@
 // The line of an answer, as text from the front of a buffer.
 #![tactic(auto)]
+
 ghost use Rattle.std.specs.Prelude.{◌++◌, ◌≡◌, ◌+◌, ◌≤◌, length};
 ghost use Rattle.codes.specs.Codes.{number_of};
 ghost use Rattle.decimal.specs.Put.{Put};
