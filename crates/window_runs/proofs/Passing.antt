@@ -27,7 +27,7 @@ use Rattle.points.specs.Points.{points_of}
 use Rattle.residuals.specs.Cost.{bound}
 use Rattle.list_rows.specs.Rows.{row_count}
 use Rattle.search.specs.declared.Answer.{Answer}
-use Rattle.search.specs.Search.{searched, told, check_lent, searched_lent, search_answer, TableSearched, BoundsSearched, Certified}
+use Rattle.search.specs.Search.{told, check_lent, searched_lent, search_answer, TableSearched, BoundsSearched, Certified}
 use Rattle.search.proofs.Accepted.{certificate}
 use Rattle.job_records.specs.Laws.{IsJob}
 use Rattle.answer_records.specs.declared.AnswerRecord.{AnswerRecord}
