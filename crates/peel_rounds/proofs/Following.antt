@@ -1,9 +1,8 @@
 -- From round to round: what was run and what may still be run are all rounds of the definition. Assumes nothing.
 use mathlib.Core.Path.{◌≡◌, refl, sym, ap, ap₂, subst, subst₂, ◌∙◌}
-use mathlib.Core.Bool.{Bool, true, false, cond, not, ◌&&◌, ◌||◌}
-use mathlib.Core.List.{List, [], ◌∷◌, ◌++◌, map, map-append, append-nil, append_assoc}
+use mathlib.Core.Bool.{Bool, true, false, cond, ◌||◌}
+use mathlib.Core.List.{List, [], ◌∷◌, ◌++◌, map, map-append, append-nil}
 use Prim.Native.Nat.{ℕ, zero, suc, ◌+◌, ◌-◌, ◌/◌, ◌≤◌, ◌<◌}
-use native.Mathlib.Numerals.{add-one}
 use native.Mathlib.Omega.{arith}
 use borrow.Author.Tests.{eqb-true, eqb-false}
 use lib.Dec.{eqb}
@@ -15,7 +14,7 @@ use Rattle.codes.specs.declared.Check.TheVariants.{Pass}
 use Rattle.jobs.specs.declared.Job.{Job}
 use Rattle.jobs.specs.declared.Model.{Model}
 use Rattle.points.specs.declared.Point.{Point}
-use Rattle.points.specs.Points.{is_gap, points_of}
+use Rattle.points.specs.Points.{points_of}
 use Rattle.residuals.specs.Cost.{bound}
 use Rattle.list_rows.specs.Rows.{row_count}
 use Rattle.certificate.specs.Search as Search
@@ -23,9 +22,9 @@ use Rattle.certificate.specs.Search.{keep_if}
 use Rattle.search_checks.specs.Checks.{check_search}
 use Rattle.search.specs.declared.Answer.{Answer}
 use Rattle.search.specs.Search.{told, kind_of, TableAfter, BoundsAfter}
-use Rattle.sharing.specs.Sharing.{Run, SharedTable, SharedBounds}
+use Rattle.sharing.specs.Sharing.{SharedTable, SharedBounds}
 use Rattle.sharing.proofs.Sharing.{table_shared, bounds_shared}
-use Rattle.rounds.specs.Rounds.{samples, solve, is_solved, fitted, left_by, removes_any, Round, rounds, peeled, removed_by, round_label}
+use Rattle.rounds.specs.Rounds.{samples, solve, is_solved, fitted, removes_any, Round, rounds, peeled, removed_by, round_label}
 use Rattle.rounds.proofs.Keeping.{keep_all}
 use Rattle.rounds.proofs.Labels.{untouched}
 use Rattle.rounds.proofs.Peeling.{left_labels, no_points}

@@ -1,5 +1,5 @@
 -- A round's search, over the store of the points left: it is accepted, and it is the definition's. Assumes nothing.
-use mathlib.Core.Path.{◌≡◌, refl, sym, ap, ap₂, subst, ◌∙◌}
+use mathlib.Core.Path.{◌≡◌, refl, ap, ap₂, subst, ◌∙◌}
 use mathlib.Core.Bool.{true, cond}
 use mathlib.Core.List.{List}
 use Prim.Native.Nat.{ℕ, suc, ◌*◌, ◌/◌, ◌%◌, ◌≤◌}
@@ -10,21 +10,18 @@ use lib.Dec.{leb}
 use lib.ListN.{length, take, drop, length-map}
 use lib.Seq.{take_at}
 use Rattle.integers.specs.Lists.{over}
-use Rattle.codes.specs.declared.Check.{Check}
 use Rattle.codes.specs.declared.Check.TheVariants.{Pass}
 use Rattle.boxes.specs.Boxes.{InBox}
 use Rattle.boxes.proofs.Checks.{in_unused}
 use Rattle.jobs.specs.declared.Job.{Job}
 use Rattle.jobs.specs.declared.Model.{Model}
-use Rattle.points.specs.declared.Point.{Point}
-use Rattle.points.specs.Points.{points_of, check_store, check_stray}
+use Rattle.points.specs.Points.{points_of, check_store}
 use Rattle.points.proofs.Laws.{points_length}
 use Rattle.residuals.specs.Cost.{bound}
 use Rattle.model_checks.specs.Checks.{check_threshold}
 use Rattle.model_checks.proofs.Passed.{ready, threshold_model}
 use Rattle.labels.specs.Labels.{label, check_labels, labelled}
 use Rattle.labels.proofs.Passed.{room_decides}
-use Rattle.certificate.specs.Search as Search
 use Rattle.list_rows.specs.Rows.{row_count}
 use Rattle.search_checks.specs.Checks.{check_search}
 use Rattle.search_checks.proofs.Passed.{runs_accepted}

@@ -1,5 +1,5 @@
 -- What the functions behind peeling say to each other: of one round, and between two rounds.
-use Rattle.std.specs.Prelude.{◌≡◌, cond, ◌||◌, List, ◌++◌, map, ℕ, suc, ◌+◌, ◌-◌, ◌/◌, ◌≤◌, ◌<◌, eqb, ℤ, length}
+use Rattle.std.specs.Prelude.{◌≡◌, cond, ◌||◌, List, ◌++◌, map, ℕ, suc, ◌+◌, ◌-◌, ◌≤◌, ◌<◌, eqb, ℤ, length}
 use Rattle.integers.specs.Lists.{over}
 use Rattle.codes.specs.declared.Check.TheVariants.{Pass}
 use Rattle.jobs.specs.declared.Job.{Job}
