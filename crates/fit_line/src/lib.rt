@@ -1,5 +1,6 @@
 // All of the program fit on slices: the line of a job record and a store.
 #![tactic(auto)]
+
 ghost use Rattle.std.specs.Prelude.{◌≡◌, true, ◌≤◌, min, length, take};
 ghost use Rattle.integers.specs.Lists.{over};
 ghost use Rattle.fit_line.specs.Inside.{Searched, numbers_lent};

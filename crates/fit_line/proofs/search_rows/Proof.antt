@@ -9,42 +9,42 @@ use borrow.Author.Rules.{rules}
 use Rattle.fit_line.proofs.search_rows.Statement.{statement}
 use Rattle.fit_line.proofs.search_rows.Tie as tie
 
-numbers-lent-requires : tie.Need-numbers-lent-requires
+numbers-lent-requires : tie.Need-numbers_lent-n-requires
 numbers-lent-requires c κs = search rules
 
-few : (c : tie.After-numbers-lent) → c.numbers-lent.result ≤ length c.before.before.before.args.table.now
+few : (c : tie.After-numbers_lent-n) → c.numbers_lent-n.result ≤ length c.args.table.now
 few c =
     let s = c.before.before.before in
-    omega (arith, lent_few s.args.job.rows, c.numbers-lent.ensures, s.requires)
+    omega (arith, lent_few s.args.job.rows, c.numbers_lent-n.ensures, s.requires)
 
-slice-relend-prefix-search : tie.Need-slice-relend-prefix-search
+slice-relend-prefix-search : tie.Need-slice_bounds-search-end
 slice-relend-prefix-search c = few c
 
-slice-aggregate-search : tie.Need-slice-aggregate-search
+slice-aggregate-search : tie.Need-slice_bounds-search-end-2
 slice-aggregate-search c =
     let n = c.before in
-    sym (length-take-le n.numbers-lent.result n.before.before.before.args.table.now (few n))
+    sym (length-take-le n.numbers_lent-n.result n.args.table.now (few n))
 
 search-requires : tie.Need-search-requires
 search-requires c κs = search rules
 
-same_length : tie.Need-same-length
+same_length : tie.Need-shape_of-table
 same_length c = search rules
 
-same-length-2 : tie.Need-same-length-2
+same-length-2 : tie.Need-shape_of-bounds
 same-length-2 c = search rules
 
 returns : tie.Need-returns
 returns c =
     let q = c.before.before.before in
     let n = q.before.before.before in
-    let a = n.before.before.before.args in
-    lent_back a.store.now a.job a.table.now q.search.new.1.1.0 a.bounds.now q.search.new.1.1.1.0
+    let a = n.args in
+    lent_back a.store.now a.job a.table.now q.search.new.table a.bounds.now q.search.new.bounds
     q.search.result
-    n.numbers-lent.result n.numbers-lent.ensures (few n) q.search.ensures
+    n.numbers_lent-n.result n.numbers_lent-n.ensures (few n) q.search.ensures
 
-pub search-rows-spec : {M : Type 1} → statement M
-search-rows-spec =
+pub search_rows_spec : {M : Type 1} → statement M
+search_rows_spec =
     tie.close
     (tie.spec
     numbers-lent-requires
