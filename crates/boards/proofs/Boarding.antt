@@ -21,9 +21,8 @@ use Rattle.jobs.specs.declared.Job.{Job}
 use Rattle.list_rows.specs.Rows.{row_count}
 use Rattle.certificate.specs.Search as Search
 use Rattle.search.specs.declared.Answer.{Answer}
-use Rattle.search.specs.Search.{searched, told, refused, answer_unless_refused}
+use Rattle.search.specs.Search.{searched, refused, answer_unless_refused}
 use Rattle.job_records.specs.Jobs.{read_job}
-use Rattle.search.proofs.Accepted.{certificate}
 use Rattle.sharing.specs.Sharing.{Run, SharedTable, SharedBounds}
 use Rattle.sharing.proofs.Sharing.{table_shared, bounds_shared}
 use Rattle.shares.specs.Shares.{left_before, splits_of}

@@ -1,5 +1,6 @@
 // One split budget for several boards: job after job, each with its store and its share of the splits, in one table.
 #![tactic(auto)]
+
 ghost use Rattle.std.specs.Prelude.{◌≡◌, length};
 ghost use Rattle.codes.specs.declared.Check.TheVariants.{Pass};
 ghost use Rattle.sharing.specs.Sharing.{SharedTable, SharedBounds};
@@ -18,6 +19,7 @@ pub struct BoardAnswers {
 }
 
 // Check 18, of so many jobs in so many bytes, with so many lengths.
+#[tactic(auto, unfolding(crate::specs::Boards::check_jobs))]
 fn check_jobs(count: u8, bytes: usize, entries: usize) -> Check
     ensures { result ≡ check_jobs count bytes entries }
 {

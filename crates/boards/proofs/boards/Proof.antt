@@ -8,52 +8,52 @@ use borrow.Author.Rules.{rules}
 use Rattle.boards.proofs.boards.Statement.{statement}
 use Rattle.boards.proofs.boards.Tie as tie
 
-check-jobs-requires : tie.Need-check-jobs-requires
+check-jobs-requires : tie.Need-check_jobs-requires
 check-jobs-requires c κs = search rules
 
-enum_told : tie.Need-enum-told
+enum_told : tie.Need-enum_told-1
 enum_told c = search rules
 
 -- check 18 passes
-ok : (c : tie.After-enum-told) →
-    let a = c.before.before.before.before.before.before.before.args in
+ok : (c : tie.In-Pass) →
+    let a = c.args in
     check_jobs a.count (length a.jobs.now) (length a.lengths.now) ≡ Pass
-ok c = sym c.before.before.check-jobs.ensures ∙ c.enum_told.given.1
+ok c = sym c.check_jobs.ensures ∙ c.in-Pass.is
 
-each-board-requires : tie.Need-each-board-requires
+each-board-requires : tie.Need-each_board-requires
 each-board-requires c κs = ok c.before.before
 
-enum-known-why : tie.Need-enum-known-why
+enum-known-why : tie.Need-enum_known-why
 enum-known-why c = search rules
 
 refusal-requires : tie.Need-refusal-requires
 refusal-requires c κs = search rules
 
-same_length : tie.Need-same-length
+same_length : tie.Need-shape_of-table
 same_length c = search rules
 
-same-length-2 : tie.Need-same-length-2
+same-length-2 : tie.Need-shape_of-bounds
 same-length-2 c = search rules
 
-returns : tie.Need-returns
+returns : tie.Need-returns-in-Pass
 returns c =
     let each = c.before.before.before in
     let told = each.before.before.before in
-    let a = told.before.before.before.before.before.before.before.args in
+    let a = told.args in
     promised_pass a.count a.total a.jobs.now a.stores.now a.lengths.now a.table.now a.bounds.now
-    each.each-board.result each.each-board.new.1.1.1.1.1.0 each.each-board.new.1.1.1.1.1.1.0 (ok told)
-    each.each-board.ensures
+    each.each_board.result each.each_board.new.table each.each_board.new.bounds (ok told)
+    each.each_board.ensures
 
-returns-2 : tie.Need-returns-2
+returns-2 : tie.Need-returns-in-Refuse
 returns-2 c =
-    let why = c.before.before in
-    let q = why.before.before in
-    let a = q.before.before.before.before.before.args in
+    let why = c.before in
+    let q = why.before in
+    let a = q.args in
     promised_refused a.count a.total a.jobs.now a.stores.now a.lengths.now a.table.now a.bounds.now
-    why.why.given.0.0 c.refusal.result (sym q.check-jobs.ensures ∙ why.why.given.1) c.refusal.ensures
+    why.in-Refuse.why c.refusal.result (sym q.check_jobs.ensures ∙ why.in-Refuse.is) c.refusal.ensures
 
-pub boards-spec : {M : Type 1} → statement M
-boards-spec =
+pub boards_spec : {M : Type 1} → statement M
+boards_spec =
     tie.close
     (tie.spec
     check-jobs-requires
