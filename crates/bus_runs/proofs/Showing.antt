@@ -1,11 +1,11 @@
 -- What is shown of a run's answer: the record of an accepted job's answer passes check 9, and that of a refusal does not, so that its zeros
 -- stay. Assumes nothing.
 use mathlib.Core.Bool.{Bool, true, false}
-use mathlib.Core.List.{List, [], append-nil}
+use mathlib.Core.List.{List, append-nil}
 use mathlib.Core.Path.{◌≡◌, refl, sym, ap, ◌∙◌, subst}
-use Prim.Native.Nat.{ℕ, ◌≤◌, ◌<◌}
+use Prim.Native.Nat.{ℕ, ◌<◌}
 use native.Mathlib.Omega.{arith}
-use lib.Dec.{T, leb, leb→le, lit<}
+use lib.Dec.{leb, leb→le, lit<}
 use lib.IntN.{ℤ, pos}
 use lib.ListN.{length, get_or, replicate}
 use mir.Syntax.{w16}
@@ -21,7 +21,7 @@ use Rattle.certificate.specs.Search as Search
 use Rattle.certificate.specs.Search.{solved, spent, full}
 use Rattle.search.specs.declared.Answer.{Answer}
 use Rattle.search.specs.Search.{told, refused, kind_of, answer_unless_refused, search_answer, check_lent}
-use Rattle.job_records.specs.Jobs.{job_of, read_job, zero_job}
+use Rattle.job_records.specs.Jobs.{read_job, zero_job}
 use Rattle.job_records.specs.Laws.{IsJob}
 use Rattle.job_records.proofs.Fitting.{job_fits}
 use Rattle.answer_records.specs.Answers.{check_answer}

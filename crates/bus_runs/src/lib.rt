@@ -1,5 +1,6 @@
 // A run of the fitter on the data bus: the search of a job record, and what the registers show of it.
 #![tactic(auto)]
+
 ghost use Rattle.std.specs.Prelude.{◌≡◌, length};
 ghost use Rattle.job_records.specs.Jobs.{read_job};
 ghost use Rattle.bus_runs.specs.Lent.{shown_of, TableRun, BoundsRun, RunCertified};

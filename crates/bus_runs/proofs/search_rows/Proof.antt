@@ -9,42 +9,42 @@ use borrow.Author.Rules.{rules}
 use Rattle.bus_runs.proofs.search_rows.Statement.{statement}
 use Rattle.bus_runs.proofs.search_rows.Tie as tie
 
-numbers-for-requires : tie.Need-numbers-for-requires
+numbers-for-requires : tie.Need-numbers_for-n-requires
 numbers-for-requires c κs = search rules
 
-few : (c : tie.After-numbers-for) → c.numbers-for.result ≤ length c.before.before.before.args.table.now
+few : (c : tie.After-numbers_for-n) → c.numbers_for-n.result ≤ length c.args.table.now
 few c =
     let s = c.before.before.before in
-    omega (arith, numbers_few s.args.job.rows (length s.args.table.now), c.numbers-for.ensures)
+    omega (arith, numbers_few s.args.job.rows (length s.args.table.now), c.numbers_for-n.ensures)
 
-slice-relend-prefix-search : tie.Need-slice-relend-prefix-search
+slice-relend-prefix-search : tie.Need-slice_bounds-search-end
 slice-relend-prefix-search c =
     few c
 
-slice-aggregate-search : tie.Need-slice-aggregate-search
+slice-aggregate-search : tie.Need-slice_bounds-search-end-2
 slice-aggregate-search c =
     let n = c.before in
-    sym (length-take-le n.numbers-for.result n.before.before.before.args.table.now (few n))
+    sym (length-take-le n.numbers_for-n.result n.args.table.now (few n))
 
 search-requires : tie.Need-search-requires
 search-requires c κs = search rules
 
-same_length : tie.Need-same-length
+same_length : tie.Need-shape_of-table
 same_length c = search rules
 
-same-length-2 : tie.Need-same-length-2
+same-length-2 : tie.Need-shape_of-bounds
 same-length-2 c = search rules
 
 returns : tie.Need-returns
 returns c =
     let q = c.before.before.before in
     let n = q.before.before.before in
-    let a = n.before.before.before.args in
-    lent_rows a.store.now a.job a.table.now q.search.new.1.1.0 a.bounds.now q.search.new.1.1.1.0
-    q.search.result n.numbers-for.result n.numbers-for.ensures q.search.ensures
+    let a = n.args in
+    lent_rows a.store.now a.job a.table.now q.search.new.table a.bounds.now q.search.new.bounds
+    q.search.result n.numbers_for-n.result n.numbers_for-n.ensures q.search.ensures
 
-pub search-rows-spec : {M : Type 1} → statement M
-search-rows-spec =
+pub search_rows_spec : {M : Type 1} → statement M
+search_rows_spec =
     tie.close
     (tie.spec
     numbers-for-requires

@@ -5,22 +5,22 @@ use borrow.Author.Rules.{rules}
 use Rattle.bus_runs.proofs.shown_for.Statement.{statement}
 use Rattle.bus_runs.proofs.shown_for.Tie as tie
 
-record-of-requires : tie.Need-record-of-requires
+record-of-requires : tie.Need-record_of-requires
 record-of-requires c κs = search rules
 
-slice-aggregate-write-answer : tie.Need-slice-aggregate-write-answer
+slice-aggregate-write-answer : tie.Need-slice_bounds-write_answer-end
 slice-aggregate-write-answer c = search rules
 
-write-answer-requires : tie.Need-write-answer-requires
+write-answer-requires : tie.Need-write_answer-requires
 write-answer-requires c κs = search rules
 
 returns : tie.Need-returns
 unfolding shown_for
 returns c =
     let w = c.before in
-    w.write-answer.ensures.1 ∙ rw (w.write-answer.ensures.0, w.before.before.record_of.ensures)
+    w.write_answer.ensures.1 ∙ rw (w.write_answer.ensures.0, w.record_of.ensures)
 
-pub shown-for-spec : {M : Type 1} → statement M
-shown-for-spec =
+pub shown_for_spec : {M : Type 1} → statement M
+shown_for_spec =
     tie.close
     (tie.spec record-of-requires slice-aggregate-write-answer write-answer-requires returns)
