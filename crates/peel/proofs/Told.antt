@@ -1,11 +1,10 @@
 -- What the call tells, by its check. Assumes nothing.
-use mathlib.Core.Path.{◌≡◌, refl, sym, ap, ap₂, ◌∙◌}
-use mathlib.Core.List.{List, []}
+use mathlib.Core.Path.{◌≡◌, refl}
+use mathlib.Core.List.{List}
 use Prim.Native.Nat.{ℕ}
 use lib.IntN.{ℤ}
 use lib.ListN.{length, replicate}
 use Rattle.integers.specs.Lists.{over}
-use Rattle.codes.specs.declared.Check.{Check}
 use Rattle.codes.specs.declared.Check.TheVariants.{Pass, Refuse}
 use Rattle.codes.specs.declared.Refusal.{Refusal}
 use Rattle.codes.proofs.Checks.{refused_not_passed}
@@ -15,10 +14,9 @@ use Rattle.list_rows.specs.Rows.{row_count}
 use Rattle.search.specs.declared.Answer.{Answer}
 use Rattle.search_checks.proofs.Passed.{runs_accepted}
 use Rattle.sharing.proofs.Sharing.{table_shared, bounds_shared}
-use Rattle.rounds.specs.Rounds.{Round}
 use Rattle.rounds.proofs.Peeling.{all_peeling}
 use Rattle.peel_checks.proofs.Passed.{accepted}
-use Rattle.peel_rounds.specs.Told.{no_round, slots_of}
+use Rattle.peel_rounds.specs.Told.{no_round}
 use Rattle.peel_rounds.specs.Going.{RoundsDone}
 use Rattle.peel.specs.declared.Peeled.{Peeled}
 use Rattle.peel.specs.Peel.{check_lent, peel_answer, labels_after, TablePeeled, BoundsPeeled, PeelingLent}

@@ -1,5 +1,6 @@
 // Peeling: one line after another, each solved on the points that the lines before it left.
 #![tactic(auto)]
+
 mod round;
 
 ghost use Rattle.std.specs.Prelude.{◌≡◌, cond, ◌≤◌, eqb, length};
