@@ -14,7 +14,6 @@ use Rattle.codes.specs.declared.Check.TheVariants.{Pass, Refuse}
 use Rattle.codes.specs.declared.Refusal.{Refusal}
 use Rattle.codes.specs.Codes.{unless_refused}
 use Rattle.certificate.specs.Search as Search
-use Rattle.search.specs.declared.Answer.{Answer}
 use Rattle.search.specs.Search.{answer_unless_refused}
 use Rattle.boards.specs.declared.BoardAnswers.{BoardAnswers}
 use Rattle.boards.specs.Boards.{check_jobs, boards_answer, searches_run, check_at, answer_at, search_at, budget_at, BoardsShared, BoardsCertified}

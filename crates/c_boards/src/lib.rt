@@ -1,5 +1,6 @@
 // One split budget for several boards, for C.
 #![tactic(auto)]
+
 ghost use Rattle.std.specs.Prelude.{◌≡◌, true, cond, length};
 ghost use Rattle.search.specs.Search.{kind_number};
 ghost use Rattle.c_buffers.specs.Buffers.{filled};

@@ -18,61 +18,61 @@ module _ (s : tie.Start) where
   eight : length s.args.b.budgets ≡ 8
   eight = search rules
 
-enum_told : tie.Need-enum-told
+enum_told : tie.Need-enum_told-1
 enum_told c = search rules
 
-slice-aggregate-fill-patterns : tie.Need-slice-aggregate-fill-patterns
+slice-aggregate-fill-patterns : tie.Need-slice_bounds-fill_patterns-end
 slice-aggregate-fill-patterns c = search rules
 
-fill-patterns-requires : tie.Need-fill-patterns-requires
+fill-patterns-requires : tie.Need-fill_patterns-requires
 fill-patterns-requires c κs = search rules
 
-abbrev begun : tie.After-enum-told → tie.Start
-begun c = c.before.before.before.before.before.before.before
+abbrev begun : tie.In-Pass → tie.Start
+begun c = c.before.before.before.before.before.before
 
-each-slot-requires : tie.Need-each-slot-requires
+each-slot-requires : tie.Need-each_slot-requires
 each-slot-requires c κs =
     let s = begun c.before.before.before.before.before.before.before.before in
     ((sizes s).0, (sizes s).1.1.0, (sizes s).1.1.1)
 
-enum-known-check : tie.Need-enum-known-check
+enum-known-check : tie.Need-enum_known-check
 enum-known-check c = search rules
 
-refusal-code-requires : tie.Need-refusal-code-requires
+refusal-code-requires : tie.Need-refusal_code-requires
 refusal-code-requires c κs = search rules
 
-same_length : tie.Need-same-length
+same_length : tie.Need-shape_of-codes
 same_length c = search rules
 
-same-length-2 : tie.Need-same-length-2
+same-length-2 : tie.Need-shape_of-budgets
 same-length-2 c = search rules
 
-same-length-3 : tie.Need-same-length-3
+same-length-3 : tie.Need-shape_of-vectors
 same-length-3 c = search rules
 
-same-length-4 : tie.Need-same-length-4
+same-length-4 : tie.Need-shape_of-numbers
 same-length-4 c = search rules
 
-returns : tie.Need-returns
+returns : tie.Need-returns-in-Pass
 returns c =
     let e = c.before.before.before.before.before in
     let f = e.before.before.before.before.before.before in
     let t = f.before.before.before in
     let s = begun t in
     let a = s.args in
-    handed_pass a.count a.b a.codes.now a.budgets.now a.vectors.now a.numbers.now e.each-slot.new.1.1.0
-    f.fill-patterns.new.0 e.each-slot.new.1.1.1.0 e.each-slot.new.1.1.1.1.0 t.enum_told.given.1
-    (omega (arith, (sizes s).1.0, eight s)) f.fill-patterns.ensures e.each-slot.ensures
+    handed_pass a.count a.b a.codes.now a.budgets.now a.vectors.now a.numbers.now e.each_slot.new.codes
+    f.fill_patterns.new.out e.each_slot.new.vectors e.each_slot.new.numbers t.in-Pass.is
+    (omega (arith, (sizes s).1.0, eight s)) f.fill_patterns.ensures e.each_slot.ensures
 
-returns-2 : tie.Need-returns-2
+returns-2 : tie.Need-returns-in-Refuse
 returns-2 c =
-    let why = c.before.before in
-    let a = why.before.before.before.before.before.before.before.args in
-    handed_refused a.count a.b a.codes.now a.budgets.now a.vectors.now a.numbers.now c.refusal-code.result
-    why.check.given.0.0 why.check.given.1 c.refusal-code.ensures
+    let why = c.before in
+    let a = why.args in
+    handed_refused a.count a.b a.codes.now a.budgets.now a.vectors.now a.numbers.now c.refusal_code.result
+    why.in-Refuse.why why.in-Refuse.is c.refusal_code.ensures
 
-pub hand-over-spec : {M : Type 1} → statement M
-hand-over-spec =
+pub hand_over_spec : {M : Type 1} → statement M
+hand_over_spec =
     tie.close
     (tie.spec
     enum_told
