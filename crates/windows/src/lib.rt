@@ -1,5 +1,6 @@
 // A whole pass through the fitter: a search for each window of a store, and the record of its answer.
 #![tactic(auto)]
+
 ghost use Rattle.std.specs.Prelude.{◌≡◌, ◌/◌, length};
 ghost use Rattle.codes.specs.declared.Check.TheVariants.{Pass};
 ghost use Rattle.search.specs.Search.{check_lent};

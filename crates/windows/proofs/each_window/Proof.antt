@@ -18,11 +18,11 @@ use borrow.Author.Rules.{rules}
 use Rattle.windows.proofs.each_window.Statement.{statement}
 use Rattle.windows.proofs.each_window.Tie as tie
 
-abbrev invariant-loop : tie.invariant-loop
+abbrev invariant-loop : tie.invariant-loop-i
 invariant-loop store k h count table₀ bounds₀ out₀ current₀ i₀ table bounds out current i =
     Turn store current₀ k h count table₀ bounds₀ out₀ i current table bounds out
 
-abbrev decreases-loop : tie.decreases-loop
+abbrev decreases-loop : tie.decreases-loop-i
 decreases-loop store k h count table₀ bounds₀ out₀ current₀ i₀ table bounds out current i = count - i
 
 -- what holds at the beginning
@@ -32,10 +32,10 @@ module _ (s : tie.Start invariant-loop decreases-loop) where
   ok = s.requires.0
 
   all : s.args.count ≡ window_count (length s.args.store.now / 12) s.args.k s.args.h
-  all = s.pre.1
+  all = s.requires.1
 
   job_is : IsJob s.args.job
-  job_is = is_job s.args.job _ s.good.1.0
+  job_is = is_job s.args.job _ s.well_formed.1.0
 
   store-small : length s.args.store.now / 12 ≤ 4096
   store-small =
@@ -50,135 +50,130 @@ module _ (s : tie.Start invariant-loop decreases-loop) where
       (room_given a.store.now a.job a.k a.h (length a.table.now) (length a.bounds.now) (length a.out.now) ok)
 
   out-small : length s.args.out.now < 18446744073709551616
-  out-small = search (rules, s.good.1.1.1.1.1.1.1.0)
+  out-small = search (rules, s.well_formed.1.1.1.1.1.1.1.0)
 
-loop-holds : tie.Need-loop-init invariant-loop decreases-loop
+loop-holds : tie.Need-loop-i-init invariant-loop decreases-loop
 loop-holds c =
     let s = c.before.before.before in
     let a = s.args in
     first_turn a.store.now a.job a.k a.h a.table.now a.bounds.now a.out.now (ok s) a.count
 
 -- in a turn
-module _ (c : tie.In-loop invariant-loop decreases-loop) where
+module _ (c : tie.In-loop-i invariant-loop decreases-loop) where
   abbrev begun : tie.Start invariant-loop decreases-loop
   begun = c.before.before.before.before.before
 
-  below : c.before.loop.i < window_count (length begun.args.store.now / 12) begun.args.k begun.args.h
-  below = omega (arith, c.loop-test.true, all begun)
+  below : c.loop-i.i < window_count (length begun.args.store.now / 12) begun.args.k begun.args.h
+  below = omega (arith, c.loop-i-test.true, all begun)
 
-  there : 12 * (c.before.loop.i * begun.args.h) + 12 * begun.args.k ≤ length begun.args.store.now
+  there : 12 * (c.loop-i.i * begun.args.h) + 12 * begun.args.k ≤ length begun.args.store.now
   there =
       let a = begun.args in
       window_there a.store.now a.job a.k a.h (length a.table.now) (length a.bounds.now) (length a.out.now)
-      (ok begun) c.before.loop.i below
+      (ok begun) c.loop-i.i below
 
-  placed : 40 * c.before.loop.i + 40 ≤ length begun.args.out.now
-  placed = omega (arith, room begun, c.loop-test.true)
+  placed : 40 * c.loop-i.i + 40 ≤ length begun.args.out.now
+  placed = omega (arith, room begun, c.loop-i-test.true)
 
-  still_long : length c.before.loop.out ≡ length begun.args.out.now
+  still_long : length c.loop-i.out ≡ length begun.args.out.now
   still_long =
       let a = begun.args in
-      let l = c.before.loop in
-      out_long a.store.now a.job a.k a.h a.table.now a.bounds.now a.out.now (ok begun) (job_is begun) l.i
-      (omega (arith, below)) l.table l.bounds l.out l.invariant.passed
+      out_long a.store.now a.job a.k a.h a.table.now a.bounds.now a.out.now (ok begun) (job_is begun) c.loop-i.i
+      (omega (arith, below)) c.loop-i.table c.loop-i.bounds c.loop-i.out c.loop-i.invariant.passed
 
-mul-from : tie.Need-overflow-mul-from invariant-loop decreases-loop
+mul-from : tie.Need-overflow_mul-from invariant-loop decreases-loop
 mul-from c = omega (arith, there c, store-small (begun c))
 
-mul-from-2 : tie.Need-overflow-mul-from-2 invariant-loop decreases-loop
+mul-from-2 : tie.Need-overflow_mul-from-in-loop-i invariant-loop decreases-loop
 mul-from-2 c = omega (arith, there c, store-small (begun c))
 
-mul-to : tie.Need-overflow-mul-to invariant-loop decreases-loop
+mul-to : tie.Need-overflow_mul-to invariant-loop decreases-loop
 mul-to c = omega (arith, there c, store-small (begun c))
 
-add-to : tie.Need-overflow-add-to invariant-loop decreases-loop
+add-to : tie.Need-overflow_add-to invariant-loop decreases-loop
 add-to c = omega (arith, there c, store-small (begun c))
 
-mul_at : tie.Need-overflow-mul-at invariant-loop decreases-loop
+mul_at : tie.Need-overflow_mul-at invariant-loop decreases-loop
 mul_at c = omega (arith, placed c, out-small (begun c))
 
-add-end : tie.Need-overflow-add-end invariant-loop decreases-loop
+add-end : tie.Need-overflow_add-end invariant-loop decreases-loop
 add-end c = omega (arith, placed c, out-small (begun c))
 
-sub-window : tie.Need-overflow-sub-window invariant-loop decreases-loop
+sub-window : tie.Need-slice_bounds-window-count invariant-loop decreases-loop
 sub-window c = omega arith
 
-part-window-start : tie.Need-slice-bounds-window-start invariant-loop decreases-loop
+part-window-start : tie.Need-slice_bounds-window-start invariant-loop decreases-loop
 part-window-start c = sub-window c
 
-part-window-end : tie.Need-slice-bounds-window-end invariant-loop decreases-loop
+part-window-end : tie.Need-slice_bounds-window-end invariant-loop decreases-loop
 part-window-end c = there c
 
-sub-window-2 : tie.Need-overflow-sub-window-2 invariant-loop decreases-loop
+sub-window-2 : tie.Need-slice_bounds-window-count-in-loop-i invariant-loop decreases-loop
 sub-window-2 c = omega arith
 
-part-window-start-2 : tie.Need-slice-bounds-window-start-2 invariant-loop decreases-loop
+part-window-start-2 : tie.Need-slice_bounds-window-start-in-loop-i invariant-loop decreases-loop
 part-window-start-2 c = sub-window-2 c
 
 -- the place of the record in the output as it is
-has-place : (c : tie.In-loop invariant-loop decreases-loop) → 40 * c.before.loop.i + 40 ≤ length c.before.loop.out
+has-place : (c : tie.In-loop-i invariant-loop decreases-loop) → 40 * c.loop-i.i + 40 ≤ length c.loop-i.out
 has-place c = omega (arith, placed c, still_long c)
 
-part-window-end-2 : tie.Need-slice-bounds-window-end-2 invariant-loop decreases-loop
+part-window-end-2 : tie.Need-slice_bounds-window-end-in-loop-i invariant-loop decreases-loop
 part-window-end-2 c = has-place c.before.before.before
 
-window-requires : tie.Need-window-requires invariant-loop decreases-loop
+window-requires : tie.Need-window-current-requires invariant-loop decreases-loop
 window-requires c κs =
     let n = c.before.before.before.before in
     let s = begun n in
-    let a = s.args in
-    let l = n.before.loop in (
-      turn_accepted a.store.now a.job a.k a.h a.table.now a.bounds.now a.out.now (ok s) a.count l.i
-          (below n) l.current l.table l.bounds l.out _ l.invariant
-          (window_lent a.store.now a.k a.h l.i),
-      lent_size l.out (40 * l.i) 40 (has-place n),
+    let a = s.args in (
+      turn_accepted a.store.now a.job a.k a.h a.table.now a.bounds.now a.out.now (ok s) a.count n.loop-i.i
+          (below n) n.loop-i.current n.loop-i.table n.loop-i.bounds n.loop-i.out _ n.loop-i.invariant
+          (window_lent a.store.now a.k a.h n.loop-i.i),
+      lent_size n.loop-i.out (40 * n.loop-i.i) 40 (has-place n),
     )
 
-abbrev turn : tie.After-slice-known4 invariant-loop decreases-loop → tie.In-loop invariant-loop decreases-loop
+abbrev turn : tie.After-slice_known-in-loop-i-2-1 invariant-loop decreases-loop → tie.In-loop-i invariant-loop decreases-loop
 turn c = c.before.before.before.before.before.before.before.before.before.before
 
-add-i : tie.Need-overflow-add-i invariant-loop decreases-loop
-add-i c = omega (arith, (turn c).loop-test.true, (begun (turn c)).fits.count)
+add-i : tie.Need-overflow_add-i invariant-loop decreases-loop
+add-i c = omega (arith, (turn c).loop-i-test.true, (begun (turn c)).ranges.count)
 
-loop-less : tie.Need-loop-smaller invariant-loop decreases-loop
-loop-less c = omega (arith, (turn c).loop-test.true)
+loop-less : tie.Need-loop-i-smaller invariant-loop decreases-loop
+loop-less c = omega (arith, (turn c).loop-i-test.true)
 
-loop-again : tie.Need-loop-preserved invariant-loop decreases-loop
+loop-again : tie.Need-loop-i-preserved invariant-loop decreases-loop
 loop-again c =
     let w = c.before.before.before.before.before in
     let n = turn c in
     let s = begun n in
     let a = s.args in
-    let l = n.before.loop in
     next_turn a.store.now a.job a.k a.h a.table.now a.bounds.now a.out.now (ok s) (job_is s) a.count (all s)
-    l.i (below n) l.current l.table l.bounds l.out _ l.inv
-    (window_lent a.store.now a.k a.h l.i)
-    w.window.result w.window.new.1.1.0 w.window.new.1.1.1.0 w.window.new.1.1.1.1.0 w.window.ensures
-    ((40 * l.i + 40) - 40 * l.i) (omega arith)
+    n.loop-i.i (below n) n.loop-i.current n.loop-i.table n.loop-i.bounds n.loop-i.out _ n.loop-i.invariant
+    (window_lent a.store.now a.k a.h n.loop-i.i)
+    w.window-current.result w.window-current.new.table w.window-current.new.bounds w.window-current.new.place w.window-current.ensures
+    ((40 * n.loop-i.i + 40) - 40 * n.loop-i.i) (omega arith)
 
-same_length : tie.Need-same-length invariant-loop decreases-loop
-same_length c = c.before.loop.invariant.passed.rows.long
+same_length : tie.Need-shape_of-table invariant-loop decreases-loop
+same_length c = c.loop-i.invariant.passed.rows.long
 
-same-length-2 : tie.Need-same-length-2 invariant-loop decreases-loop
-same-length-2 c = c.before.loop.invariant.passed.entries.long
+same-length-2 : tie.Need-shape_of-bounds invariant-loop decreases-loop
+same-length-2 c = c.loop-i.invariant.passed.entries.long
 
-same-length-3 : tie.Need-same-length-3 invariant-loop decreases-loop
+same-length-3 : tie.Need-shape_of-out invariant-loop decreases-loop
 same-length-3 c =
     let s = c.before.before.before.before.before in
     let a = s.args in
-    let l = c.before.loop in
-    out_long a.store.now a.job a.k a.h a.table.now a.bounds.now a.out.now (ok s) (job_is s) l.i
-    (omega (arith, l.invariant.few, all s)) l.table l.bounds l.out l.invariant.passed
+    out_long a.store.now a.job a.k a.h a.table.now a.bounds.now a.out.now (ok s) (job_is s) c.loop-i.i
+    (omega (arith, c.loop-i.invariant.few, all s)) c.loop-i.table c.loop-i.bounds c.loop-i.out c.loop-i.invariant.passed
 
 returns : tie.Need-returns invariant-loop decreases-loop
 returns c =
     let s = c.before.before.before.before.before in
-    let l = c.before.loop in
-    let done : l.i ≡ s.args.count = omega (arith, l.invariant.few, c.loop-test.false) in
-    rw done at l.invariant.passed
+    let done : c.loop-i.i ≡ s.args.count = omega (arith, c.loop-i.invariant.few, c.loop-i-test.false) in
+    rw done at c.loop-i.invariant.passed
 
-pub each-window-spec : {M : Type 1} → statement M
-each-window-spec =
+pub each_window_spec : {M : Type 1} → statement M
+each_window_spec =
     tie.close
     (tie.spec
     invariant-loop

@@ -5,22 +5,22 @@ use borrow.Author.Rules.{rules}
 use Rattle.windows.proofs.window.Statement.{statement}
 use Rattle.windows.proofs.window.Tie as tie
 
-search-requires : tie.Need-search-requires
+search-requires : tie.Need-search-answer-requires
 search-requires c κs = search rules
 
-record-of-requires : tie.Need-record-of-requires
+record-of-requires : tie.Need-record_of-requires
 record-of-requires c κs = search rules
 
-write-answer-requires : tie.Need-write-answer-requires
+write-answer-requires : tie.Need-write_answer-requires
 write-answer-requires c κs = search rules
 
-same_length : tie.Need-same-length
+same_length : tie.Need-shape_of-table
 same_length c = search rules
 
-same-length-2 : tie.Need-same-length-2
+same-length-2 : tie.Need-shape_of-bounds
 same-length-2 c = search rules
 
-same-length-3 : tie.Need-same-length-3
+same-length-3 : tie.Need-shape_of-place
 same-length-3 c = search rules
 
 returns : tie.Need-returns
@@ -30,12 +30,12 @@ returns c =
     let q = r.before.before.before.before.before.before.before in
     let s = q.before.before.before.before.before.before in
     let a = s.args in
-    alone a.store.now a.job a.table.now q.search.new.1.1.0 a.bounds.now q.search.new.1.1.1.0
-    a.place.now w.write-answer.new.1.0 q.search.result r.record_of.result w.write-answer.result s.requires.0
-    (is_job a.job _ s.well-formed.1.0) s.requires.1 q.search.ensures r.record_of.ensures w.write-answer.ensures
+    alone a.store.now a.job a.table.now q.search-answer.new.table a.bounds.now q.search-answer.new.bounds
+    a.place.now w.write_answer.new.out q.search-answer.result r.record_of.result w.write_answer.result s.requires.0
+    (is_job a.job _ s.well_formed.1.0) s.requires.1 q.search-answer.ensures r.record_of.ensures w.write_answer.ensures
 
-pub window-spec : {M : Type 1} → statement M
-window-spec =
+pub window_spec : {M : Type 1} → statement M
+window_spec =
     tie.close
     (tie.spec
     search-requires

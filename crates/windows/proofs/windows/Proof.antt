@@ -12,64 +12,64 @@ use borrow.Author.Rules.{rules}
 use Rattle.windows.proofs.windows.Statement.{statement}
 use Rattle.windows.proofs.windows.Tie as tie
 
-count-windows-requires : tie.Need-count-windows-requires
+count-windows-requires : tie.Need-count_windows-requires
 count-windows-requires c κs = search rules
 
-enum-known-count : tie.Need-enum-known-count
+enum-known-count : tie.Need-enum_known-count
 enum-known-count c = search rules
 
 -- a pass that is accepted
-module _ (c : tie.After-count) where
+module _ (c : tie.In-Value) where
   abbrev begun : tie.Start
-  begun = c.before.before.before.before.before.before
+  begun = c.before.before.before.before.before
 
   counted :
       let a = begun.args in
       (check_pass a.store.now a.job a.k a.h a.table.now a.bounds.now a.out.now ≡ Pass)
-      × (c.count.given.0.0 ≡ window_count (length a.store.now / 12) a.k a.h)
+      × (c.in-Value.count ≡ window_count (length a.store.now / 12) a.k a.h)
   counted =
       let a = begun.args in
       value_passed (check_pass a.store.now a.job a.k a.h a.table.now a.bounds.now a.out.now)
-      (window_count (length a.store.now / 12) a.k a.h) c.count.given.0.0
-      (sym c.before.before.count-windows.ensures ∙ c.count.given.1)
+      (window_count (length a.store.now / 12) a.k a.h) c.in-Value.count
+      (sym c.count_windows.ensures ∙ c.in-Value.is)
 
-each-window-requires : tie.Need-each-window-requires
-each-window-requires c κs = counted c.before.before.before.before
+each-window-requires : tie.Need-each_window-requires
+each-window-requires c κs = counted c.before.before.before
 
-enum-known-r : tie.Need-enum-known-r
+enum-known-r : tie.Need-enum_known-r
 enum-known-r c = search rules
 
-same_length : tie.Need-same-length
+same_length : tie.Need-shape_of-table
 same_length c = search rules
 
-same-length-2 : tie.Need-same-length-2
+same-length-2 : tie.Need-shape_of-bounds
 same-length-2 c = search rules
 
-same-length-3 : tie.Need-same-length-3
+same-length-3 : tie.Need-shape_of-out
 same-length-3 c = search rules
 
-returns : tie.Need-returns
+returns : tie.Need-returns-in-Value
 returns c =
     let w = c.before.before.before.before.before in
-    let count = w.before.before.before.before.before in
+    let count = w.before.before.before.before in
     let s = begun count in
     let a = s.args in
     promised_pass a.store.now a.job a.k a.h a.table.now a.bounds.now a.out.now (counted count).0
-    (is_job a.job _ s.good.1.0) count.count.given.0.0 (counted count).1
-    w.each-window.new.1.1.1.1.1.0 w.each-window.new.1.1.1.1.1.1.0 w.each-window.new.1.1.1.1.1.1.1.0
-    w.each-window.ensures
+    (is_job a.job _ s.well_formed.1.0) count.in-Value.count (counted count).1
+    w.each_window.new.table w.each_window.new.bounds w.each_window.new.out
+    w.each_window.ensures
 
-returns-2 : tie.Need-returns-2
+returns-2 : tie.Need-returns-in-Refused
 returns-2 c =
-    let q = c.before.before.before in
-    let a = q.before.before.before.before.args in
-    promised_refused a.store.now a.job a.k a.h a.table.now a.bounds.now a.out.now c.before.r.given.0.0
+    let q = c.before in
+    let a = q.args in
+    promised_refused a.store.now a.job a.k a.h a.table.now a.bounds.now a.out.now c.in-Refused.r
     (refusal_refused (check_pass a.store.now a.job a.k a.h a.table.now a.bounds.now a.out.now)
-    (window_count (length a.store.now / 12) a.k a.h) c.before.r.given.0.0
-    (sym q.count-windows.ensures ∙ c.before.r.given.1))
+    (window_count (length a.store.now / 12) a.k a.h) c.in-Refused.r
+    (sym q.count_windows.ensures ∙ c.in-Refused.is))
 
-pub windows-spec : {M : Type 1} → statement M
-windows-spec =
+pub windows_spec : {M : Type 1} → statement M
+windows_spec =
     tie.close
     (tie.spec
     count-windows-requires
