@@ -1,37 +1,28 @@
 -- What a run leaves, and what a write does, case by case. Assumes nothing.
 use mathlib.Core.Bool.{true, false}
-use mathlib.Core.List.{List, [], ◌++◌, append-nil}
+use mathlib.Core.List.{List, ◌++◌}
 use mathlib.Core.Path.{◌≡◌, refl, sym, ap, ◌∙◌, subst}
 use borrow.Author.Tests.{eq-eqb, ne_eqb, le-leb}
 use Prim.Native.Nat.{ℕ, ◌≤◌}
 use native.Mathlib.Omega.{arith}
 use lib.Dec.{T, eqb}
 use lib.IntN.{ℤ}
-use lib.ListN.{length, set, take, drop, length-drop, drop_of_length-le}
-use lib.Seq.{take_at, take_all, take-length, drop_at, drop-drop, drop-set-lt, length-take-le}
+use lib.ListN.{length, set, take, drop, length-drop}
+use lib.Seq.{take_at, take_all, drop_at, drop-set-lt, length-take-le}
 use Rattle.codes.specs.Codes.{if_passed}
 use Rattle.codes.specs.declared.Check.{Check}
 use Rattle.codes.specs.declared.Check.TheVariants.{Pass, Refuse}
 use Rattle.jobs.specs.declared.Job.{Job}
 use Rattle.job_records.specs.Jobs.{read_job}
-use Rattle.registers.specs.Runs.{check_run, found_bytes, record_shown}
 use Rattle.registers.specs.Registers.{ran, commanded, written, with_run, job_in}
 use Rattle.registers.proofs.Found.{shown_long}
 use Rattle.bus_runs.specs.declared.Shown.{Shown}
-use Rattle.bus_runs.specs.Lent.{shown_of, check_of, TableRun, BoundsRun, RunCertified}
+use Rattle.bus_runs.specs.Lent.{shown_of, TableRun, BoundsRun, RunCertified}
 use Rattle.bus_registers.specs.Written.{is_run, AnswerCertified, TableWritten, BoundsWritten, WriteCertified}
 
 pub flag_small : (c : Check) → if_passed c 1 2 ≤ 2
 flag_small Pass = omega arith
 flag_small (Refuse why) = omega arith
-
--- the registers after the record was copied to them
-pub copied : (s x part : List ℕ) → length s ≡ 136 → length x ≡ 40 → part ≡ take (length x) x ++ drop (length x) (take 128 (drop 8 s))
-    → take 8 s ++ (part ++ drop 128 (drop 8 s)) ≡ take 8 s ++ (x ++ drop 48 s)
-copied s x part whole forty e =
-    let rest : drop 128 (drop 8 s) ≡ [] = drop_of_length-le (drop 8 s) {i = 128} (omega (arith, length-drop 8 s)) in
-    let all : take 128 (drop 8 s) ≡ drop 8 s = take_all 128 (drop 8 s) (omega (arith, length-drop 8 s)) in
-    rw (rest, append-nil part, e, all, take-length x, forty, drop-drop 40 8 s)
 
 -- bytes 8 to 47 of registers whose record was replaced
 replaced : (s x : List ℕ) (m n : ℕ) → 8 ≤ length s → length x ≡ 40

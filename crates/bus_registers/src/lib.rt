@@ -1,5 +1,6 @@
 // The registers of the fitter on the data bus: 136 bytes, the board's own state.
 #![tactic(auto)]
+
 ghost use Rattle.std.specs.Prelude.{◌≡◌, ◌<◌, length, set};
 ghost use Rattle.codes.specs.Codes.{if_passed};
 ghost use Rattle.registers.specs.Runs.{refusal_number};
@@ -94,6 +95,7 @@ fn flags_after(check: Check, before: u8, enable: u8) -> u8
 }
 
 // The registers with what they show of a run.
+#[tactic(auto, unfolding(registers::specs::Registers::with_run))]
 fn with_run(r: Registers, shown: Shown) -> Registers
     ensures { result.bytes ≡ with_run r.bytes shown.check shown.answer }
 {
@@ -102,7 +104,7 @@ fn with_run(r: Registers, shown: Shown) -> Registers
     let answer = shown.answer;
     let flags = flags_after(check, bytes[1], bytes[2]);
     let refusal = refusal_number(check);
-    bytes::copy(&answer, &mut bytes[8..]);
+    bytes[8..48].copy_from_slice(&answer);
     bytes[3] = refusal;
     bytes[1] = flags;
     Registers { bytes }

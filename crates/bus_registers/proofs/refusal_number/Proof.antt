@@ -3,21 +3,21 @@ use borrow.Author.Rules.{rules}
 use Rattle.bus_registers.proofs.refusal_number.Statement.{statement}
 use Rattle.bus_registers.proofs.refusal_number.Tie as tie
 
-enum_told : tie.Need-enum-told
+enum_told : tie.Need-enum_told-1
 enum_told c = search rules
 
-enum-known-check : tie.Need-enum-known-check
+enum-known-check : tie.Need-enum_known-check
 enum-known-check c = search rules
 
 number-requires : tie.Need-number-requires
 number-requires c κs = search rules
 
-returns : tie.Need-returns
+returns : tie.Need-returns-in-Pass
 returns c = search rules
 
-returns-2 : tie.Need-returns-2
-returns-2 c = rw c.before.before.check.given.1 c.number.ensures
+returns-2 : tie.Need-returns-in-Refuse
+returns-2 c = rw c.in-Refuse.is c.number.ensures
 
-pub refusal-number-spec : {M : Type 1} → statement M
-refusal-number-spec =
+pub refusal_number_spec : {M : Type 1} → statement M
+refusal_number_spec =
     tie.close (tie.spec enum_told enum-known-check number-requires returns returns-2)
