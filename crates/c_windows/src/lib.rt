@@ -1,5 +1,6 @@
 // A pass through the windows of a store, for C.
 #![tactic(auto)]
+
 ghost use Rattle.std.specs.Prelude.{◌≡◌};
 ghost use Rattle.sharing.specs.Sharing.{SharedTable, SharedBounds};
 ghost use Rattle.c_boundary.specs.Boundary.{model_of, code_of, value_after};
