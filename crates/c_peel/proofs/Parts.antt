@@ -4,7 +4,7 @@ use mathlib.Core.List.{List, [], ◌∷◌, ◌++◌, map, map-append, append_as
 use Prim.Native.Nat.{ℕ, suc, ◌+◌, ◌≤◌, ◌<◌}
 use native.Mathlib.Omega.{arith}
 use lib.ListN.{length, take, drop, get_or, length-append, length-drop, drop_of_length-le}
-use lib.Seq.{length-take-le, take_at, take-length, take_all, take-suc, drop-drop, drop-append-add}
+use lib.Seq.{length-take-le, take_at, take_all, take-suc, drop-drop, drop-append-add}
 use Rattle.c_buffers.specs.Buffers.{filled}
 use Rattle.c_buffers.proofs.Buffers.{filled_whole}
 use Rattle.c_peel.specs.Inside.{laid}

@@ -1,5 +1,6 @@
 // Peeling for C.
 #![tactic(auto)]
+
 mod laying;
 
 ghost use Rattle.std.specs.Prelude.{◌≡◌, length};

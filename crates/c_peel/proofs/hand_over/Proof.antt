@@ -1,6 +1,6 @@
 -- By the check: the answers are laid, or nothing is.
 use borrow.Author.Rules.{rules}
-use mathlib.Core.Path.{◌≡◌, refl, sym, ap, ◌∙◌}
+use mathlib.Core.Path.{◌≡◌, refl}
 use mathlib.Core.List.{List}
 use Prim.Native.Nat.{ℕ}
 use lib.IntN.{ℤ}
@@ -13,22 +13,22 @@ use Rattle.c_peel.specs.Calls.{outcome_of, vectors_of, numbers_of}
 use Rattle.c_peel.proofs.hand_over.Statement.{statement}
 use Rattle.c_peel.proofs.hand_over.Tie as tie
 
-enum_told : tie.Need-enum-told
+enum_told : tie.Need-enum_told-1
 enum_told c = search rules
 
-lay-all-requires : tie.Need-lay-all-requires
+lay-all-requires : tie.Need-lay_all-requires
 lay-all-requires c κs = search rules
 
-enum-known-check : tie.Need-enum-known-check
+enum-known-check : tie.Need-enum_known-check
 enum-known-check c = search rules
 
-refusal-code-requires : tie.Need-refusal-code-requires
+refusal-code-requires : tie.Need-refusal_code-requires
 refusal-code-requires c κs = search rules
 
-same_length : tie.Need-same-length
+same_length : tie.Need-shape_of-vectors
 same_length c = search rules
 
-same-length-2 : tie.Need-same-length-2
+same-length-2 : tie.Need-shape_of-numbers
 same-length-2 c = search rules
 
 -- all clauses of the contract
@@ -48,22 +48,20 @@ module _ (r : Peeled) (held : ℕ) (vectors : List ℤ) (numbers : List ℕ) whe
       Handed code held vectors numbers
   where_refused why code e w = rw e (w, (refl, (refl, refl)))
 
-returns : tie.Need-returns
+returns : tie.Need-returns-in-Pass
 returns c =
-    let w = c.before.before.before.lay-all in
-    let a = c.before.before.before.before.before.before.before.before.before.before.args in
+    let a = c.args in
     where-passed a.r a.value.now a.vectors.now a.numbers.now _ _
-    c.before.before.before.before.before.before.before.enum_told.given.1 w.ensures.0 w.ensures.1
+    c.in-Pass.is c.lay_all.ensures.0 c.lay_all.ensures.1
 
-returns-2 : tie.Need-returns-2
+returns-2 : tie.Need-returns-in-Refuse
 returns-2 c =
-    let w = c.before.before.check in
-    let a = c.before.before.before.before.before.args in
-    where_refused a.r a.value.now a.vectors.now a.numbers.now w.given.0.0 c.refusal-code.result w.given.1
-    c.refusal-code.ensures
+    let a = c.args in
+    where_refused a.r a.value.now a.vectors.now a.numbers.now c.in-Refuse.why c.refusal_code.result c.in-Refuse.is
+    c.refusal_code.ensures
 
-pub hand-over-spec : {M : Type 1} → statement M
-hand-over-spec =
+pub hand_over_spec : {M : Type 1} → statement M
+hand_over_spec =
     tie.close
     (tie.spec
     enum_told

@@ -14,13 +14,13 @@ use Rattle.c_peel.proofs.Handed.{peeling_call}
 use Rattle.c_peel.proofs.peel.Statement.{statement}
 use Rattle.c_peel.proofs.peel.Tie as tie
 
-lengths-right-requires : tie.Need-lengths-right-requires
+lengths-right-requires : tie.Need-lengths_right-requires
 lengths-right-requires c κs = search rules
 
-returns : tie.Need-returns
+returns : tie.Need-returns-then-not-lengths_right
 returns c =
     let l = c.before in
-    let wrong = sym l.lengths-right.ensures ∙ not-true _ c.if1.true in
+    let wrong = sym l.lengths_right.ensures ∙ not-true _ c.if-not-lengths_right.true-raw in
     rw wrong (
       refl,
       (
@@ -41,53 +41,53 @@ returns c =
       ),
     )
 
-model-of-requires : tie.Need-model-of-requires
+model-of-requires : tie.Need-model_of-requires
 model-of-requires c κs = search rules
 
-job-of-requires : tie.Need-job-of-requires
+job-of-requires : tie.Need-job_of-job-requires
 job-of-requires c κs = search rules
 
 peel-requires : tie.Need-peel-requires
 peel-requires c κs = search rules
 
 -- the lengths are right
-right : (e : tie.Else1) →
-    let a = e.before.before.before.before.before.before.args in
+right : (e : tie.Else-not-lengths_right) →
+    let a = e.args in
     peel_lengths (length a.corners.now) (length a.start.now) (length a.vectors.now) (length a.numbers.now) ≡ true
-right e = sym e.before.lengths-right.ensures ∙ not-false _ e.if1.false
+right e = sym e.lengths_right.ensures ∙ not-false _ e.if-not-lengths_right.false-raw
 
-hand-over-requires : tie.Need-hand-over-requires
+hand-over-requires : tie.Need-hand_over-requires
 hand-over-requires c κs =
     let e = c.before.before.before.before.before.before.before.before.before.before.before.before.before.before in
-    let a = e.before.before.before.before.before.before.args in
+    let a = e.args in
     peel_lengths_lem (length a.corners.now) (length a.start.now) (length a.vectors.now) (length a.numbers.now) (right e)
 
-same_length : tie.Need-same-length
+same_length : tie.Need-shape_of-table
 same_length c = search rules
 
-same-length-2 : tie.Need-same-length-2
+same-length-2 : tie.Need-shape_of-bounds
 same-length-2 c = search rules
 
-same-length-3 : tie.Need-same-length-3
+same-length-3 : tie.Need-shape_of-labels
 same-length-3 c = search rules
 
-same-length-4 : tie.Need-same-length-4
+same-length-4 : tie.Need-shape_of-vectors
 same-length-4 c = search rules
 
-same-length-5 : tie.Need-same-length-5
+same-length-5 : tie.Need-shape_of-numbers
 same-length-5 c = search rules
 
-returns-2 : tie.Need-returns-2
+returns-2 : tie.Need-returns
 returns-2 c =
     let h = c.before.before.before in
     let s = c.before.before.before.before.before.before.before.before.before.before.before.before in
     let j = c.before.before.before.before.before.before.before.before.before.before.before.before.before.before.before.before in
     let e = c.before.before.before.before.before.before.before.before.before.before.before.before.before.before.before.before.before.before in
-    let a = e.before.before.before.before.before.before.args in
+    let a = e.args in
     let m = model_of a.n a.d a.scale a.p a.eps in
     let job = job_from m a.t a.budget 0 a.corners.now a.start.now in
-    let is_job : j.Job-of.result ≡ job =
-    j.Job-of.ensures ∙ ap (λ m. job_from m a.t a.budget 0 a.corners.now a.start.now) j.before.model_of.ensures in
+    let is_job : j.job_of-job.result ≡ job =
+    j.job_of-job.ensures ∙ ap (λ m. job_from m a.t a.budget 0 a.corners.now a.start.now) j.model_of.ensures in
     let found : s.peel.result ≡ peel_answer a.store.now job a.limit a.table.now a.bounds.now a.labels.now =
     s.peel.ensures.0
     ∙ ap (λ (x : Job). peel_answer a.store.now x a.limit a.table.now a.bounds.now a.labels.now) is_job in
@@ -97,7 +97,7 @@ returns-2 c =
     let shown =
     subst (λ (x : Job). PeelingLent a.store.now x a.limit a.table.now a.bounds.now a.labels.now) is_job
     s.peel.ensures.1.1.1.1 in
-    let out = h.hand-over.ensures in
+    let out = h.hand_over.ensures in
     rw (right e, ← found) (
       out.0,
       (
@@ -113,7 +113,7 @@ returns-2 c =
                   peeled = λ _.
                       subst
                       (λ (x : Job). TablePeeled a.store.now x a.limit a.table.now a.bounds.now a.labels.now
-                      s.peel.new.1.1.1.0)
+                      s.peel.new.table)
                       is_job s.peel.ensures.1.1.0;
                   kept = λ wrong. absurd (true≢false (sym (right e) ∙ wrong));
                 },
@@ -122,7 +122,7 @@ returns-2 c =
                     peeled = λ _.
                         subst
                         (λ (x : Job). BoundsPeeled a.store.now x a.limit a.table.now a.bounds.now a.labels.now
-                        s.peel.new.1.1.1.1.0)
+                        s.peel.new.bounds)
                         is_job s.peel.ensures.1.1.1.0;
                     kept = λ wrong. absurd (true≢false (sym (right e) ∙ wrong));
                   },
@@ -138,8 +138,8 @@ returns-2 c =
       ),
     )
 
-pub peel-spec : {M : Type 1} → statement M
-peel-spec =
+pub peel_spec : {M : Type 1} → statement M
+peel_spec =
     tie.close
     (tie.spec
     lengths-right-requires
