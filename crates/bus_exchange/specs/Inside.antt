@@ -1,5 +1,5 @@
 -- What the functions behind an exchange say to each other.
-use Rattle.std.specs.Prelude.{List, ◌≡◌, ℕ, ◌+◌, length, set}
+use Rattle.std.specs.Prelude.{List, ◌≡◌, ℕ, ◌+◌, set}
 use Rattle.registers.specs.Registers.{read_at, written, job_in}
 use Rattle.bus_exchange.specs.declared.Progress.{Progress}
 use Rattle.bus_exchange.specs.Exchange.{numbers_lent}

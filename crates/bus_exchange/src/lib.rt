@@ -1,5 +1,6 @@
 // All of the program bus on slices: a store and a driver's accesses in, a byte for each read out.
 #![tactic(auto)]
+
 ghost use Rattle.std.specs.Prelude.{◌≡◌, [], ◌/◌, ◌≤◌, ◌<◌, length};
 ghost use Rattle.integers.specs.Lists.{over};
 ghost use Rattle.registers.specs.Registers.{job_in, written};
