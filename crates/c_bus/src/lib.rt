@@ -1,5 +1,6 @@
 // The registers of the fitter on the data bus for C: the caller keeps their 136 bytes.
 #![tactic(auto)]
+
 ghost use Rattle.std.specs.Prelude.{◌≡◌, length};
 ghost use Rattle.c_boundary.specs.Boundary.{code_of, value_after, if_accepted};
 ghost use Rattle.registers.specs.Registers.{cleared};
@@ -14,7 +15,7 @@ fn registers_in(buffer: &[u8]) -> Registers
     ensures { result.bytes ≡ buffer.now }
 {
     let mut bytes = [0u8; 136];
-    bytes::copy(buffer, &mut bytes);
+    bytes.copy_from_slice(buffer);
     Registers { bytes }
 }
 
@@ -24,7 +25,7 @@ fn put_registers(buffer: &mut [u8], r: Registers)
     ensures { buffer.new ≡ r.bytes }
 {
     let bytes = r.bytes;
-    bytes::copy(&bytes, buffer);
+    buffer.copy_from_slice(&bytes);
 }
 
 // Resets the registers.
