@@ -2,6 +2,7 @@
 // of its own, with the same contract. A call takes numbers and buffers with their lengths, and returns 0, the code of a refusal, or 255 for
 // a buffer of the wrong length. What it answers goes into lent memory, which a refusal leaves as it is.
 #![tactic(auto)]
+
 ghost use Rattle.std.specs.Prelude.{◌≡◌};
 ghost use Rattle.beacon.specs.Beacon.{store_after};
 ghost use Rattle.c_boundary.specs.Boundary.{model_of, code_of, value_after, if_accepted};
