@@ -129,6 +129,7 @@ fn refused_answer(r: Refusal) -> AnswerRead
 }
 
 // The answer of 40 bytes.
+#[tactic(auto, using(crate::proofs::Answers::read_no_length, crate::proofs::Answers::read_refused, crate::proofs::Answers::read_accepted))]
 pub fn read_answer(bytes: &[u8]) -> AnswerRead
     ensures { result ≡ read_answer bytes.now }
 {

@@ -8,6 +8,7 @@ use codes::{Check, Outcome, Refusal};
 
 // Checks 1, 10 and 11, of how many bytes the store has, the fill mark and how many the beacon has. Differences stand for the sum of mark
 // and size, which could wrap.
+#[tactic(auto, unfolding(crate::specs::Beacon::check_take_in, codes::specs::Codes::in_order, crate::specs::Beacon::check_mark, crate::specs::Beacon::check_space, crate::specs::Beacon::check_body))]
 fn check_take_in(room: usize, mark: usize, size: usize) -> Check
     ensures { result ≡ check_take_in room mark size }
 {

@@ -24,6 +24,7 @@ pub fn reset() -> Registers
 }
 
 // What a read of an offset gives, whatever the bytes hold.
+#[tactic(auto, unfolding(registers::specs::Registers::read_at))]
 pub fn read(r: Registers, offset: usize) -> u8
     ensures { result ≡ read_at r.bytes offset }
 {
@@ -146,6 +147,7 @@ fn command(
 }
 
 // A write: "Only bytes 0, 2 and 64 to 135 take writes; all other writes are ignored."
+#[tactic(auto, using(crate::proofs::Writing::command_written, crate::proofs::Writing::idle_written), unfolding(registers::specs::Registers::written))]
 pub fn write(
     r: Registers,
     offset: usize,

@@ -18,6 +18,7 @@ pub struct Shown {
 }
 
 // How many numbers of a table the search of a job with so many rows is lent.
+#[tactic(auto, unfolding(crate::specs::Inside::numbers_for))]
 fn numbers_for(rows: u32, numbers: usize) -> usize
     ensures { result ≡ numbers_for rows numbers }
 {

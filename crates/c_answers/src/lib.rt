@@ -60,6 +60,7 @@ pub fn read_answer(bytes: &[u8], vector: &mut [i16], numbers: &mut [u64]) -> u32
 }
 
 // Writes an answer record into the first 40 bytes.
+#[tactic(auto, using(c_buffers::proofs::Buffers::vector_from_lem))]
 pub fn write_answer(
     vector: &[i16],
     cost: u64,

@@ -7,7 +7,7 @@ use Prim.Native.Nat.{ℕ, zero, suc, ◌+◌, ◌-◌, ◌*◌, ◌^◌, ◌≤�
 use native.Mathlib.Nat.{mul-one, mul_comm, mul_assoc, mul_left_comm, mul-pos, mul-lt-mul_of_pos_right, mul-le-mul_right, add-mul, zero-mul}
 use native.Mathlib.Nat.{mul-zero, zero-lt-suc, not-le_of_lt, lt_of_not-le}
 use native.Mathlib.Omega.{arith}
-use lib.Dec.{T, ltb, leb, ltb→lt, lt→ltb, nltb→le, not_T, le→leb, leb-suc-suc}
+use lib.Dec.{T, ltb, ltb→lt, lt→ltb, nltb→le, not_T, le→leb, leb-suc-suc}
 use lib.IntN.{ℤ, pos, negsuc, neg_ℤ, nat_abs, ◌+ℤ◌, ◌-ℤ◌, ◌*ℤ◌, neg_ℤ-neg_ℤ}
 use lib.Signed.{lt_z, non_neg}
 use lib.Ieee.{Float, nan, inf, fin, binary64, up, down, round, neg, sum, add, sub, mul, lt, below, of_int, of_bits, in_float, unlike}

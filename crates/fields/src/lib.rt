@@ -20,6 +20,7 @@ pub fn unsigned16(high: u8, low: u8) -> u16
 }
 
 // The signed 16-bit number of two bytes, the higher first.
+#[tactic(auto, using(integers::proofs::Parts::from_parts, integers::proofs::Parts::sub_parts, integers::proofs::Parts::pos_up, integers::proofs::Parts::pos_dn, integers::proofs::Parts::negsuc_up, integers::proofs::Parts::negsuc_dn))]
 pub fn signed16(high: u8, low: u8) -> i16
     ensures { result ≡ to_z w16 (from_big_endian (high ∷ low ∷ [])) }
 {

@@ -21,6 +21,7 @@ fn check_either(len: usize) -> Check
 }
 
 // Checks 1, 15 and 16 of two stores, and again 1 of their union: its length in bytes.
+#[tactic(auto, using(crate::proofs::Checks::lengths, crate::proofs::Checks::lengths_refused, crate::proofs::Checks::whole, crate::proofs::Checks::first_falls, crate::proofs::Checks::second_falls, crate::proofs::Checks::clash_refused))]
 pub fn check_both(first: &[u8], second: &[u8]) -> Outcome
     ensures { result ≡ union_answer first.now second.now }
 {
@@ -49,6 +50,7 @@ pub fn check_both(first: &[u8], second: &[u8]) -> Outcome
 
 // How far a walk through both goes on in a store at byte i, where it is at byte j of the other: past the record there, unless the other's
 // comes before it.
+#[tactic(auto, using(crate::proofs::Records::records_next, crate::proofs::Records::records_end), unfolding(crate::specs::Walk::stride))]
 pub fn stride(store: &[u8], i: usize, other: &[u8], j: usize) -> usize
     ensures { result ≡ stride (from store.now i) (from other.now j) }
 {

@@ -95,6 +95,7 @@ fn nearest_line(q: Point, v: &[i16; 8], n: usize, d: usize, power: u16, eps: u64
 }
 
 // The label of a sample: 5 where two lines fit.
+#[tactic(auto, using(crate::proofs::Labelling::first_least_lem, residuals::proofs::Sizes::sizes_at), unfolding(crate::specs::Labels::sample_label, crate::specs::Labels::nearest_label))]
 fn label_of(q: Point, m: Model, v: &[i16; 8], power: u16) -> u8
     requires { (m.n * m.d ≤ 8) × (1 ≤ m.n) × (m.n ≤ 4) × (m.d ≤ 4) × (power ≡ 2 ^ m.scale) }
     ensures { result ≡ sample_label m v.now q }

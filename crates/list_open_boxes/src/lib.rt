@@ -90,6 +90,7 @@ fn slide_entries(part: &mut [u64])
 
 // Takes the box in row `at` out of the first n: those behind it move by one row, and nothing before it is read. Of n boxes as many are
 // meant as there is room for.
+#[tactic(auto, using(list_rows::proofs::Parts::lent_long))]
 pub fn take_out(table: &mut [i16], bounds: &mut [u64], n: usize, at: usize) -> usize
     ensures { Held table.old bounds.old (min n (room_in table.old bounds.old))
         (picked (row_at table.old) (others_than at) (min n (room_in table.old bounds.old)))

@@ -19,6 +19,7 @@ pub fn power(s: u8) -> u16
 }
 
 // Check 3.
+#[tactic(auto, unfolding(crate::specs::Scale::check_scale))]
 pub fn check_scale(s: u8) -> Check
     ensures { result ≡ check_scale s }
 {
