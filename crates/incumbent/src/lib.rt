@@ -24,6 +24,7 @@ pub struct Child {
 
 // Whether a number is below C or, for t = 0, equals C and belongs to a vector that comes before best. What becomes best and what is kept
 // goes by this test.
+#[tactic(auto, unfolding(certificate::specs::Search::ahead))]
 pub fn ahead(mark: Mark, number: u64, v: [i16; 8]) -> bool
     ensures { result ≡ ahead_of mark number v }
 {
