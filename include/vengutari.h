@@ -14,7 +14,8 @@
  * lends for writing no other argument reaches. Nothing is allocated or kept, so calls on different memory may run at the same time.
  * A search, for ranges too, a pass through windows or a run by the registers takes less than 190,000 bytes of stack, with p = 3 less than
  * 220,000, for several boards 5,000 more, and peeling less than 250,000; a cost or bound with p = 3 less than 45,000, every other call less
- * than 8,000.
+ * than 8,000. Where the C library is shared and bound lazily, what the loader takes at a first call of memset or the like comes on top,
+ * some 3,200 bytes where it was measured.
  *
  * store    point records of 12 bytes, 1 to 4,096 of them; one whose y is -32,768 is a gap, a sample that the board didn't take: it adds 0
  *          to every cost and bound, and is a record as any other: it counts, and its x after the d-th are 0
