@@ -68,7 +68,7 @@ fn put_refusal(out: &mut [u8], why: Refusal) -> usize
     requires { 200 ≤ length out.old }
     ensures { Put out.old 0 (field "refused " (number_of why) ++ byte 10) result out.new }
 {
-    let next = put_field(out, 0, b"refused ", codes::number(why) as u64);
+    let next = put_field(out, 0, b"refused ", u8::from(why) as u64);
     put_bytes(out, next, b"\n")
 }
 

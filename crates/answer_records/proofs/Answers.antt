@@ -8,10 +8,9 @@ use lib.Dec.{T, eqb, eqb→eq}
 use lib.ListN.{length, take, drop, get_or, length-append}
 use lib.Pow.{are_bytes}
 use lib.Seq.{take_at, drop_at, drop-drop, get_or-drop, take-add, take_all}
+use Rattle.std.specs.Prelude.{Err}
 use Rattle.codes.proofs.Checks.{passed, first_passed}
-use Rattle.codes.specs.Codes.{pass_if, if_passed, in_order}
-use Rattle.codes.specs.declared.Check.TheVariants.{Pass, Refuse}
-use Rattle.codes.specs.declared.Check.{Check}
+use Rattle.codes.specs.Codes.{Check, pass, pass_if, if_passed, in_order}
 use Rattle.codes.specs.declared.Refusal.TheVariants.{Answer, Short}
 use Rattle.codes.specs.declared.Refusal.{Refusal}
 use Rattle.answer_records.specs.Answers.{answer_bytes, answer_of, check_answer, check_answer_write, read_answer, zero_answer}
@@ -23,30 +22,30 @@ use Rattle.fields.proofs.BigEndian.{written_reads_whole}
 use Rattle.fields.proofs.Parts.{four_at}
 use Rattle.fields.proofs.Vectors.{vector_long, written_reads as vector-reads, number_back, vector_back}
 
-pub read_no_length : (bytes : List ℕ) → (length bytes ≡ 40 → ⊥) → read_answer bytes ≡ record { check = Refuse Answer; answer = zero_answer }
+pub read_no_length : (bytes : List ℕ) → (length bytes ≡ 40 → ⊥) → read_answer bytes ≡ record { check = Err Answer; answer = zero_answer }
 unfolding read_answer in_order
 read_no_length bytes h = simp (ne_eqb (length bytes) 40 h)
 
-pub read_refused : (bytes : List ℕ) (r : Refusal) → length bytes ≡ 40 → check_answer (answer_of bytes) ≡ Refuse r
-    → read_answer bytes ≡ record { check = Refuse r; answer = zero_answer }
+pub read_refused : (bytes : List ℕ) (r : Refusal) → length bytes ≡ 40 → check_answer (answer_of bytes) ≡ Err r
+    → read_answer bytes ≡ record { check = Err r; answer = zero_answer }
 unfolding read_answer in_order
 read_refused bytes r h e = simp (eq-eqb (length bytes) 40 h, e)
 
-pub read_accepted : (bytes : List ℕ) → length bytes ≡ 40 → check_answer (answer_of bytes) ≡ Pass
-    → read_answer bytes ≡ record { check = Pass; answer = answer_of bytes }
+pub read_accepted : (bytes : List ℕ) → length bytes ≡ 40 → check_answer (answer_of bytes) ≡ pass
+    → read_answer bytes ≡ record { check = pass; answer = answer_of bytes }
 unfolding read_answer in_order
 read_accepted bytes h e = simp (eq-eqb (length bytes) 40 h, e)
 
 module _ (a : AnswerRecord) (out : List ℕ) where
-  pub write_refused : (r : Refusal) → check_answer a ≡ Refuse r → check_answer_write a out ≡ Refuse r
+  pub write_refused : (r : Refusal) → check_answer a ≡ Err r → check_answer_write a out ≡ Err r
   unfolding check_answer_write in_order
   write_refused r e = simp e
 
-  pub write_no_room : check_answer a ≡ Pass → length out < 40 → check_answer_write a out ≡ Refuse Short
+  pub write_no_room : check_answer a ≡ pass → length out < 40 → check_answer_write a out ≡ Err Short
   unfolding check_answer_write check_room in_order
   write_no_room e h = simp (e, lt-leb 40 (length out) h)
 
-  pub write_accepted : check_answer a ≡ Pass → 40 ≤ length out → check_answer_write a out ≡ Pass
+  pub write_accepted : check_answer a ≡ pass → 40 ≤ length out → check_answer_write a out ≡ pass
   unfolding check_answer_write check_room in_order
   write_accepted e h = simp (e, le-leb 40 (length out) h)
 
@@ -112,7 +111,7 @@ answer_round_trip = record {
   size = size;
   written_reads =
       λ a ok e. read_accepted (answer_bytes a) (size a ok) (ap check_answer (reads a ok) ∙ e)
-      ∙ (λ i. record { check = Pass; answer = reads a ok i });
+      ∙ (λ i. record { check = pass; answer = reads a ok i });
   read_writes = λ bytes ok e.
       let h =
       eqb→eq (length bytes) 40 (passed (eqb (length bytes) 40) Answer

@@ -1,7 +1,6 @@
 -- The answer record.
 use Rattle.std.specs.Prelude.{Bool, true, false, ◌&&◌, List, [], ◌∷◌, ◌++◌, ℕ, leb, eqb, pos, length, replicate}
-use Rattle.codes.specs.Codes.{pass_if, if_passed, in_order, within}
-use Rattle.codes.specs.declared.Check.{Check}
+use Rattle.codes.specs.Codes.{Check, pass_if, if_passed, in_order, within}
 use Rattle.codes.specs.declared.Refusal.TheVariants.{Answer}
 use Rattle.scale.specs.Scale.{check_scale}
 use Rattle.boxes.specs.Shape.{check_shape, unused_zero}

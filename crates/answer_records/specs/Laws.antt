@@ -1,9 +1,9 @@
 -- What holds of answer records: statements, each proved in proofs/ under the name of its record.
+use Rattle.codes.specs.Codes.{pass}
 use Rattle.std.specs.Prelude.{List, ◌≡◌, ℕ, T, length}
 use Rattle.std.proofs.Math.Pow.{are_bytes}
 use Rattle.std.specs.Int.{w32, w64}
 use Rattle.std.proofs.Common.{Fits}
-use Rattle.codes.specs.declared.Check.TheVariants.{Pass}
 use Rattle.fields.specs.Fields.{IsVector}
 use Rattle.answer_records.specs.Answers.{answer_bytes, check_answer, read_answer}
 use Rattle.answer_records.specs.declared.AnswerRecord.{AnswerRecord}
@@ -23,7 +23,7 @@ pub record AnswerRoundTrip : Type 0 where
   pub written_reads :
       (a : AnswerRecord) →
       IsAnswer a →
-      check_answer a ≡ Pass →
-      read_answer (answer_bytes a) ≡ record { check = Pass; answer = a }
+      check_answer a ≡ pass →
+      read_answer (answer_bytes a) ≡ record { check = pass; answer = a }
   -- a record that reads writes back to the same bytes
-  pub read_writes : (bytes : List ℕ) → T (are_bytes bytes) → (read_answer bytes).check ≡ Pass → answer_bytes (read_answer bytes).answer ≡ bytes
+  pub read_writes : (bytes : List ℕ) → T (are_bytes bytes) → (read_answer bytes).check ≡ pass → answer_bytes (read_answer bytes).answer ≡ bytes

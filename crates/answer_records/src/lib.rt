@@ -1,13 +1,12 @@
 // Answer records: from an answer to its 40 bytes and back, with check 9.
 #![tactic(auto)]
 
-ghost use Rattle.std.specs.Prelude.{◌≡◌, ◌≤◌, length};
+ghost use Rattle.std.specs.Prelude.{◌≡◌, ◌≤◌, length, Err};
 ghost use Rattle.integers.specs.Lists.{over};
-ghost use Rattle.codes.specs.declared.Check.TheVariants.{Refuse};
 ghost use Rattle.fields.specs.Buffers.{written};
 ghost use Rattle.answer_records.specs.Answers.{answer_bytes, answer_of, check_answer, check_answer_write, passing, read_answer, zero_answer};
 
-use codes::{Check, Refusal};
+use codes::Refusal;
 use fields::{get_number, get_number32, get_vector, put_number, put_vector};
 
 // An answer as its record holds it. Any value of these types may arrive; check 9 refuses what is out of range.
@@ -26,7 +25,7 @@ pub struct AnswerRecord {
 // What reading an answer record comes to: at a refusal the answer is all 0.
 #[derive(Clone, Copy)]
 pub struct AnswerRead {
-    pub check: Check,
+    pub check: Result<(), Refusal>,
     pub answer: AnswerRecord,
 }
 
@@ -66,18 +65,18 @@ fn put_answer(a: AnswerRecord, bytes: &mut [u8])
 // The largest cost: 4,096 points that each cost 16,777,215 squared.
 const LARGEST_COST: u64 = 1_152_921_367_167_897_600;
 
-fn passes(c: Check) -> bool
+fn passes(c: Result<(), Refusal>) -> bool
     ensures { result ≡ passing c }
 {
     match c {
-        Check::Pass => true,
-        Check::Refuse(_) => false,
+        Ok(()) => true,
+        Err(_) => false,
     }
 }
 
 // Check 9.
 #[tactic(auto, unfolding(crate::specs::Answers::check_answer))]
-pub fn check_answer(a: AnswerRecord) -> Check
+pub fn check_answer(a: AnswerRecord) -> Result<(), Refusal>
     ensures { result ≡ check_answer a }
 {
     let vector = a.vector;
@@ -89,32 +88,32 @@ pub fn check_answer(a: AnswerRecord) -> Check
         && a.bound <= a.cost
         && a.cost <= LARGEST_COST
     {
-        Check::Pass
+        Ok(())
     } else {
-        Check::Refuse(Refusal::Answer)
+        Err(Refusal::Answer)
     }
 }
 
 // The answer record in the first 40 bytes.
-pub fn write_answer(a: AnswerRecord, out: &mut [u8]) -> Check
+pub fn write_answer(a: AnswerRecord, out: &mut [u8]) -> Result<(), Refusal>
     ensures check { result ≡ check_answer_write a out.old }
     ensures bytes { out.new ≡ written result (answer_bytes a) out.old }
 {
-    if let Check::Refuse(r) = check_answer(a) {
-        return Check::Refuse(r);
+    if let Err(r) = check_answer(a) {
+        return Err(r);
     }
     if out.len() < 40 {
-        return Check::Refuse(Refusal::Short);
+        return Err(Refusal::Short);
     }
     put_answer(a, out);
-    Check::Pass
+    Ok(())
 }
 
 fn refused_answer(r: Refusal) -> AnswerRead
-    ensures { result ≡ record { check = Refuse r; answer = zero_answer } }
+    ensures { result ≡ record { check = Err r; answer = zero_answer } }
 {
     AnswerRead {
-        check: Check::Refuse(r),
+        check: Err(r),
         answer: AnswerRecord {
             vector: [0i16; 8],
             cost: 0,
@@ -137,11 +136,11 @@ pub fn read_answer(bytes: &[u8]) -> AnswerRead
         return refused_answer(Refusal::Answer);
     }
     let answer = get_answer(bytes);
-    if let Check::Refuse(r) = check_answer(answer) {
+    if let Err(r) = check_answer(answer) {
         return refused_answer(r);
     }
     AnswerRead {
-        check: Check::Pass,
+        check: Ok(()),
         answer,
     }
 }

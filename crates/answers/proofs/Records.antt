@@ -11,13 +11,13 @@ use lib.IntN.{ℤ}
 use lib.ListN.{length}
 use mir.Syntax.{w16}
 use mir.Val.{SFits}
+use Rattle.std.specs.Prelude.{Err}
 use Rattle.integers.specs.Lists.{All, none, also}
 use Rattle.integers.proofs.Parts.{abs_fits}
 use Rattle.integers.proofs.Signed.{fits_between}
 use Rattle.integers.proofs.Tests.{is_true}
-use Rattle.codes.specs.declared.Check.TheVariants.{Pass, Refuse}
 use Rattle.codes.specs.declared.Refusal.{Refusal}
-use Rattle.codes.specs.Codes.{within}
+use Rattle.codes.specs.Codes.{pass, within}
 use Rattle.codes.proofs.Checks.{first_passed, others_passed}
 use Rattle.boxes.specs.declared.Box.{Box}
 use Rattle.boxes.specs.Boxes.{Between, empty, side, InBox}
@@ -75,12 +75,12 @@ module _ (store : List ℕ) (job : Job) (table : List ℤ) (bounds : List ℕ) w
   -- a refused answer's kind has the number 0
   refused_by_9 :
       (why : Refusal) →
-      check_lent store job table bounds ≡ Refuse why →
-      check_answer (search_record store job table bounds) ≡ Refuse Refusal.Answer
+      check_lent store job table bounds ≡ Err why →
+      check_answer (search_record store job table bounds) ≡ Err Refusal.Answer
   unfolding search_answer record_of check_answer
   refused_by_9 why e = rw e
 
-  module _ (ok : check_lent store job table bounds ≡ Pass) where
+  module _ (ok : check_lent store job table bounds ≡ pass) where
     abbrev found : Search.Answer
     found = searched_lent store job table bounds
 
@@ -91,11 +91,11 @@ module _ (store : List ℕ) (job : Job) (table : List ℤ) (bounds : List ℕ) w
     runs : Runs store job
     runs = runs_accepted store job (length table) (length bounds) ok
 
-    shape_checked : check_shape job.model.n job.model.d ≡ Pass
+    shape_checked : check_shape job.model.n job.model.d ≡ pass
     unfolding check_model
     shape_checked = first_passed _ _ (others_passed _ _ runs.checked)
 
-    scale_checked : check_scale job.model.scale ≡ Pass
+    scale_checked : check_scale job.model.scale ≡ pass
     unfolding check_model
     scale_checked = first_passed _ _ (others_passed _ _ (others_passed _ _ runs.checked))
 
@@ -127,7 +127,7 @@ module _ (store : List ℕ) (job : Job) (table : List ℤ) (bounds : List ℕ) w
       cost_in_range =
           omega (arith, demand.exact, (cost_limit store job.model).most runs.checked found.vector (vector_small vector_is))
 
-      passes_9 : check_answer written ≡ Pass
+      passes_9 : check_answer written ≡ pass
       unfolding record_of check_answer
       passes_9 =
           rw (

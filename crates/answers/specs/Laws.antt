@@ -1,6 +1,6 @@
 -- What holds of the record of a search's answer. The proofs stand in proofs/Records.antt.
-use Rattle.std.specs.Prelude.{List, ◌≡◌, ℕ, ℤ}
-use Rattle.codes.specs.declared.Check.TheVariants.{Pass, Refuse}
+use Rattle.codes.specs.Codes.{pass}
+use Rattle.std.specs.Prelude.{List, ◌≡◌, ℕ, ℤ, Err}
 use Rattle.codes.specs.declared.Refusal.{Refusal}
 use Rattle.jobs.specs.declared.Job.{Job}
 use Rattle.search.specs.Search.{check_lent, search_answer}
@@ -18,11 +18,11 @@ module _ (store : List ℕ) (job : Job) (table : List ℤ) (bounds : List ℕ) w
 
   -- Check 9 passes exactly where the search accepts a job whose numbers fit their bytes: no accepted answer is one that cannot be written.
   pub record RecordFits : Type 0 where
-    pub accepted : check_lent store job table bounds ≡ Pass → IsJob job → check_answer search_record ≡ Pass
-    pub refused : (why : Refusal) → check_lent store job table bounds ≡ Refuse why → check_answer search_record ≡ Refuse Refusal.Answer
+    pub accepted : check_lent store job table bounds ≡ pass → IsJob job → check_answer search_record ≡ pass
+    pub refused : (why : Refusal) → check_lent store job table bounds ≡ Err why → check_answer search_record ≡ Err Refusal.Answer
     -- the numbers of an accepted answer fit their bytes, so that its record reads as itself
-    pub numbers : check_lent store job table bounds ≡ Pass → IsJob job → IsAnswer search_record
+    pub numbers : check_lent store job table bounds ≡ pass → IsJob job → IsAnswer search_record
     pub reads :
-        check_lent store job table bounds ≡ Pass →
+        check_lent store job table bounds ≡ pass →
         IsJob job →
-        read_answer (answer_bytes search_record) ≡ record { check = Pass; answer = search_record }
+        read_answer (answer_bytes search_record) ≡ record { check = pass; answer = search_record }

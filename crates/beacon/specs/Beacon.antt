@@ -1,10 +1,8 @@
 -- "Taking in a beacon": the checks, the new mark and the store afterwards.
 -- room: how many bytes the lent store has; size: how many the beacon has.
 use Rattle.std.specs.Prelude.{◌&&◌, List, [], ◌∷◌, ◌++◌, ℕ, ◌+◌, ◌%◌, leb, eqb, length, take, drop}
-use Rattle.codes.specs.declared.Check.{Check}
 use Rattle.codes.specs.declared.Refusal.TheVariants.{Length, Short, Beacon}
-use Rattle.codes.specs.declared.Outcome.{Outcome}
-use Rattle.codes.specs.Codes.{pass_if, in_order, unless_refused, if_passed}
+use Rattle.codes.specs.Codes.{Check, Outcome, pass_if, in_order, unless_refused, if_passed}
 use Rattle.points.specs.Points.{check_store}
 
 -- Check 1 asks of a beacon what it asks of a store, and of the mark: "fill mark past the store or not a multiple of 12".

@@ -4,36 +4,36 @@
 ghost use Rattle.std.specs.Prelude.{◌≡◌, ◌+◌, ◌≤◌, length};
 ghost use Rattle.beacon.specs.Beacon.{check_take_in, take_in_answer, store_after, behind};
 
-use codes::{Check, Outcome, Refusal};
+use codes::Refusal;
 
 // Checks 1, 10 and 11, of how many bytes the store has, the fill mark and how many the beacon has. Differences stand for the sum of mark
 // and size, which could wrap.
 #[tactic(auto, unfolding(crate::specs::Beacon::check_take_in, codes::specs::Codes::in_order, crate::specs::Beacon::check_mark, crate::specs::Beacon::check_space, crate::specs::Beacon::check_body))]
-fn check_take_in(room: usize, mark: usize, size: usize) -> Check
+fn check_take_in(room: usize, mark: usize, size: usize) -> Result<(), Refusal>
     ensures { result ≡ check_take_in room mark size }
 {
-    if let Check::Refuse(r) = points::check_store(size) {
-        return Check::Refuse(r);
+    if let Err(r) = points::check_store(size) {
+        return Err(r);
     }
     if room < mark {
-        return Check::Refuse(Refusal::Length);
+        return Err(Refusal::Length);
     }
     if mark % 12 != 0 {
-        return Check::Refuse(Refusal::Length);
+        return Err(Refusal::Length);
     }
     if room - mark < size {
-        return Check::Refuse(Refusal::Short);
+        return Err(Refusal::Short);
     }
     if 49152 < mark {
-        return Check::Refuse(Refusal::Short);
+        return Err(Refusal::Short);
     }
     if 49152 - mark < size {
-        return Check::Refuse(Refusal::Short);
+        return Err(Refusal::Short);
     }
     if 236 < size {
-        return Check::Refuse(Refusal::Beacon);
+        return Err(Refusal::Beacon);
     }
-    Check::Pass
+    Ok(())
 }
 
 fn copy_behind(store: &mut [u8], mark: usize, beacon: &[u8])
@@ -46,16 +46,16 @@ fn copy_behind(store: &mut [u8], mark: usize, beacon: &[u8])
 }
 
 // The beacon behind the filled part of the store, from the fill mark on, and the new mark. The store's rest is kept.
-pub fn take_in(store: &mut [u8], mark: usize, beacon: &[u8]) -> Outcome
+pub fn take_in(store: &mut [u8], mark: usize, beacon: &[u8]) -> Result<u64, Refusal>
     ensures outcome { result ≡ take_in_answer (length store.old) mark (length beacon.now) }
     ensures stored { store.new ≡ store_after store.old mark beacon.now }
 {
     match check_take_in(store.len(), mark, beacon.len()) {
-        Check::Pass => {
+        Ok(()) => {
             let next = mark + beacon.len();
             copy_behind(store, mark, beacon);
-            Outcome::Value(next as u64)
+            Ok(next as u64)
         }
-        Check::Refuse(r) => Outcome::Refused(r),
+        Err(r) => Err(r),
     }
 }

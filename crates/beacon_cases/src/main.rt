@@ -4,7 +4,6 @@
 
 ghost use Rattle.std.specs.Prelude.{◌≡◌, ◌≤◌, length};
 
-use codes::Outcome;
 use std::io;
 
 // How many bytes of the store are 1.
@@ -38,12 +37,12 @@ fn report(rt: &impl Print, store: &mut [u8], mark: usize, body: &[u8]) -> io::Re
     field(rt, " mark ", mark)?;
     field(rt, " beacon ", body.len())?;
     match beacon::take_in(store, mark, body) {
-        Outcome::Value(next) => {
+        Ok(next) => {
             print!(rt; ": mark {next}")?;
             field(rt, ", from ", first(store))?;
         }
-        Outcome::Refused(r) => {
-            let number = codes::number(r);
+        Err(r) => {
+            let number = u8::from(r);
             print!(rt; ": refused {number}")?;
         }
     }

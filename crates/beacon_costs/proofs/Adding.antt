@@ -8,9 +8,8 @@ use lib.Dec.{leb, eqb, leb→le}
 use lib.IntN.{ℤ}
 use lib.ListN.{length, take, drop}
 use lib.Seq.{take-add, take_all}
-use Rattle.codes.specs.declared.Check.TheVariants.{Pass}
 use Rattle.codes.specs.declared.Refusal.TheVariants.{Length}
-use Rattle.codes.specs.Codes.{within}
+use Rattle.codes.specs.Codes.{pass, within}
 use Rattle.codes.proofs.Checks.{passed}
 use Rattle.integers.proofs.Tests.{and_parts}
 use Rattle.jobs.specs.declared.Model.{Model}
@@ -67,7 +66,7 @@ module _ (m : Model) (picked : m.p ≤ 2) (qs : List Point) (v : List ℤ) where
       ∙ losses_grouped m (size_at m v) qs
       ∙ sym (cost_sum m qs picked v)
 
-few_groups : (store : List ℕ) → check_store (length store) ≡ Pass → groups (points_of store) ≤ 216
+few_groups : (store : List ℕ) → check_store (length store) ≡ pass → groups (points_of store) ≤ 216
 unfolding check_store groups points_of
 few_groups store e =
     let n = length store in

@@ -5,9 +5,8 @@ use Prim.Native.Nat.{ℕ, ◌≤◌}
 use lib.Dec.{leb, leb→le}
 use lib.IntN.{ℤ}
 use lib.ListN.{length}
-use Rattle.codes.specs.declared.Check.TheVariants.{Pass}
 use Rattle.codes.specs.declared.Refusal.TheVariants.{Short}
-use Rattle.codes.specs.Codes.{pass_if}
+use Rattle.codes.specs.Codes.{pass, pass_if}
 use Rattle.codes.proofs.Checks.{passed, first_passed, others_passed}
 use Rattle.jobs.specs.declared.Model.{Model}
 use Rattle.points.specs.Points.{points_of}
@@ -16,7 +15,7 @@ use Rattle.model_checks.specs.Checks.{check_threshold}
 use Rattle.model_checks.proofs.Passed.{ready, threshold_model, threshold_picked}
 use Rattle.beacon_costs.specs.BeaconCosts.{groups, check_by_beacon}
 
-module _ (store : List ℕ) (m : Model) (v : List ℤ) (entries : ℕ) (e : check_by_beacon store m v entries ≡ Pass) where
+module _ (store : List ℕ) (m : Model) (v : List ℤ) (entries : ℕ) (e : check_by_beacon store m v entries ≡ pass) where
   pub all_ready : Ready (length store) m
   unfolding check_by_beacon
   all_ready = ready store m (threshold_model store m v (first_passed (check_threshold store m v) _ e))
@@ -29,5 +28,5 @@ module _ (store : List ℕ) (m : Model) (v : List ℤ) (entries : ℕ) (e : chec
   unfolding check_by_beacon
   room =
       let check = pass_if (leb (groups (points_of store)) entries) Short in
-      let pass : check ≡ Pass = first_passed check [] (others_passed (check_threshold store m v) (check ∷ []) e) in
+      let pass : check ≡ pass = first_passed check [] (others_passed (check_threshold store m v) (check ∷ []) e) in
       leb→le _ _ (passed (leb (groups (points_of store)) entries) Short pass)

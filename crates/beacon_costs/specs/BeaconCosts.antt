@@ -1,10 +1,8 @@
 -- "Cost shown beacon by beacon", request 10 of document 02. qs are the points of a store in order, gaps among them; groups count from 0.
 use Rattle.std.specs.Prelude.{List, [], ◌∷◌, ◌++◌, ℕ, zero, suc, ◌+◌, ◌*◌, ◌/◌, leb, ℤ, length, take, drop}
 use Rattle.integers.specs.Lists.{over}
-use Rattle.codes.specs.declared.Check.{Check}
-use Rattle.codes.specs.declared.Outcome.{Outcome}
 use Rattle.codes.specs.declared.Refusal.TheVariants.{Short}
-use Rattle.codes.specs.Codes.{pass_if, in_order, unless_refused, if_passed}
+use Rattle.codes.specs.Codes.{Check, Outcome, pass_if, in_order, unless_refused, if_passed}
 use Rattle.jobs.specs.declared.Model.{Model}
 use Rattle.points.specs.declared.Point.{Point}
 use Rattle.points.specs.Points.{points_of}

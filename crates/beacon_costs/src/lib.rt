@@ -10,7 +10,7 @@ ghost use Rattle.residuals.specs.Inside.{Ready};
 ghost use Rattle.beacon_costs.specs.BeaconCosts.{groups, partial_sums, total, check_by_beacon, cost_by_beacon, sums_after};
 ghost use Rattle.beacon_costs.specs.Inside.{ChunkSums};
 
-use codes::{Check, Outcome, Refusal, in_order};
+use codes::{Refusal, in_order};
 use eval_kernel::Coordinates;
 use eval_lanes::{Chunk, Lanes};
 use jobs::Model;
@@ -70,18 +70,18 @@ fn write_sums(store: &[u8], m: Model, v: [i16; 8], sums: &mut [u64]) -> u64
 }
 
 // Check 10: an entry for each group.
-fn check_room(bytes: usize, entries: usize) -> Check
+fn check_room(bytes: usize, entries: usize) -> Result<(), Refusal>
     ensures { result ≡ pass_if (leb ((bytes / 12 + 18) / 19) entries) Short }
 {
     if group_count(bytes) <= entries {
-        Check::Pass
+        Ok(())
     } else {
-        Check::Refuse(Refusal::Short)
+        Err(Refusal::Short)
     }
 }
 
 // The checks of a call with a threshold, and then check 10.
-fn check_by_beacon(store: &[u8], m: Model, v: [i16; 8], entries: usize) -> Check
+fn check_by_beacon(store: &[u8], m: Model, v: [i16; 8], entries: usize) -> Result<(), Refusal>
     ensures { result ≡ check_by_beacon store.now m v entries }
 {
     in_order(
@@ -91,12 +91,12 @@ fn check_by_beacon(store: &[u8], m: Model, v: [i16; 8], entries: usize) -> Check
 }
 
 // The cost of each group into the front of a lent list; the answer is the total. Nothing is written before all checks have passed.
-pub fn cost_by_beacon(store: &[u8], m: Model, v: [i16; 8], sums: &mut [u64]) -> Outcome
+pub fn cost_by_beacon(store: &[u8], m: Model, v: [i16; 8], sums: &mut [u64]) -> Result<u64, Refusal>
     ensures answer { result ≡ cost_by_beacon store.now m v sums.old }
     ensures sums { sums.new ≡ sums_after store.now m v sums.old }
 {
     match check_by_beacon(store, m, v, sums.len()) {
-        Check::Pass => Outcome::Value(write_sums(store, m, v, sums)),
-        Check::Refuse(r) => Outcome::Refused(r),
+        Ok(()) => Ok(write_sums(store, m, v, sums)),
+        Err(r) => Err(r),
     }
 }

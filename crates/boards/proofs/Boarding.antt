@@ -10,12 +10,11 @@ use lib.Dec.{T, leb, leb→le}
 use lib.IntN.{ℤ}
 use lib.ListN.{length, take, drop, get_or, set, replicate, length-append, length-replicate}
 use lib.Seq.{set_at, drop-cons, get_or_at}
+use Rattle.std.specs.Prelude.{Ok, Err}
 use Rattle.integers.specs.Lists.{over}
 use Rattle.integers.proofs.Tests.{and_parts, le_or_lt}
-use Rattle.codes.specs.declared.Check.{Check}
-use Rattle.codes.specs.declared.Check.TheVariants.{Pass, Refuse}
 use Rattle.codes.specs.declared.Refusal.{Refusal}
-use Rattle.codes.specs.Codes.{if_passed, within}
+use Rattle.codes.specs.Codes.{Check, pass, if_passed, within}
 use Rattle.codes.proofs.Checks.{passed}
 use Rattle.jobs.specs.declared.Job.{Job}
 use Rattle.list_rows.specs.Rows.{row_count}
@@ -43,7 +42,7 @@ pub record Counted (count bytes entries : ℕ) : Type 0 where
   pub records : 72 * count ≤ bytes
   pub lengths : count ≤ entries
 
-pub counted : (count bytes entries : ℕ) → check_jobs count bytes entries ≡ Pass → Counted count bytes entries
+pub counted : (count bytes entries : ℕ) → check_jobs count bytes entries ≡ pass → Counted count bytes entries
 unfolding check_jobs
 counted count bytes entries e =
     let whole : T (within 1 count 8 && (leb (72 * count) bytes && leb count entries)) =
@@ -103,12 +102,12 @@ no_splits (suc n) (suc k) why = no_splits n k why
 
 -- the splits of one answer
 counts : (check : Check) (r : Search.Answer) → (answer_unless_refused check r).count ≡ if_passed check r.count 0
-counts Pass r = refl
-counts (Refuse why) r = refl
+counts (Ok _) r = refl
+counts (Err why) r = refl
 
 few_counted : (check : Check) (n b : ℕ) → n ≤ b → if_passed check n 0 ≤ b
-few_counted Pass n b h = h
-few_counted (Refuse why) n b h = omega arith
+few_counted (Ok _) n b h = h
+few_counted (Err why) n b h = omega arith
 
 -- where a store begins, of lengths that fit 32 bits
 pub begin_few : (lengths : List ℕ) → ((i : ℕ) → get_or lengths i 0 < 4294967296) → (i : ℕ) → begin_of lengths i ≤ 4294967296 * i
@@ -248,7 +247,7 @@ module _ (count total : ℕ) (jobs stores lengths : List ℕ) (table : List ℤ)
   }
 
   -- what the answer holds, where the call is accepted
-  module _ (ok : check_call count total jobs stores lengths table bounds ≡ Pass) (i : ℕ) (below : i < count) where
+  module _ (ok : check_call count total jobs stores lengths table bounds ≡ pass) (i : ℕ) (below : i < count) where
     pub slot_answer : get_or (boards_answer count total jobs stores lengths table bounds).answers i (refused Refusal.Jobs) ≡ answer i
     unfolding boards_answer over
     slot_answer = rw ok (in_turn_at answer count i _ (refused Refusal.Jobs) below)
@@ -258,11 +257,11 @@ module _ (count total : ℕ) (jobs stores lengths : List ℕ) (table : List ℤ)
     slot_budget = rw ok (in_turn_at budget count i _ 0 below)
 
     -- "Each answer is certified for its own job under the budget it got."
-    certified : check i ≡ Pass
+    certified : check i ≡ pass
         → BoardCertified count total jobs stores lengths table bounds (boards_answer count total jobs stores lengths table bounds) i
     certified accepted =
         let job = under (job_at jobs i) (budget i) in
-        let own_check : check_board stores (begin_of lengths i) (get_or lengths i 0) job (length table) (length bounds) ≡ Pass =
+        let own_check : check_board stores (begin_of lengths i) (get_or lengths i 0) job (length table) (length bounds) ≡ pass =
         any_budget stores (begin_of lengths i) (get_or lengths i 0) (job_at jobs i) (length table) (length bounds) (budget i) ∙ accepted in
         record {
           answer = rw slot_budget (slot_answer ∙ rw accepted refl);
@@ -273,7 +272,7 @@ module _ (count total : ℕ) (jobs stores lengths : List ℕ) (table : List ℤ)
 
   splits_by : (c : Check) → splits_in (over (if_passed c (in_turn answer count) []) (replicate 8 (refused Refusal.Jobs))) ≤ total
   unfolding over
-  splits_by Pass =
+  splits_by (Ok _) =
       let xs = in_turn answer count in
       omega (
         arith,
@@ -282,7 +281,7 @@ module _ (count total : ℕ) (jobs stores lengths : List ℕ) (table : List ℤ)
         all_splits count,
         shared.together,
       )
-  splits_by (Refuse why) = omega (arith, no_splits 8 0 Refusal.Jobs)
+  splits_by (Err why) = omega (arith, no_splits 8 0 Refusal.Jobs)
 
   shares_out : BoardsShared count total jobs stores lengths table bounds (boards_answer count total jobs stores lengths table bounds)
   unfolding boards_answer
@@ -303,18 +302,18 @@ module _ (count total : ℕ) (jobs stores lengths : List ℕ) (table : List ℤ)
       → SharedBounds (searches_run count total jobs stores lengths table bounds) bounds e → Promised r u e
   promised r u e same rows entries = (same, (rows, (entries, rw same (shares_out, certified))))
 
-  pub promised_pass : (r : BoardAnswers) (u : List ℤ) (e : List ℕ) → check_call count total jobs stores lengths table bounds ≡ Pass
-      → (r.check ≡ Pass) × Answered count total jobs stores lengths table bounds count r.answers r.budgets u e → Promised r u e
+  pub promised_pass : (r : BoardAnswers) (u : List ℤ) (e : List ℕ) → check_call count total jobs stores lengths table bounds ≡ pass
+      → (r.check ≡ pass) × Answered count total jobs stores lengths table bounds count r.answers r.budgets u e → Promised r u e
   unfolding boards_answer
   promised_pass r u e ok done =
       promised r u e
       (rw ok (λ i. record { check = done.0 i; answers = done.1.told i; budgets = done.1.given i }))
       (rw ok done.1.rows) (rw ok done.1.entries)
 
-  pub promised_refused : (why : Refusal) (a : Answer) → check_call count total jobs stores lengths table bounds ≡ Refuse why
-      → a ≡ refused Refusal.Jobs → Promised (record { check = Refuse why; answers = replicate 8 a; budgets = replicate 8 0 }) table bounds
+  pub promised_refused : (why : Refusal) (a : Answer) → check_call count total jobs stores lengths table bounds ≡ Err why
+      → a ≡ refused Refusal.Jobs → Promised (record { check = Err why; answers = replicate 8 a; budgets = replicate 8 0 }) table bounds
   unfolding boards_answer over
   promised_refused why a no_call e =
-      promised (record { check = Refuse why; answers = replicate 8 a; budgets = replicate 8 0 }) table bounds
-      (rw no_call (λ i. record { check = Refuse why; answers = replicate 8 (e i); budgets = replicate 8 0 }))
+      promised (record { check = Err why; answers = replicate 8 a; budgets = replicate 8 0 }) table bounds
+      (rw no_call (λ i. record { check = Err why; answers = replicate 8 (e i); budgets = replicate 8 0 }))
       (rw no_call (table_shared.none table)) (rw no_call (bounds_shared.none bounds))

@@ -1,10 +1,8 @@
 -- Document 02, request 11: "Take a count of 1 to 8 jobs, each with its store, and a total budget T, unsigned 32-bit."
 use Rattle.std.specs.Prelude.{◌≡◌, ◌&&◌, List, [], ◌∷◌, ◌++◌, ℕ, zero, suc, ◌+◌, ◌*◌, ◌/◌, ◌≤◌, ◌<◌, min, leb, ℤ, length, take, drop, get_or, replicate}
 use Rattle.integers.specs.Lists.{over}
-use Rattle.codes.specs.declared.Check.{Check}
-use Rattle.codes.specs.declared.Check.TheVariants.{Pass}
 use Rattle.codes.specs.declared.Refusal.{Refusal}
-use Rattle.codes.specs.Codes.{pass_if, if_passed, within}
+use Rattle.codes.specs.Codes.{Check, pass, pass_if, if_passed, within}
 use Rattle.jobs.specs.declared.Job.{Job}
 use Rattle.points.specs.Points.{points_of}
 use Rattle.residuals.specs.Cost.{bound}
@@ -95,7 +93,7 @@ module _ (count total : ℕ) (jobs stores lengths : List ℕ) (table : List ℤ)
     pub together : splits_in r.answers ≤ total
     -- and every job gets at least the smaller of its own budget and T divided by the number of jobs, rounded down, whatever the other jobs
     -- hold."
-    pub fair : check_call ≡ Pass → (i : ℕ) → i < count → min (own_at i) (total / count) ≤ get_or r.budgets i 0
+    pub fair : check_call ≡ pass → (i : ℕ) → i < count → min (own_at i) (total / count) ≤ get_or r.budgets i 0
 
   -- "Each answer is certified for its own job under the budget it got": the answer in slot i tells what the search of job i under the
   -- budget in slot i comes to, and of that demand 3 holds.
@@ -106,4 +104,4 @@ module _ (count total : ℕ) (jobs stores lengths : List ℕ) (table : List ℤ)
     pub certificate : CertifiedIn (store_at i) (under (job_at jobs i) (get_or r.budgets i 0)) (row_count table)
 
   abbrev pub BoardsCertified : BoardAnswers → Type 0
-  BoardsCertified r = check_call ≡ Pass → (i : ℕ) → i < count → check_at i ≡ Pass → BoardCertified r i
+  BoardsCertified r = check_call ≡ pass → (i : ℕ) → i < count → check_at i ≡ pass → BoardCertified r i

@@ -2,32 +2,32 @@
 #![tactic(auto)]
 
 ghost use Rattle.std.specs.Prelude.{◌≡◌, length};
-ghost use Rattle.codes.specs.declared.Check.TheVariants.{Pass};
+ghost use Rattle.codes.specs.Codes.{pass};
 ghost use Rattle.sharing.specs.Sharing.{SharedTable, SharedBounds};
 ghost use Rattle.boards.specs.Boards.{check_jobs, boards_answer, searches_run, BoardsShared, BoardsCertified};
 ghost use Rattle.boards.specs.Inside.{Answered};
 
-use codes::{Check, Refusal};
+use codes::Refusal;
 use search::Answer;
 
 // What a call comes to: each job's answer or refusal, and the budget that it got. Slots without a job are refused by 18.
 #[derive(Clone, Copy)]
 pub struct BoardAnswers {
-    pub check: Check,
+    pub check: Result<(), Refusal>,
     pub answers: [Answer; 8],
     pub budgets: [u32; 8],
 }
 
 // Check 18, of so many jobs in so many bytes, with so many lengths.
 #[tactic(auto, unfolding(crate::specs::Boards::check_jobs))]
-fn check_jobs(count: u8, bytes: usize, entries: usize) -> Check
+fn check_jobs(count: u8, bytes: usize, entries: usize) -> Result<(), Refusal>
     ensures { result ≡ check_jobs count bytes entries }
 {
     let jobs = count as usize;
     if 1 <= jobs && jobs <= 8 && 72 * jobs <= bytes && jobs <= entries {
-        Check::Pass
+        Ok(())
     } else {
-        Check::Refuse(Refusal::Jobs)
+        Err(Refusal::Jobs)
     }
 }
 
@@ -41,8 +41,8 @@ fn each_board(
     table: &mut [i16],
     bounds: &mut [u64],
 ) -> BoardAnswers
-    requires { check_jobs count (length jobs.now) (length lengths.now) ≡ Pass }
-    ensures { (result.check ≡ Pass)
+    requires { check_jobs count (length jobs.now) (length lengths.now) ≡ pass }
+    ensures { (result.check ≡ pass)
         × Answered count total jobs.now stores.now lengths.now table.old bounds.old
         count result.answers result.budgets table.new bounds.new }
 {
@@ -64,7 +64,7 @@ fn each_board(
         i += 1;
     }
     BoardAnswers {
-        check: Check::Pass,
+        check: Ok(()),
         answers,
         budgets,
     }
@@ -93,9 +93,9 @@ pub fn boards(
         bounds.old result }
 {
     match check_jobs(count, jobs.len(), lengths.len()) {
-        Check::Pass => each_board(count as usize, total, jobs, stores, lengths, table, bounds),
-        Check::Refuse(why) => BoardAnswers {
-            check: Check::Refuse(why),
+        Ok(()) => each_board(count as usize, total, jobs, stores, lengths, table, bounds),
+        Err(why) => BoardAnswers {
+            check: Err(why),
             answers: [one_board::refusal(Refusal::Jobs); 8],
             budgets: [0u32; 8],
         },

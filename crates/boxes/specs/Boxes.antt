@@ -1,9 +1,8 @@
 -- Boxes, from "Points and job": the vectors of a box, their number V, and the checks 5 and 6 of a box.
 use Rattle.std.specs.Prelude.{Bool, true, false, ◌&&◌, cond, List, [], ◌∷◌, ◌++◌, map, ℕ, zero, suc, ◌*◌, ℤ, pos, nat_abs, ◌+ℤ◌, ◌-ℤ◌, ◌≤ℤ◌, get_or}
 use Rattle.std.specs.Int.Signed.{le_z, lt_z}
-use Rattle.codes.specs.declared.Check.{Check}
 use Rattle.codes.specs.declared.Refusal.{Refusal}
-use Rattle.codes.specs.Codes.{pass_if}
+use Rattle.codes.specs.Codes.{Check, pass_if}
 use Rattle.boxes.specs.declared.Box.{Box}
 use Rattle.boxes.specs.Shape.{unused_zero}
 

@@ -7,7 +7,7 @@ use Prim.Native.Nat.{ℕ, ◌≤◌, ◌<◌, min}
 use native.Mathlib.Omega.{arith}
 use lib.Dec.{T, T_not}
 use lib.IntN.{ℤ}
-use Rattle.codes.specs.declared.Check.TheVariants.{Pass}
+use Rattle.codes.specs.Codes.{pass}
 use Rattle.boxes.specs.declared.Box.{Box}
 use Rattle.boxes.specs.declared.Halves.{Halves}
 use Rattle.boxes.specs.Boxes.{volume}
@@ -91,7 +91,7 @@ module _ (cost : List ℤ → ℕ) (bound : Box → ℕ) (laws : Bounds cost bou
 
   -- step by step, as the code finds them
   pub cut_whole :
-      (h : Halves) (top : ℕ) (x : HalfBounds) (given test stays : Bool) (one new : Mark) (left right : Child) → h ≡ halves_unless_refused Pass b →
+      (h : Halves) (top : ℕ) (x : HalfBounds) (given test stays : Bool) (one new : Mark) (left right : Child) → h ≡ halves_unless_refused pass b →
       top ≡ cap →
       (h.left ≡ left_half b → h.right ≡ right_half b → x ≡ bounds_up_to bound h.left h.right top) →
       ((given ≡ false → better cost t v h.left.low ≡ v) → Tried mark h.left.low one) →

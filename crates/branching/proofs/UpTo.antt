@@ -4,7 +4,7 @@ use mathlib.Core.List.{List}
 use Prim.Native.Nat.{ℕ, ◌≤◌, min}
 use native.Mathlib.Omega.{arith}
 use lib.IntN.{ℤ}
-use Rattle.codes.specs.declared.Check.TheVariants.{Pass}
+use Rattle.codes.specs.Codes.{pass}
 use Rattle.boxes.specs.declared.Box.{Box}
 use Rattle.jobs.specs.declared.Model.{Model}
 use Rattle.points.specs.Points.{points_of}
@@ -13,7 +13,7 @@ use Rattle.residuals.specs.Cost as model
 use Rattle.model_checks.specs.Checks.{check_model}
 use Rattle.costs.specs.Calls.{cost_up_to, bound_up_to}
 
-module _ (store : List ℕ) (m : Model) (ok : check_model store m ≡ Pass) where
+module _ (store : List ℕ) (m : Model) (ok : check_model store m ≡ pass) where
   cost_up_to_lem : (v : List ℤ) (cap : ℕ) → cost_up_to store m v cap ≡ min (model.cost m (points_of store) v) cap
   unfolding cost_up_to
   cost_up_to_lem v cap = rw ok

@@ -1,7 +1,7 @@
 -- A box is cut: what is found over lanes, by the numbers in them, and of a store's own lanes by its points. These definitions say what this
 -- crate's functions do; the contract of a search does not rest on them, and a reader of that need not believe them.
+use Rattle.codes.specs.Codes.{pass}
 use Rattle.std.specs.Prelude.{◌≡◌, Bool, true, cond, not, ◌&&◌, List, ℕ, ◌+◌, ◌/◌, ◌<◌, min, ltb, eqb, ℤ, Float}
-use Rattle.codes.specs.declared.Check.TheVariants.{Pass}
 use Rattle.boxes.specs.declared.Box.{Box}
 use Rattle.boxes.specs.Split.{longest_side, left_half, right_half, cut_answer}
 use Rattle.jobs.specs.declared.Model.{Model}
@@ -20,7 +20,7 @@ use Rattle.branching.specs.declared.Branches.{Branches}
 
 -- what an evaluation asks: checks 1 to 4 passed, and the lanes are the store's, which a search decodes once
 pub record Evaluable (store : List ℕ) (lanes : List (List (List Float))) (m : Model) : Type 0 where
-  pub checked : check_model store m ≡ Pass
+  pub checked : check_model store m ≡ pass
   pub decoded : DecodedFor store m lanes
 
 -- one more than a cost, as far as 64 bits go

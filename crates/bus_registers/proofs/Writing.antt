@@ -9,9 +9,8 @@ use lib.Dec.{T, eqb}
 use lib.IntN.{ℤ}
 use lib.ListN.{length, set, take, drop, length-drop}
 use lib.Seq.{take_at, take_all, drop_at, drop-set-lt, length-take-le}
-use Rattle.codes.specs.Codes.{if_passed}
-use Rattle.codes.specs.declared.Check.{Check}
-use Rattle.codes.specs.declared.Check.TheVariants.{Pass, Refuse}
+use Rattle.std.specs.Prelude.{Ok, Err}
+use Rattle.codes.specs.Codes.{Check, if_passed}
 use Rattle.jobs.specs.declared.Job.{Job}
 use Rattle.job_records.specs.Jobs.{read_job}
 use Rattle.registers.specs.Registers.{ran, commanded, written, with_run, job_in}
@@ -21,8 +20,8 @@ use Rattle.bus_runs.specs.Lent.{shown_of, TableRun, BoundsRun, RunCertified}
 use Rattle.bus_registers.specs.Written.{is_run, AnswerCertified, TableWritten, BoundsWritten, WriteCertified}
 
 pub flag_small : (c : Check) → if_passed c 1 2 ≤ 2
-flag_small Pass = omega arith
-flag_small (Refuse why) = omega arith
+flag_small (Ok _) = omega arith
+flag_small (Err why) = omega arith
 
 -- bytes 8 to 47 of registers whose record was replaced
 replaced : (s x : List ℕ) (m n : ℕ) → 8 ≤ length s → length x ≡ 40

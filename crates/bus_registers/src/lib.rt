@@ -9,7 +9,7 @@ ghost use Rattle.bus_runs.specs.Lent.{TableRun, BoundsRun};
 ghost use Rattle.bus_registers.specs.Written.{AnswerCertified, TableWritten, BoundsWritten, WriteCertified};
 
 use bus_runs::Shown;
-use codes::Check;
+use codes::Refusal;
 
 #[derive(Clone, Copy)]
 pub struct Registers {
@@ -63,26 +63,26 @@ fn stored(r: Registers, at: usize, value: u8) -> Registers
 }
 
 // Done or refused.
-fn flag(check: Check) -> u8
+fn flag(check: Result<(), Refusal>) -> u8
     ensures { result ≡ if_passed check 1 2 }
 {
     match check {
-        Check::Pass => 1,
-        Check::Refuse(_) => 2,
+        Ok(()) => 1,
+        Err(_) => 2,
     }
 }
 
-fn refusal_number(check: Check) -> u8
+fn refusal_number(check: Result<(), Refusal>) -> u8
     ensures { result ≡ refusal_number check }
 {
     match check {
-        Check::Pass => 0,
-        Check::Refuse(why) => codes::number(why),
+        Ok(()) => 0,
+        Err(why) => u8::from(why),
     }
 }
 
 // Byte 1 after a run.
-fn flags_after(check: Check, before: u8, enable: u8) -> u8
+fn flags_after(check: Result<(), Refusal>, before: u8, enable: u8) -> u8
     ensures { result ≡ flags_after check before enable }
 {
     let flag = flag(check);

@@ -9,10 +9,9 @@ use lib.Dec.{leb, eqb}
 use lib.IntN.{ℤ}
 use lib.ListN.{length, take, drop}
 use lib.Seq.{take-length, drop-length}
-use Rattle.codes.specs.Codes.{in_order}
+use Rattle.std.specs.Prelude.{Ok, Err}
+use Rattle.codes.specs.Codes.{Check, pass, in_order}
 use Rattle.codes.proofs.Checks.{refused_not_passed}
-use Rattle.codes.specs.declared.Check.{Check}
-use Rattle.codes.specs.declared.Check.TheVariants.{Pass, Refuse}
 use Rattle.codes.specs.declared.Refusal.{Refusal}
 use Rattle.jobs.specs.declared.Job.{Job}
 use Rattle.search_checks.specs.Checks.{check_job, check_search}
@@ -59,11 +58,11 @@ module _ (store : List ℕ) (job : Job) (table part : List ℤ) (bounds entries 
 
   -- none of it
   none_lent :
-      (why : Refusal) → check_search store job 0 (length bounds) ≡ Refuse why → check_of store job table bounds ≡ Refuse why → Said [] →
+      (why : Refusal) → check_search store job 0 (length bounds) ≡ Err why → check_of store job table bounds ≡ Err why → Said [] →
       Ran (part ++ table)
   unfolding search_answer
   none_lent why is refuses q =
-      let never : check_of store job table bounds ≡ Pass → ⊥ = λ h. refused_not_passed why (sym refuses ∙ h) in
+      let never : check_of store job table bounds ≡ pass → ⊥ = λ h. refused_not_passed why (sym refuses ∙ h) in
       let empty : part ≡ [] = q.1.0.untouched why is in
       record {
         told = q.0 ∙ rw (is, refuses);
@@ -84,8 +83,8 @@ module _ (store : List ℕ) (job : Job) (table part : List ℤ) (bounds entries 
   other_rows other q = go (check_job store job) refl
     where
       go : (first : Check) → check_job store job ≡ first → Ran (part ++ table)
-      go Pass is = none_lent Refusal.Table (rw is) (rw (is, other, and-false (leb 16 (length table)))) q
-      go (Refuse why) is = none_lent why (rw is) (rw is) q
+      go (Ok _) is = none_lent Refusal.Table (rw is) (rw (is, other, and-false (leb 16 (length table)))) q
+      go (Err why) is = none_lent why (rw is) (rw is) q
 
   by_rows : (b : Bool) → eqb (length table / 16) job.rows ≡ b → Said (take (numbers_for job.rows (length table)) table)
       → Ran (part ++ drop (numbers_for job.rows (length table)) table)

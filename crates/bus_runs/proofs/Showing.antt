@@ -10,9 +10,9 @@ use lib.IntN.{ℤ, pos}
 use lib.ListN.{length, get_or, replicate}
 use mir.Syntax.{w16}
 use mir.Val.{SFits}
+use Rattle.codes.specs.Codes.{Check, pass}
+use Rattle.std.specs.Prelude.{Ok, Err}
 use Rattle.integers.specs.Lists.{over, none, also}
-use Rattle.codes.specs.declared.Check.{Check}
-use Rattle.codes.specs.declared.Check.TheVariants.{Pass, Refuse}
 use Rattle.codes.specs.declared.Refusal.{Refusal}
 use Rattle.fields.specs.Fields.{IsVector}
 use Rattle.jobs.specs.declared.Job.{Job}
@@ -61,7 +61,7 @@ read_fits bytes small = go (leb 72 (length bytes)) refl
     go false is = rw is zero_fits
 
 -- solved, spent and full are done
-done_check : (k : Search.Kind) → check_for (kind_of k) ≡ Pass
+done_check : (k : Search.Kind) → check_for (kind_of k) ≡ pass
 done_check solved = refl
 done_check spent = refl
 done_check full = refl
@@ -71,7 +71,7 @@ shown_refused : (m : Model) (why : Refusal) → shown_for m (refused why) ≡ re
 unfolding shown_for check_answer record_of
 shown_refused m why = rw (write_refused (record_of m (refused why)) (replicate 40 0) Refusal.Answer (by_nine m why))
   where
-    by_nine : (m : Model) (why : Refusal) → check_answer (record_of m (refused why)) ≡ Refuse Refusal.Answer
+    by_nine : (m : Model) (why : Refusal) → check_answer (record_of m (refused why)) ≡ Err Refusal.Answer
     by_nine m why = refl
 
 -- what a run says
@@ -81,15 +81,15 @@ Ran store job table bounds u e r =
     × (TableRun store job table bounds u × (BoundsRun store job table bounds e × RunCertified store job table bounds r.answer))
 
 module _ (store : List ℕ) (job : Job) (table : List ℤ) (bounds : List ℕ) (is : IsJob job) where
-  module _ (ok : check_of store job table bounds ≡ Pass) where
-    lent_passed : check_lent store job table bounds ≡ Pass
+  module _ (ok : check_of store job table bounds ≡ pass) where
+    lent_passed : check_lent store job table bounds ≡ pass
     lent_passed = search_passed store job (length table) (length bounds) ok
 
     same_record : search_record store job table bounds ≡ record_of job.model (told (run_search store job))
     unfolding search_answer
     same_record = rw (lent_passed, rows_equal store job (length table) (length bounds) ok)
 
-    passes_9 : check_answer (record_of job.model (told (run_search store job))) ≡ Pass
+    passes_9 : check_answer (record_of job.model (told (run_search store job))) ≡ pass
     passes_9 = ap check_answer (sym same_record) ∙ (record_fits store job table bounds).accepted lent_passed is
 
     long : length (found_bytes store job) ≡ 40
@@ -106,8 +106,8 @@ module _ (store : List ℕ) (job : Job) (table : List ℤ) (bounds : List ℕ) (
   Shows c a = (check_for a.kind ≡ c) × (shown_for job.model a ≡ record_shown c (found_bytes store job))
 
   shows : (c : Check) → check_of store job table bounds ≡ c → Shows c (answer_unless_refused c (run_search store job))
-  shows Pass e = (done_check (run_search store job).kind, shown_done e)
-  shows (Refuse why) e = (refl, shown_refused job.model why)
+  shows (Ok _) e = (done_check (run_search store job).kind, shown_done e)
+  shows (Err why) e = (refl, shown_refused job.model why)
 
   module _ (a : Answer) (u : List ℤ) (e : List ℕ) (found : RunSearched store job table bounds a u e) where
     shown : Shows (check_of store job table bounds) a

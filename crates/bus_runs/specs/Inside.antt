@@ -1,7 +1,6 @@
 -- What the functions behind a run say to each other.
-use Rattle.std.specs.Prelude.{cond, List, ◌≡◌, ℕ, ◌/◌, eqb, ℤ, replicate}
-use Rattle.codes.specs.declared.Check.{Check}
-use Rattle.codes.specs.declared.Check.TheVariants.{Pass, Refuse}
+use Rattle.codes.specs.Codes.{Check, pass}
+use Rattle.std.specs.Prelude.{cond, List, ◌≡◌, ℕ, ◌/◌, eqb, ℤ, replicate, Err}
 use Rattle.jobs.specs.declared.Job.{Job}
 use Rattle.jobs.specs.declared.Model.{Model}
 use Rattle.fields.specs.Buffers.{written}
@@ -28,10 +27,10 @@ pub record RunSearched
 
 -- an answer's check: solved, spent and full are done
 abbrev pub check_for : Kind → Check
-check_for Solved = Pass
-check_for Spent = Pass
-check_for Full = Pass
-check_for (Refused why) = Refuse why
+check_for Solved = pass
+check_for Spent = pass
+check_for Full = pass
+check_for (Refused why) = Err why
 
 -- the record of an answer, in 40 bytes that were zeros: check 9 refuses that of a refusal, so that the zeros stay
 unfoldable pub shown_for : Model → Answer → List ℕ

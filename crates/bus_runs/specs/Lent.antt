@@ -1,7 +1,6 @@
 -- What a run comes to, and what it leaves in what it is lent.
+use Rattle.codes.specs.Codes.{Check, pass}
 use Rattle.std.specs.Prelude.{List, ◌≡◌, ℕ, ℤ, length}
-use Rattle.codes.specs.declared.Check.{Check}
-use Rattle.codes.specs.declared.Check.TheVariants.{Pass}
 use Rattle.jobs.specs.declared.Job.{Job}
 use Rattle.points.specs.Points.{points_of}
 use Rattle.residuals.specs.Cost.{bound}
@@ -28,4 +27,4 @@ module _ (store : List ℕ) (job : Job) (table : List ℤ) (bounds : List ℕ) w
 
   -- "a done answer carries the full certificate": it is the record of what the search comes to, and of that demand 3 holds
   abbrev pub RunCertified : List ℕ → Type 0
-  RunCertified shown = check_of ≡ Pass → (shown ≡ found_bytes store job) × CertifiedIn store job job.rows
+  RunCertified shown = check_of ≡ pass → (shown ≡ found_bytes store job) × CertifiedIn store job job.rows

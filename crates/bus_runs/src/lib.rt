@@ -6,14 +6,14 @@ ghost use Rattle.job_records.specs.Jobs.{read_job};
 ghost use Rattle.bus_runs.specs.Lent.{shown_of, TableRun, BoundsRun, RunCertified};
 ghost use Rattle.bus_runs.specs.Inside.{numbers_for, RunSearched, check_for, shown_for};
 
-use codes::Check;
+use codes::Refusal;
 use jobs::{Job, Model};
 use search::{Answer, Kind};
 
 // What the registers show of a run: its check, and its answer record, zeros after a refusal.
 #[derive(Clone, Copy)]
 pub struct Shown {
-    pub check: Check,
+    pub check: Result<(), Refusal>,
     pub answer: [u8; 40],
 }
 
@@ -37,14 +37,14 @@ fn search_rows(store: &[u8], job: Job, table: &mut [i16], bounds: &mut [u64]) ->
     search::search(store, job, &mut table[..n], bounds)
 }
 
-fn check_for(kind: Kind) -> Check
+fn check_for(kind: Kind) -> Result<(), Refusal>
     ensures { result ≡ check_for kind }
 {
     match kind {
-        Kind::Solved => Check::Pass,
-        Kind::Spent => Check::Pass,
-        Kind::Full => Check::Pass,
-        Kind::Refused(why) => Check::Refuse(why),
+        Kind::Solved => Ok(()),
+        Kind::Spent => Ok(()),
+        Kind::Full => Ok(()),
+        Kind::Refused(why) => Err(why),
     }
 }
 
@@ -53,7 +53,7 @@ fn shown_for(m: Model, answer: Answer) -> [u8; 40]
     ensures { result ≡ shown_for m answer }
 {
     let mut out = [0u8; 40];
-    answer_records::write_answer(answers::record_of(m, answer), &mut out);
+    let _ = answer_records::write_answer(answers::record_of(m, answer), &mut out);
     out
 }
 

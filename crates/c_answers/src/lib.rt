@@ -10,7 +10,6 @@ ghost use Rattle.c_answers.specs.Calls.{write_answer_call, answer_record_after};
 use answer_records::AnswerRecord;
 use c_boundary::{WRONG_LENGTH, check_code, refusal_code};
 use c_buffers::{fill_coordinates, fill_numbers, vector_of};
-use codes::Check;
 
 fn lengths_right(vector: usize, numbers: usize) -> bool
     ensures { result ≡ answer_lengths vector numbers }
@@ -51,11 +50,11 @@ pub fn read_answer(bytes: &[u8], vector: &mut [i16], numbers: &mut [u64]) -> u32
     let check = read.check;
     let answer = read.answer;
     match check {
-        Check::Pass => {
+        Ok(()) => {
             lay_answer(answer, vector, numbers);
             0
         }
-        Check::Refuse(r) => refusal_code(r),
+        Err(r) => refusal_code(r),
     }
 }
 

@@ -8,11 +8,10 @@ use borrow.Author.Tests.{lt-ltb}
 use lib.Dec.{eqb, eqb→eq}
 use lib.IntN.{ℤ}
 use lib.ListN.{length, get_or}
+use Rattle.std.specs.Prelude.{Ok, Err}
 use Rattle.integers.proofs.Tests.{and_parts}
-use Rattle.codes.specs.declared.Check.{Check}
-use Rattle.codes.specs.declared.Check.TheVariants.{Pass, Refuse}
 use Rattle.codes.specs.declared.Refusal.{Refusal}
-use Rattle.codes.specs.Codes.{unless_refused}
+use Rattle.codes.specs.Codes.{Check, pass, unless_refused}
 use Rattle.certificate.specs.Search as Search
 use Rattle.search.specs.Search.{answer_unless_refused}
 use Rattle.boards.specs.declared.BoardAnswers.{BoardAnswers}
@@ -50,7 +49,7 @@ module _ (count : ℕ) (b : BoardAnswers) (codes budgets : List ℕ) (vectors : 
 
   pub handed_pass :
       (c' b' : List ℕ) (v' : List ℤ) (n' : List ℕ) →
-      b.check ≡ Pass →
+      b.check ≡ pass →
       length budgets ≡ length b.budgets →
       b' ≡ filled budgets b.budgets →
       (c' ≡ codes_of count b.answers) × ((v' ≡ vectors_of count b.answers) × (n' ≡ numbers_of count b.answers)) →
@@ -58,18 +57,18 @@ module _ (count : ℕ) (b : BoardAnswers) (codes budgets : List ℕ) (vectors : 
   handed_pass c' b' v' n' ok same given told =
       rw ok (refl, (told.0, (given ∙ filled_whole budgets b.budgets same, (told.1.0, told.1.1))))
 
-  pub handed_refused : (k : ℕ) (why : Refusal) → b.check ≡ Refuse why → k ≡ code_of (check_call true (Refuse why))
+  pub handed_refused : (k : ℕ) (why : Refusal) → b.check ≡ Err why → k ≡ code_of (check_call true (Err why))
       → HandedOver k codes budgets vectors numbers
   handed_refused k why no_call e = rw no_call (e, (refl, (refl, (refl, refl))))
 
 -- the code 0
-passed_at_0 : (check : Check) → code_of (check_call true check) ≡ 0 → check ≡ Pass
-passed_at_0 Pass e = refl
-passed_at_0 (Refuse why) e = absurd (refusal_not_0 why e)
+passed_at_0 : (check : Check) → code_of (check_call true check) ≡ 0 → check ≡ pass
+passed_at_0 (Ok _) e = refl
+passed_at_0 (Err why) e = absurd (refusal_not_0 why e)
 
-accepted_at_0 : (check : Check) (r : Search.Answer) → answer_code (answer_unless_refused check r) ≡ 0 → check ≡ Pass
-accepted_at_0 Pass r e = refl
-accepted_at_0 (Refuse why) r e = absurd (refusal_not_0 why e)
+accepted_at_0 : (check : Check) (r : Search.Answer) → answer_code (answer_unless_refused check r) ≡ 0 → check ≡ pass
+accepted_at_0 (Ok _) r e = refl
+accepted_at_0 (Err why) r e = absurd (refusal_not_0 why e)
 
 module _
     (count total : ℕ) (jobs stores lengths : List ℕ) (table : List ℤ) (bounds codes budgets : List ℕ) (vectors : List ℤ) (numbers : List ℕ)
@@ -77,12 +76,12 @@ module _
     abbrev b : BoardAnswers
     b = boards_answer count total jobs stores lengths table bounds
 
-    call_passed : code_of (check_call true b.check) ≡ 0 → check_jobs count (length jobs) (length lengths) ≡ Pass
+    call_passed : code_of (check_call true b.check) ≡ 0 → check_jobs count (length jobs) (length lengths) ≡ pass
     unfolding boards_answer
     call_passed e = passed_at_0 (check_jobs count (length jobs) (length lengths)) e
 
-    slot_accepted : check_jobs count (length jobs) (length lengths) ≡ Pass → (i : ℕ) → i < count
-        → get_or (codes_of count b.answers) i 0 ≡ 0 → check_at count total jobs stores lengths table bounds i ≡ Pass
+    slot_accepted : check_jobs count (length jobs) (length lengths) ≡ pass → (i : ℕ) → i < count
+        → get_or (codes_of count b.answers) i 0 ≡ 0 → check_at count total jobs stores lengths table bounds i ≡ pass
     slot_accepted ok i below e =
         let few = (counted count (length jobs) (length lengths) ok).few in
         let read : get_or (codes_of count b.answers) i 0 ≡ slot_code count b.answers i =

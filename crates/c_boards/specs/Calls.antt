@@ -1,6 +1,6 @@
 -- One split budget for several boards, through the C interface.
+use Rattle.codes.specs.Codes.{pass}
 use Rattle.std.specs.Prelude.{◌≡◌, Bool, true, false, ◌&&◌, cond, List, [], ◌∷◌, ◌++◌, ℕ, zero, suc, ◌<◌, eqb, ltb, ℤ, length, get_or}
-use Rattle.codes.specs.declared.Check.TheVariants.{Pass}
 use Rattle.codes.specs.declared.Refusal.{Refusal}
 use Rattle.search.specs.declared.Answer.{Answer}
 use Rattle.search.specs.Search.{kind_number, refused}
@@ -89,5 +89,5 @@ module _
           (i : ℕ) →
           i < count →
           get_or new_codes i 0 ≡ 0 →
-          (check_at count total jobs stores lengths table bounds i ≡ Pass)
+          (check_at count total jobs stores lengths table bounds i ≡ pass)
           × BoardCertified count total jobs stores lengths table bounds found i

@@ -13,7 +13,6 @@ ghost use Rattle.c_boards.specs.Calls.{TableAfterCall, BoundsAfterCall, Certifie
 use boards::BoardAnswers;
 use c_boundary::{WRONG_LENGTH, refusal_code};
 use c_buffers::{fill_coordinates, fill_numbers, fill_patterns};
-use codes::Check;
 use search::{Answer, Kind};
 
 fn lengths_right(codes: usize, budgets: usize, vectors: usize, numbers: usize) -> bool
@@ -114,12 +113,12 @@ fn hand_over(
     let answers = b.answers;
     let given = b.budgets;
     match check {
-        Check::Pass => {
+        Ok(()) => {
             fill_patterns(budgets, &given);
             each_slot(count, answers, codes, vectors, numbers);
             0
         }
-        Check::Refuse(why) => refusal_code(why),
+        Err(why) => refusal_code(why),
     }
 }
 

@@ -6,16 +6,13 @@ use Prim.Native.Nat.{ℕ, suc, ◌+◌, ◌/◌, ◌%◌, ◌≤◌, ◌<◌}
 use native.Mathlib.Omega.{arith}
 use lib.Dec.{leb, eqb, leb→le}
 use lib.ListN.{length, drop}
+use Rattle.std.specs.Prelude.{Ok, Err}
 use Rattle.integers.specs.Integers.{all_zero}
 use Rattle.integers.proofs.Tests.{and_parts}
-use Rattle.codes.specs.declared.Check.{Check}
-use Rattle.codes.specs.declared.Check.TheVariants.{Pass, Refuse}
-use Rattle.codes.specs.declared.Outcome.{Outcome}
-use Rattle.codes.specs.declared.Outcome.TheVariants.{Value, Refused}
 use Rattle.codes.specs.declared.Refusal.{Refusal}
 use Rattle.codes.specs.declared.Refusal.TheVariants.{Length, Shape, Scale, Loss, Box, Start, Stray, Table, Answer, Short, Beacon, OffGrid}
 use Rattle.codes.specs.declared.Refusal.TheVariants.{Rounds, Bounds, Order, Clash, Window, Jobs}
-use Rattle.codes.specs.Codes.{number_of, within}
+use Rattle.codes.specs.Codes.{Check, Outcome, pass, number_of, within}
 use Rattle.codes.proofs.Checks.{passed}
 use Rattle.points.specs.declared.Point.{Point}
 use Rattle.points.specs.Points.{xs, points_of, check_store, stray_from, check_stray}
@@ -45,32 +42,32 @@ numbered Window = (omega arith, omega arith)
 numbered Jobs = (omega arith, omega arith)
 
 -- no refusal has the code 0
-pub refusal_not_0 : (r : Refusal) → code_of (answered (Refused r)) ≡ 0 → ⊥
+pub refusal_not_0 : (r : Refusal) → code_of (answered (Err r)) ≡ 0 → ⊥
 refusal_not_0 r e = let n = numbered r in omega arith
 
 outcome_apart : (o : Outcome) → code_of (answered o) ≡ 255 → ⊥
-outcome_apart (Value v) e = omega arith
-outcome_apart (Refused r) e = let n = numbered r in omega arith
+outcome_apart (Ok v) e = omega arith
+outcome_apart (Err r) e = let n = numbered r in omega arith
 
 -- at 0 lent memory holds what the call gives
 pub given_at_0 : {A : Type 0} (o : Outcome) (given held : A) → code_of (answered o) ≡ 0 → if_accepted (answered o) given held ≡ given
-given_at_0 (Value v) given held e = refl
-given_at_0 (Refused r) given held e = absurd (refusal_not_0 r e)
+given_at_0 (Ok v) given held e = refl
+given_at_0 (Err r) given held e = absurd (refusal_not_0 r e)
 
 -- a stray record is one of those looked at
 module _ (d k : ℕ) where
-  first_or_later : (i n : ℕ) (clear : Bool) (later : Check) → (later ≡ Refuse (Stray k) → k < suc i + n)
-      → cond clear later (Refuse (Stray i)) ≡ Refuse (Stray k) → k < i + suc n
+  first_or_later : (i n : ℕ) (clear : Bool) (later : Check) → (later ≡ Err (Stray k) → k < suc i + n)
+      → cond clear later (Err (Stray i)) ≡ Err (Stray k) → k < i + suc n
   first_or_later i n true later inside e = let h = inside e in omega arith
   first_or_later i n false later inside e = let same : i ≡ k = cc in omega arith
 
-  stray_inside : (i : ℕ) (qs : List Point) → stray_from d i qs ≡ Refuse (Stray k) → k < i + length qs
+  stray_inside : (i : ℕ) (qs : List Point) → stray_from d i qs ≡ Err (Stray k) → k < i + length qs
   unfolding stray_from
   stray_inside i [] e = let z : ◌≡◌ {A = ℕ} 0 1 = cc in absurd (omega arith)
   stray_inside i (q ∷ qs) e = first_or_later i (length qs) (all_zero (drop d (xs q))) (stray_from d (suc i) qs) (stray_inside (suc i) qs) e
 
 -- "A store is 1 to 4,096 records"
-few_records : (bytes : ℕ) → check_store bytes ≡ Pass → bytes / 12 ≤ 4096
+few_records : (bytes : ℕ) → check_store bytes ≡ pass → bytes / 12 ≤ 4096
 unfolding check_store
 few_records bytes e =
     let long = within 1 bytes 49152 in
@@ -79,7 +76,7 @@ few_records bytes e =
     let most = leb→le bytes 49152 (and_parts (leb 1 bytes) (leb bytes 49152) tests.0).1 in
     omega arith
 
-stray_few : (store : List ℕ) (d k : ℕ) → check_store (length store) ≡ Pass → check_stray d (points_of store) ≡ Refuse (Stray k) → k < 4096
+stray_few : (store : List ℕ) (d k : ℕ) → check_store (length store) ≡ pass → check_stray d (points_of store) ≡ Err (Stray k) → k < 4096
 unfolding check_stray points_of
 stray_few store d k accepted stray =
     let inside = stray_inside d k 0 _ stray in

@@ -1,13 +1,10 @@
 -- What every call of the C interface has in common: a model and a job from numbers and buffers, the code that is returned, and lent memory
 -- afterwards.
-use Rattle.std.specs.Prelude.{Bool, true, false, List, ℕ, ◌+◌, ◌*◌, ◌%◌, ℤ}
-use Rattle.codes.specs.declared.Check.{Check}
-use Rattle.codes.specs.declared.Outcome.{Outcome}
-use Rattle.codes.specs.declared.Outcome.TheVariants.{Value, Refused}
+use Rattle.std.specs.Prelude.{Bool, true, false, List, ℕ, ◌+◌, ◌*◌, ◌%◌, ℤ, Ok, Err}
 use Rattle.codes.specs.declared.Refusal.{Refusal}
 use Rattle.codes.specs.declared.Refusal.TheVariants.{Length, Shape, Scale, Loss, Box, Start, Stray, Table, Answer, Short, Beacon, OffGrid}
 use Rattle.codes.specs.declared.Refusal.TheVariants.{Rounds, Bounds, Order, Clash, Window, Jobs}
-use Rattle.codes.specs.Codes.{number_of, unless_refused}
+use Rattle.codes.specs.Codes.{Check, Outcome, number_of, unless_refused}
 use Rattle.jobs.specs.declared.Job.{Job}
 use Rattle.jobs.specs.declared.Model.{Model}
 use Rattle.list_rows.specs.Rows.{row_at}
@@ -61,17 +58,17 @@ stray_record Jobs = 0
 -- number of a store fits (`Told` in Laws); or 255, which the paper's table does not have.
 abbrev pub code_of : Call → ℕ
 code_of wrong_length = 255
-code_of (answered (Value v)) = 0
-code_of (answered (Refused r)) = number_of r + 256 * (stray_record r % 16777216)
+code_of (answered (Ok v)) = 0
+code_of (answered (Err r)) = number_of r + 256 * (stray_record r % 16777216)
 
 -- What lent memory holds after a call: what the call gives, if it is accepted, and else what it held.
 abbrev pub if_accepted : {A : Type 0} → Call → A → A → A
 if_accepted wrong_length given held = held
-if_accepted (answered (Value v)) given held = given
-if_accepted (answered (Refused r)) given held = held
+if_accepted (answered (Ok v)) given held = given
+if_accepted (answered (Err r)) given held = held
 
 -- What the lent number holds after a call: the value, or what it held.
 abbrev pub value_after : Call → ℕ → ℕ
 value_after wrong_length held = held
-value_after (answered (Value v)) held = v
-value_after (answered (Refused r)) held = held
+value_after (answered (Ok v)) held = v
+value_after (answered (Err r)) held = held

@@ -1,11 +1,10 @@
 // What the calls for C have in common: a model and a job out of numbers and buffers, and an outcome as a code and a lent number.
 #![tactic(auto)]
 
-ghost use Rattle.std.specs.Prelude.{◌≡◌, true};
-ghost use Rattle.codes.specs.declared.Outcome.TheVariants.{Refused};
+ghost use Rattle.std.specs.Prelude.{◌≡◌, true, Err};
 ghost use Rattle.c_boundary.specs.Boundary.{model_of, job_from, answered, check_call, stray_record, code_of, value_after};
 
-use codes::{Check, Outcome, Refusal};
+use codes::Refusal;
 use jobs::{Job, Model};
 
 // A buffer of the wrong length: no number of the paper.
@@ -25,30 +24,30 @@ fn stray_record(r: Refusal) -> usize
 pub fn refusal_code(r: Refusal) -> u32
     ensures { result ≡ code_of (answered (Refused r)) }
 {
-    codes::number(r) as u32 + 256 * ((stray_record(r) % 16_777_216) as u32)
+    u8::from(r) as u32 + 256 * ((stray_record(r) % 16_777_216) as u32)
 }
 
 // The code of a call that answers no number.
-pub fn check_code(c: Check) -> u32
+pub fn check_code(c: Result<(), Refusal>) -> u32
     ensures { result ≡ code_of (check_call true c) }
 {
     match c {
-        Check::Pass => 0,
-        Check::Refuse(r) => refusal_code(r),
+        Ok(()) => 0,
+        Err(r) => refusal_code(r),
     }
 }
 
 // An outcome as this interface hands it over: the value goes into the lent number, which a refusal keeps.
-pub fn settle(o: Outcome, value: &mut u64) -> u32
+pub fn settle(o: Result<u64, Refusal>, value: &mut u64) -> u32
     ensures code { result ≡ code_of (answered o) }
     ensures value { value.new ≡ value_after (answered o) value.old }
 {
     match o {
-        Outcome::Value(v) => {
+        Ok(v) => {
             *value = v;
             0
         }
-        Outcome::Refused(r) => refusal_code(r),
+        Err(r) => refusal_code(r),
     }
 }
 

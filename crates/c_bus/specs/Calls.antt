@@ -1,6 +1,5 @@
 -- The registers through the C interface, in a buffer of 136 bytes. A refused run is told by the registers, not by the code.
-use Rattle.std.specs.Prelude.{Bool, true, false, List, ◌≡◌, ℕ, eqb, ℤ, length}
-use Rattle.codes.specs.declared.Outcome.TheVariants.{Value}
+use Rattle.std.specs.Prelude.{Bool, true, false, List, ◌≡◌, ℕ, eqb, ℤ, length, Ok}
 use Rattle.c_boundary.specs.Boundary.{Call, if_lengths, if_accepted}
 use Rattle.registers.specs.Registers.{read_at, written}
 use Rattle.bus_registers.specs.Written.{TableWritten, BoundsWritten, WriteCertified}
@@ -10,11 +9,11 @@ registers_right registers = eqb (length registers) 136
 
 -- a call that answers no number
 abbrev pub registers_call : List ℕ → Call
-registers_call registers = if_lengths (registers_right registers) (Value 0)
+registers_call registers = if_lengths (registers_right registers) (Ok 0)
 
 -- a read answers the byte at the offset
 abbrev pub read_call : List ℕ → ℕ → Call
-read_call registers offset = if_lengths (registers_right registers) (Value (read_at registers offset))
+read_call registers offset = if_lengths (registers_right registers) (Ok (read_at registers offset))
 
 -- a write, and what is lent afterwards: as it was where the length is wrong
 module _ (registers : List ℕ) (offset value : ℕ) (store : List ℕ) (table : List ℤ) (bounds : List ℕ) where

@@ -10,7 +10,6 @@ ghost use Rattle.c_jobs.specs.Calls.{region_lengths, write_job_call, job_record_
 
 use c_boundary::{WRONG_LENGTH, check_code, job_of, model_of, refusal_code};
 use c_buffers::{fill_coordinates, fill_numbers};
-use codes::Check;
 use jobs::Job;
 
 fn job_lengths_right(numbers: usize, corners: usize, start: usize) -> bool
@@ -68,11 +67,11 @@ pub fn read_job(bytes: &[u8], numbers: &mut [u64], corners: &mut [i16], start: &
     let check = read.check;
     let job = read.job;
     match check {
-        Check::Pass => {
+        Ok(()) => {
             lay_job(job, numbers, corners, start);
             0
         }
-        Check::Refuse(r) => refusal_code(r),
+        Err(r) => refusal_code(r),
     }
 }
 

@@ -7,7 +7,6 @@ ghost use Rattle.c_lines.specs.Calls.{line_lengths, write_line_call, patterns_af
 
 use c_boundary::{WRONG_LENGTH, refusal_code};
 use c_buffers::{coordinates_of, fill_coordinates, fill_patterns, patterns_of};
-use codes::Check;
 
 fn lengths_right(coordinates: usize, patterns: usize) -> bool
     ensures { result ≡ line_lengths coordinates patterns }
@@ -27,12 +26,12 @@ pub fn write_line(d: u8, scale: u8, coordinates: &[i16], patterns: &mut [u32]) -
     let check = line.check;
     let four = line.line;
     match check {
-        Check::Pass => {
+        Ok(()) => {
             let bits = coefficients::patterns(four);
             fill_patterns(patterns, &bits);
             0
         }
-        Check::Refuse(r) => refusal_code(r),
+        Err(r) => refusal_code(r),
     }
 }
 
@@ -48,10 +47,10 @@ pub fn read_line(d: u8, scale: u8, patterns: &[u32], coordinates: &mut [i16]) ->
     let check = line.check;
     let w = line.w;
     match check {
-        Check::Pass => {
+        Ok(()) => {
             fill_coordinates(coordinates, &w);
             0
         }
-        Check::Refuse(r) => refusal_code(r),
+        Err(r) => refusal_code(r),
     }
 }

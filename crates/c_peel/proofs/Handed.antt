@@ -3,9 +3,8 @@ use mathlib.Core.Path.{◌≡◌, refl, sym, ap, ◌∙◌}
 use mathlib.Core.List.{List}
 use Prim.Native.Nat.{ℕ}
 use lib.IntN.{ℤ}
-use Rattle.codes.specs.declared.Check.{Check}
-use Rattle.codes.specs.declared.Check.TheVariants.{Pass, Refuse}
-use Rattle.codes.specs.Codes.{unless_refused}
+use Rattle.std.specs.Prelude.{Ok, Err}
+use Rattle.codes.specs.Codes.{Check, pass, unless_refused}
 use Rattle.jobs.specs.declared.Job.{Job}
 use Rattle.jobs.specs.declared.Model.{Model}
 use Rattle.peel.specs.declared.Peeled.{Peeled}
@@ -14,14 +13,14 @@ use Rattle.c_boundary.specs.Boundary.{answered, code_of, value_after, if_accepte
 use Rattle.c_boundary.proofs.Codes.{refusal_not_0, given_at_0}
 use Rattle.c_peel.specs.Calls.{outcome_of, vectors_of, numbers_of, PeelingCall}
 
-passed_at_0 : (check : Check) (value : ℕ) → code_of (answered (unless_refused check value)) ≡ 0 → check ≡ Pass
-passed_at_0 Pass value e = refl
-passed_at_0 (Refuse why) value e = absurd (refusal_not_0 why e)
+passed_at_0 : (check : Check) (value : ℕ) → code_of (answered (unless_refused check value)) ≡ 0 → check ≡ pass
+passed_at_0 (Ok _) value e = refl
+passed_at_0 (Err why) value e = absurd (refusal_not_0 why e)
 
 value_at_0 : (check : Check) (value held : ℕ) → code_of (answered (unless_refused check value)) ≡ 0 →
     value_after (answered (unless_refused check value)) held ≡ value
-value_at_0 Pass value held e = refl
-value_at_0 (Refuse why) value held e = absurd (refusal_not_0 why e)
+value_at_0 (Ok _) value held e = refl
+value_at_0 (Err why) value held e = absurd (refusal_not_0 why e)
 
 told_check : (store : List ℕ) (job : Job) (limit : ℕ) (table : List ℤ) (bounds labels : List ℕ) →
     (peel_answer store job limit table bounds labels).check ≡ check_lent store job limit table bounds labels
@@ -46,7 +45,7 @@ module _
         new_labels ≡ labels_after store job limit table bounds labels →
         PeelingCall store m t budget corners start limit table bounds labels vectors numbers new_value new_vectors new_numbers new_labels
     peeling_call r held new_value new_vectors new_numbers new_labels found shown at-0 value laid told labelled =
-        let pass : check_lent store job limit table bounds labels ≡ Pass =
+        let pass : check_lent store job limit table bounds labels ≡ pass =
         sym (told_check store job limit table bounds labels) ∙ sym (ap (λ (p : Peeled). p.check) found)
         ∙ passed_at_0 r.check r.rounds at-0 in
         record {

@@ -1,9 +1,7 @@
 -- Peeling through the C interface.
 use Rattle.std.specs.Prelude.{◌≡◌, Bool, true, false, cond, ◌&&◌, ℕ, eqb, ℤ, length}
 use mathlib.Core.List.{List, [], ◌∷◌, map, flatten}
-use Rattle.codes.specs.declared.Check.TheVariants.{Pass}
-use Rattle.codes.specs.declared.Outcome.{Outcome}
-use Rattle.codes.specs.Codes.{unless_refused}
+use Rattle.codes.specs.Codes.{Outcome, pass, unless_refused}
 use Rattle.jobs.specs.declared.Job.{Job}
 use Rattle.jobs.specs.declared.Model.{Model}
 use Rattle.points.specs.Points.{points_of}
@@ -77,7 +75,7 @@ module _
     -- What is handed over with the code 0: the job was accepted, what is lent holds its rounds and labels, and of these all is shown that
     -- rounds/specs/Laws.antt says.
     pub record PeelingCall (new_value : ℕ) (new_vectors : List ℤ) (new_numbers new_labels : List ℕ) : Type 0 where
-      pub accepted : check_lent store job limit table bounds labels ≡ Pass
+      pub accepted : check_lent store job limit table bounds labels ≡ pass
       pub count : new_value ≡ told.rounds
       pub lines : new_vectors ≡ vectors_of told.answers
       pub answers : new_numbers ≡ numbers_of told.answers

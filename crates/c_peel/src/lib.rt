@@ -11,7 +11,6 @@ ghost use Rattle.c_peel.specs.Calls.{TableAfterCall, BoundsAfterCall, PeelingCal
 
 use crate::laying::lay_all;
 use c_boundary::{WRONG_LENGTH, job_of, model_of, refusal_code};
-use codes::Check;
 use peel::Peeled;
 
 fn lengths_right(corners: usize, start: usize, vectors: usize, numbers: usize) -> bool
@@ -32,13 +31,13 @@ fn hand_over(r: Peeled, vectors: &mut [i16], numbers: &mut [u64], value: &mut u6
 {
     let check = r.check;
     match check {
-        Check::Pass => {
+        Ok(()) => {
             let answers = r.answers;
             lay_all(answers, vectors, numbers);
             *value = r.rounds as u64;
             0
         }
-        Check::Refuse(why) => refusal_code(why),
+        Err(why) => refusal_code(why),
     }
 }
 

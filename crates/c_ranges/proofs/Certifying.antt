@@ -3,8 +3,8 @@ use mathlib.Core.Path.{◌≡◌, refl, sym, ap, subst, ◌∙◌}
 use mathlib.Core.List.{List}
 use Prim.Native.Nat.{ℕ}
 use lib.IntN.{ℤ}
-use Rattle.codes.specs.declared.Check.{Check}
-use Rattle.codes.specs.declared.Check.TheVariants.{Pass, Refuse}
+use Rattle.codes.specs.Codes.{Check, pass}
+use Rattle.std.specs.Prelude.{Ok, Err}
 use Rattle.jobs.specs.declared.Job.{Job}
 use Rattle.jobs.specs.declared.Model.{Model}
 use Rattle.ranges.specs.declared.Kind.{Kind}
@@ -25,11 +25,11 @@ kind_at_0 (Refused why) held e = absurd (refusal_not_0 why e)
 -- the check at 0
 module _ (store : List ℕ) (job : Job) (K : ℕ) (table : List ℤ) where
   passed_at_0 : (check : Check) →
-      code_of (answered (outcome_of (answer_unless_refused check job.model (ranges_lent store job K table)).kind)) ≡ 0 → check ≡ Pass
-  passed_at_0 Pass e = refl
-  passed_at_0 (Refuse why) e = absurd (refusal_not_0 why e)
+      code_of (answered (outcome_of (answer_unless_refused check job.model (ranges_lent store job K table)).kind)) ≡ 0 → check ≡ pass
+  passed_at_0 (Ok _) e = refl
+  passed_at_0 (Err why) e = absurd (refusal_not_0 why e)
 
-  accepted_at_0 : code_of (answered (outcome_of (ranges_answer store job K table).kind)) ≡ 0 → check_lent store job K table ≡ Pass
+  accepted_at_0 : code_of (answered (outcome_of (ranges_answer store job K table).kind)) ≡ 0 → check_lent store job K table ≡ pass
   unfolding ranges_answer
   accepted_at_0 e = passed_at_0 (check_lent store job K table) e
 

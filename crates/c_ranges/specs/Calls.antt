@@ -1,10 +1,8 @@
 -- The ranges of all coefficients through the C interface.
-use Rattle.std.specs.Prelude.{◌≡◌, Bool, true, false, ◌&&◌, List, [], ◌∷◌, ℕ, eqb, ℤ, length, get_or}
+use Rattle.codes.specs.Codes.{Outcome, pass}
+use Rattle.std.specs.Prelude.{◌≡◌, Bool, true, false, ◌&&◌, List, [], ◌∷◌, ℕ, eqb, ℤ, length, get_or, Ok, Err}
 use Rattle.std.specs.Float.{binary32}
 use Rattle.std.specs.Float.Ieee.{to_bits}
-use Rattle.codes.specs.declared.Check.TheVariants.{Pass}
-use Rattle.codes.specs.declared.Outcome.{Outcome}
-use Rattle.codes.specs.declared.Outcome.TheVariants.{Value, Refused}
 use Rattle.jobs.specs.declared.Job.{Job}
 use Rattle.jobs.specs.declared.Model.{Model}
 use Rattle.range_hulls.specs.declared.Range.{Range}
@@ -19,10 +17,10 @@ use Rattle.c_boundary.specs.Boundary.{Call, if_lengths, if_accepted, job_from}
 
 -- the kind by its number, or the refusal
 abbrev pub outcome_of : Kind → Outcome
-outcome_of Finished = Value (kind_number Finished)
-outcome_of Spent = Value (kind_number Spent)
-outcome_of Full = Value (kind_number Full)
-outcome_of (kinds.Refused why) = Refused why
+outcome_of Finished = Ok (kind_number Finished)
+outcome_of Spent = Ok (kind_number Spent)
+outcome_of Full = Ok (kind_number Full)
+outcome_of (kinds.Refused why) = Err why
 
 -- "one single-precision value, a low and a high value, or none": 1, 2 and 0
 abbrev pub case_of : Range → ℕ
@@ -102,7 +100,7 @@ module _
 
     -- What is handed over with the code 0 is exact: the job was accepted, and of its answer everything holds that request 13 promises.
     pub record CertifiedCall (new_value : ℕ) (new_patterns new_cases new_numbers : List ℕ) : Type 0 where
-      pub accepted : check_lent store job K table ≡ Pass
+      pub accepted : check_lent store job K table ≡ pass
       pub kind : new_value ≡ kind_number found.kind
       pub bits : new_patterns ≡ patterns_of found.slots
       pub case : new_cases ≡ cases_of found.slots

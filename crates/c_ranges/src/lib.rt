@@ -10,19 +10,19 @@ ghost use Rattle.c_ranges.specs.Calls.{ranges_call, patterns_after, cases_after,
 
 use c_boundary::{WRONG_LENGTH, job_of, model_of, settle};
 use c_buffers::{fill_bytes, fill_numbers, fill_patterns};
-use codes::Outcome;
+use codes::Refusal;
 use coefficients::pattern;
 use range_hulls::{Range, Slot};
 use ranges::{Answer, Kind};
 
-fn outcome_of(k: Kind) -> Outcome
+fn outcome_of(k: Kind) -> Result<u64, Refusal>
     ensures { result ≡ outcome_of k }
 {
     match k {
-        Kind::Finished => Outcome::Value(1),
-        Kind::Spent => Outcome::Value(2),
-        Kind::Full => Outcome::Value(3),
-        Kind::Refused(why) => Outcome::Refused(why),
+        Kind::Finished => Ok(1),
+        Kind::Spent => Ok(2),
+        Kind::Full => Ok(3),
+        Kind::Refused(why) => Err(why),
     }
 }
 
@@ -145,7 +145,7 @@ fn hand_over(
     let slots = a.slots;
     let outcome = outcome_of(kind);
     match outcome {
-        Outcome::Value(_) => {
+        Ok(_) => {
             let bits = patterns_of(slots);
             let which = cases_of(slots);
             let told = [a.count as u64, a.open as u64, a.peak as u64];
@@ -154,7 +154,7 @@ fn hand_over(
             fill_numbers(numbers, &told);
             settle(outcome, value)
         }
-        Outcome::Refused(_) => settle(outcome, value),
+        Err(_) => settle(outcome, value),
     }
 }
 

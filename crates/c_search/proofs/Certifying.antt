@@ -3,8 +3,8 @@ use mathlib.Core.Path.{◌≡◌, refl, sym, ap, subst, ◌∙◌}
 use mathlib.Core.List.{List}
 use Prim.Native.Nat.{ℕ}
 use lib.IntN.{ℤ}
-use Rattle.codes.specs.declared.Check.{Check}
-use Rattle.codes.specs.declared.Check.TheVariants.{Pass, Refuse}
+use Rattle.codes.specs.Codes.{Check, pass}
+use Rattle.std.specs.Prelude.{Ok, Err}
 use Rattle.jobs.specs.declared.Job.{Job}
 use Rattle.jobs.specs.declared.Model.{Model}
 use Rattle.search.specs.declared.Kind.{Kind}
@@ -25,11 +25,11 @@ kind_at_0 (Refused why) held e = absurd (refusal_not_0 why e)
 -- the check of a search at 0
 module _ (store : List ℕ) (job : Job) (table : List ℤ) (bounds : List ℕ) where
   passed_at_0 : (check : Check) →
-      code_of (answered (outcome_of (answer_unless_refused check (searched_lent store job table bounds)).kind)) ≡ 0 → check ≡ Pass
-  passed_at_0 Pass e = refl
-  passed_at_0 (Refuse why) e = absurd (refusal_not_0 why e)
+      code_of (answered (outcome_of (answer_unless_refused check (searched_lent store job table bounds)).kind)) ≡ 0 → check ≡ pass
+  passed_at_0 (Ok _) e = refl
+  passed_at_0 (Err why) e = absurd (refusal_not_0 why e)
 
-  accepted_at_0 : code_of (answered (outcome_of (search_answer store job table bounds).kind)) ≡ 0 → check_lent store job table bounds ≡ Pass
+  accepted_at_0 : code_of (answered (outcome_of (search_answer store job table bounds).kind)) ≡ 0 → check_lent store job table bounds ≡ pass
   unfolding search_answer
   accepted_at_0 e = passed_at_0 (check_lent store job table bounds) e
 

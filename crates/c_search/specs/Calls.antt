@@ -1,8 +1,6 @@
 -- The search through the C interface.
-use Rattle.std.specs.Prelude.{◌≡◌, Bool, true, false, ◌&&◌, List, [], ◌∷◌, ℕ, eqb, ℤ, length}
-use Rattle.codes.specs.declared.Check.TheVariants.{Pass}
-use Rattle.codes.specs.declared.Outcome.{Outcome}
-use Rattle.codes.specs.declared.Outcome.TheVariants.{Value, Refused}
+use Rattle.codes.specs.Codes.{Outcome, pass}
+use Rattle.std.specs.Prelude.{◌≡◌, Bool, true, false, ◌&&◌, List, [], ◌∷◌, ℕ, eqb, ℤ, length, Ok, Err}
 use Rattle.jobs.specs.declared.Job.{Job}
 use Rattle.jobs.specs.declared.Model.{Model}
 use Rattle.search.specs.declared.Kind.{Kind}
@@ -14,10 +12,10 @@ use Rattle.c_boundary.specs.Boundary.{Call, if_lengths, if_accepted, job_from}
 
 -- the kind by its number, or the refusal
 abbrev pub outcome_of : Kind → Outcome
-outcome_of Solved = Value (kind_number Solved)
-outcome_of Spent = Value (kind_number Spent)
-outcome_of Full = Value (kind_number Full)
-outcome_of (kinds.Refused why) = Refused why
+outcome_of Solved = Ok (kind_number Solved)
+outcome_of Spent = Ok (kind_number Spent)
+outcome_of Full = Ok (kind_number Full)
+outcome_of (kinds.Refused why) = Err why
 
 -- "vector, C, L, count, open boxes and peak": the numbers among them
 abbrev pub search_numbers : Answer → List ℕ
@@ -65,7 +63,7 @@ module _
     -- What is handed over with the code 0 is certified: the job was accepted, the lent value, vector and numbers afterwards are those of
     -- its answer, and of that answer demand 3 holds.
     pub record CertifiedCall (new_value : ℕ) (new_vector : List ℤ) (new_numbers : List ℕ) : Type 0 where
-      pub accepted : check_lent store job table bounds ≡ Pass
+      pub accepted : check_lent store job table bounds ≡ pass
       pub kind : new_value ≡ kind_number found.kind
       pub best : new_vector ≡ found.vector
       pub told : new_numbers ≡ search_numbers found

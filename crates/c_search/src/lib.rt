@@ -9,17 +9,17 @@ ghost use Rattle.c_search.specs.Calls.{search_call, vector_after, numbers_after,
 
 use c_boundary::{WRONG_LENGTH, job_of, model_of, settle};
 use c_buffers::{fill_coordinates, fill_numbers};
-use codes::Outcome;
+use codes::Refusal;
 use search::{Answer, Kind};
 
-fn outcome_of(k: Kind) -> Outcome
+fn outcome_of(k: Kind) -> Result<u64, Refusal>
     ensures { result ≡ outcome_of k }
 {
     match k {
-        Kind::Solved => Outcome::Value(1),
-        Kind::Spent => Outcome::Value(2),
-        Kind::Full => Outcome::Value(3),
-        Kind::Refused(why) => Outcome::Refused(why),
+        Kind::Solved => Ok(1),
+        Kind::Spent => Ok(2),
+        Kind::Full => Ok(3),
+        Kind::Refused(why) => Err(why),
     }
 }
 
@@ -43,7 +43,7 @@ fn hand_over(a: Answer, vector: &mut [i16], numbers: &mut [u64], value: &mut u64
     let found = a.vector;
     let outcome = outcome_of(kind);
     match outcome {
-        Outcome::Value(_) => {
+        Ok(_) => {
             let told = [
                 a.cost,
                 a.bound,
@@ -55,7 +55,7 @@ fn hand_over(a: Answer, vector: &mut [i16], numbers: &mut [u64], value: &mut u64
             fill_numbers(numbers, &told);
             settle(outcome, value)
         }
-        Outcome::Refused(_) => settle(outcome, value),
+        Err(_) => settle(outcome, value),
     }
 }
 

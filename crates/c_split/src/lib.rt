@@ -6,7 +6,6 @@ ghost use Rattle.c_boundary.specs.Boundary.{code_of};
 ghost use Rattle.c_split.specs.Calls.{split_lengths, split_call, halves_after};
 
 use c_boundary::{WRONG_LENGTH, refusal_code};
-use codes::Check;
 
 fn lengths_right(corners: usize, halves: usize) -> bool
     ensures { result ≡ split_lengths corners halves }
@@ -25,13 +24,13 @@ pub fn split(n: u8, d: u8, corners: &[i16], halves: &mut [i16]) -> u32
     let cut = boxes::split(n, d, list_rows::read_row(corners, 0));
     let check = cut.check;
     match check {
-        Check::Pass => {
+        Ok(()) => {
             let left = cut.left;
             let right = cut.right;
             list_rows::write_row(halves, 0, left);
             list_rows::write_row(halves, 1, right);
             0
         }
-        Check::Refuse(r) => refusal_code(r),
+        Err(r) => refusal_code(r),
     }
 }

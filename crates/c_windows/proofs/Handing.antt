@@ -6,10 +6,8 @@ use Prim.Native.Nat.{ℕ}
 use native.Mathlib.Omega.{arith}
 use lib.IntN.{ℤ}
 use lib.ListN.{length}
-use Rattle.codes.specs.declared.Check.{Check}
-use Rattle.codes.specs.declared.Check.TheVariants.{Pass, Refuse}
-use Rattle.codes.specs.declared.Outcome.{Outcome}
-use Rattle.codes.specs.Codes.{unless_refused}
+use Rattle.std.specs.Prelude.{Ok, Err}
+use Rattle.codes.specs.Codes.{Check, Outcome, pass, unless_refused}
 use Rattle.jobs.specs.declared.Job.{Job}
 use Rattle.jobs.specs.declared.Model.{Model}
 use Rattle.sharing.specs.Sharing.{SharedTable, SharedBounds}
@@ -20,9 +18,9 @@ use Rattle.c_boundary.specs.Boundary.{answered, code_of, value_after, job_from}
 use Rattle.c_boundary.proofs.Codes.{refusal_not_0}
 use Rattle.c_windows.specs.Calls.{windows_lengths, windows_call, searches_of_call, out_after_call, CertifiedWindows}
 
-passed_at_0 : (check : Check) (count : ℕ) → code_of (answered (unless_refused check count)) ≡ 0 → check ≡ Pass
-passed_at_0 Pass count e = refl
-passed_at_0 (Refuse why) count e = absurd (refusal_not_0 why e)
+passed_at_0 : (check : Check) (count : ℕ) → code_of (answered (unless_refused check count)) ≡ 0 → check ≡ pass
+passed_at_0 (Ok _) count e = refl
+passed_at_0 (Err why) count e = absurd (refusal_not_0 why e)
 
 module _
     (store : List ℕ) (m : Model) (t budget : ℕ) (corners start : List ℤ) (k h : ℕ) (table : List ℤ) (bounds out : List ℕ)
@@ -47,7 +45,7 @@ module _
     module _ (right : windows_lengths (length corners) (length start) ≡ true) (a : Outcome) (u : List ℤ) (e o : List ℕ)
         (p : Promised store job k h table bounds out a u e o) (code held new_value : ℕ) (is_code : code ≡ code_of (answered a))
         (is-value : new_value ≡ value_after (answered a) held) where
-      passes : code ≡ 0 → check_pass store job k h table bounds out ≡ Pass
+      passes : code ≡ 0 → check_pass store job k h table bounds out ≡ pass
       passes at-0 =
           passed_at_0 (check_pass store job k h table bounds out) (count_lent store job k h table bounds out)
           (ap (λ (x : Outcome). code_of (answered x)) (sym p.0) ∙ sym is_code ∙ at-0)

@@ -1,6 +1,6 @@
 -- A pass through the windows of a store, through the C interface: the box and the start vector are looked at before every other check.
+use Rattle.codes.specs.Codes.{pass}
 use Rattle.std.specs.Prelude.{◌≡◌, Bool, ◌&&◌, cond, List, [], ℕ, ◌<◌, eqb, ℤ, length}
-use Rattle.codes.specs.declared.Check.TheVariants.{Pass}
 use Rattle.jobs.specs.declared.Job.{Job}
 use Rattle.jobs.specs.declared.Model.{Model}
 use Rattle.sharing.specs.Sharing.{Run}
@@ -36,6 +36,6 @@ module _
     -- What is handed over with the code 0 is certified: the checks passed, the lent value afterwards is the number of windows, and each
     -- window's record in the output is that of its search alone, of which demand 3 holds.
     pub record CertifiedWindows (new_value : ℕ) (new_out : List ℕ) : Type 0 where
-      pub accepted : check_pass store job k h table bounds out ≡ Pass
+      pub accepted : check_pass store job k h table bounds out ≡ pass
       pub count : new_value ≡ count_lent store job k h table bounds out
       pub certified : (i : ℕ) → i < new_value → WindowCertified store job k h table bounds out new_out i

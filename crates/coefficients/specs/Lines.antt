@@ -1,11 +1,9 @@
 -- "a line is handed over as four single-precision coefficients together": written and read back, each with its checks.
-use Rattle.std.specs.Prelude.{ℕ, Bool, true, ◌&&◌, List, [], ◌∷◌, map, drop, replicate, ℤ, pos, ◌==◌, from_bits, slice_index_or, to_bits}
+use Rattle.std.specs.Prelude.{ℕ, Bool, true, ◌&&◌, List, [], ◌∷◌, map, drop, replicate, ℤ, pos, ◌==◌, from_bits, slice_index_or, to_bits, Ok, Err}
 use Rattle.std.specs.Float.{binary32}
-use Rattle.codes.specs.declared.Check.{Check}
-use Rattle.codes.specs.declared.Check.TheVariants.{Pass, Refuse}
 use Rattle.codes.specs.declared.Refusal.{Refusal}
 use Rattle.codes.specs.declared.Refusal.TheVariants.{Shape, OffGrid}
-use Rattle.codes.specs.Codes.{pass_if, in_order, within}
+use Rattle.codes.specs.Codes.{Check, pass, pass_if, in_order, within}
 use Rattle.scale.specs.Scale.{check_scale}
 use Rattle.boxes.specs.Shape.{check_vector}
 use Rattle.coefficients.specs.Coefficient.{coefficient_of}
@@ -37,12 +35,12 @@ abbrev pub four_zeros : Line
 four_zeros = record { c1 = from_bits binary32 0; c2 = from_bits binary32 0; c3 = from_bits binary32 0; c4 = from_bits binary32 0 }
 
 abbrev pub not_written : Refusal → Written
-not_written r = record { check = Refuse r; line = four_zeros }
+not_written r = record { check = Err r; line = four_zeros }
 
 -- The line if the checks pass.
 abbrev pub written_if : Check → Line → Written
-written_if Pass l = record { check = Pass; line = l }
-written_if (Refuse r) l = not_written r
+written_if (Ok _) l = record { check = pass; line = l }
+written_if (Err r) l = not_written r
 
 -- "Writing takes d, S and one line's four coordinates".
 unfoldable pub written_of : ℕ → ℕ → List ℤ → Written
@@ -68,12 +66,12 @@ reading_checks d S ps = in_order (check_used d ∷ check_scale S ∷ check_grid 
 
 -- Refused: zeros.
 abbrev pub not_read : Refusal → Coordinates
-not_read r = record { check = Refuse r; w = replicate 4 (pos 0) }
+not_read r = record { check = Err r; w = replicate 4 (pos 0) }
 
 -- The coordinates if the checks pass.
 abbrev pub coordinates_if : Check → List ℤ → Coordinates
-coordinates_if Pass w = record { check = Pass; w = w }
-coordinates_if (Refuse r) w = not_read r
+coordinates_if (Ok _) w = record { check = pass; w = w }
+coordinates_if (Err r) w = not_read r
 
 -- "reading takes d, S and four patterns and gives the coordinates".
 unfoldable pub coordinates_of : ℕ → ℕ → List ℕ → Coordinates

@@ -12,7 +12,7 @@ ghost use Rattle.coefficients.specs.Grid.{coordinate_of, on_grid};
 ghost use Rattle.coefficients.specs.Lines.{check_used, line_of, not_written, written_if, written_of};
 ghost use Rattle.coefficients.specs.Lines.{check_grid, not_read, coordinates_if, coordinates_of, patterns_of};
 
-use codes::{Check, Refusal};
+use codes::Refusal;
 
 // The four coefficients of a line, handed over together.
 #[derive(Clone, Copy)]
@@ -26,14 +26,14 @@ pub struct Line {
 // A line written. Refused: four +0.
 #[derive(Clone, Copy)]
 pub struct Written {
-    pub check: Check,
+    pub check: Result<(), Refusal>,
     pub line: Line,
 }
 
 // A line read back. Refused: zeros.
 #[derive(Clone, Copy)]
 pub struct Coordinates {
-    pub check: Check,
+    pub check: Result<(), Refusal>,
     pub w: [i16; 4],
 }
 
@@ -82,13 +82,13 @@ fn coordinate(s: u8, p: u32) -> Reading
 
 // Check 2, on d alone, then check 3.
 #[tactic(auto, using(codes::proofs::Laws::in_order_one), unfolding(crate::specs::Lines::check_used, codes::specs::Codes::in_order))]
-fn check_line(d: u8, s: u8) -> Check
+fn check_line(d: u8, s: u8) -> Result<(), Refusal>
     ensures { result ≡ in_order (check_used d ∷ check_scale s ∷ []) }
 {
     if 1 <= d && d <= 4 {
         scale::check_scale(s)
     } else {
-        Check::Refuse(Refusal::Shape)
+        Err(Refusal::Shape)
     }
 }
 
@@ -103,7 +103,7 @@ fn not_written(r: Refusal) -> Written
     ensures { result ≡ not_written r }
 {
     Written {
-        check: Check::Refuse(r),
+        check: Err(r),
         line: Line {
             c1: 0.0,
             c2: 0.0,
@@ -120,7 +120,7 @@ fn write_checked(d: u8, s: u8, w: [i16; 4]) -> Written
 {
     if rest_zero(d, w) {
         Written {
-            check: Check::Pass,
+            check: Ok(()),
             line: Line {
                 c1: coefficient(s, w[0]),
                 c2: coefficient(s, w[1]),
@@ -137,7 +137,7 @@ fn write_checked(d: u8, s: u8, w: [i16; 4]) -> Written
 pub fn write_line(d: u8, s: u8, w: [i16; 4]) -> Written
     ensures { result ≡ written_of d s w }
 {
-    if let Check::Refuse(r) = check_line(d, s) {
+    if let Err(r) = check_line(d, s) {
         return not_written(r);
     }
     write_checked(d, s, w)
@@ -147,7 +147,7 @@ fn not_read(r: Refusal) -> Coordinates
     ensures { result ≡ not_read r }
 {
     Coordinates {
-        check: Check::Refuse(r),
+        check: Err(r),
         w: [0; 4],
     }
 }
@@ -163,10 +163,7 @@ fn read_checked(d: u8, s: u8, bits: [u32; 4]) -> Coordinates
     let c4 = coordinate(s, bits[3]);
     let w = [c1.w, c2.w, c3.w, c4.w];
     if c1.found & c2.found & c3.found & c4.found & rest_zero(d, w) {
-        Coordinates {
-            check: Check::Pass,
-            w,
-        }
+        Coordinates { check: Ok(()), w }
     } else {
         not_read(Refusal::OffGrid)
     }
@@ -176,7 +173,7 @@ fn read_checked(d: u8, s: u8, bits: [u32; 4]) -> Coordinates
 pub fn read_patterns(d: u8, s: u8, bits: [u32; 4]) -> Coordinates
     ensures { result ≡ coordinates_of d s bits }
 {
-    if let Check::Refuse(r) = check_line(d, s) {
+    if let Err(r) = check_line(d, s) {
         return not_read(r);
     }
     read_checked(d, s, bits)

@@ -7,7 +7,7 @@ use Prim.Native.Nat.{ℕ, ◌%◌, ◌^◌, ◌≤◌, ◌<◌}
 use native.Mathlib.Omega.{arith}
 use lib.ListN.{length, get_or}
 use lib.Ieee.{Float}
-use Rattle.codes.specs.declared.Check.TheVariants.{Pass}
+use Rattle.codes.specs.Codes.{pass}
 use Rattle.integers.proofs.Tests.{le_or_lt}
 use Rattle.jobs.specs.declared.Model.{Model}
 use Rattle.points.specs.Points.{points_of}
@@ -33,7 +33,7 @@ decoded_ready store m r {power} {new = new} p long long-new into =
       chunk = λ t h. subst (λ (n : ℕ). ChunkOf store t m.d n (get_or new t [])) is (into.here t (omega (arith, r.few)));
     }
 
-pub decoded_for : (store : List ℕ) (m : Model) → check_model store m ≡ Pass → {power : ℕ} {old new : List (List (List Float))}
+pub decoded_for : (store : List ℕ) (m : Model) → check_model store m ≡ pass → {power : ℕ} {old new : List (List (List Float))}
     → power ≡ 2 ^ (m.scale % 16) → length old ≡ 54 → length new ≡ 54 → DecodedInto store m.d power old new → DecodedFor store m new
 decoded_for store m e = decoded_ready store m (ready store m e)
 

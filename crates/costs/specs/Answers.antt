@@ -1,7 +1,6 @@
 -- What the calls on a store and a model answer.
 use Rattle.std.specs.Prelude.{List, ℕ, ℤ}
-use Rattle.codes.specs.declared.Outcome.{Outcome}
-use Rattle.codes.specs.Codes.{unless_refused}
+use Rattle.codes.specs.Codes.{Outcome, unless_refused}
 use Rattle.boxes.specs.declared.Box.{Box}
 use Rattle.jobs.specs.declared.Model.{Model}
 use Rattle.points.specs.Points.{points_of}

@@ -10,7 +10,7 @@ ghost use Rattle.costs.specs.Answers.{cost_answer, bound_answer};
 ghost use Rattle.costs.specs.Calls.{cost_up_to, bound_up_to, DecodedFor, cost_in, bound_in};
 
 use boxes::Box;
-use codes::{Check, Outcome};
+use codes::Refusal;
 use eval_lanes::Chunk;
 use jobs::Model;
 use model_checks::{check_bound, check_cost, check_model};
@@ -19,26 +19,26 @@ use model_checks::{check_bound, check_cost, check_model};
 pub const NO_CAP: u64 = 18446744073709551615;
 
 // The cost of a vector.
-pub fn cost(store: &[u8], m: Model, v: [i16; 8]) -> Outcome
+pub fn cost(store: &[u8], m: Model, v: [i16; 8]) -> Result<u64, Refusal>
     ensures { result ≡ cost_answer store.now m v }
 {
     match check_cost(store, m, v) {
-        Check::Pass => Outcome::Value(values::whole(store, m, v, v, false)),
-        Check::Refuse(r) => Outcome::Refused(r),
+        Ok(()) => Ok(values::whole(store, m, v, v, false)),
+        Err(r) => Err(r),
     }
 }
 
 // The bound of a box.
-pub fn bound(store: &[u8], m: Model, b: Box) -> Outcome
+pub fn bound(store: &[u8], m: Model, b: Box) -> Result<u64, Refusal>
     ensures { result ≡ bound_answer store.now m b }
 {
     match check_bound(store, m, b) {
-        Check::Pass => {
+        Ok(()) => {
             let low = b.low;
             let high = b.high;
-            Outcome::Value(values::whole(store, m, low, high, true))
+            Ok(values::whole(store, m, low, high, true))
         }
-        Check::Refuse(r) => Outcome::Refused(r),
+        Err(r) => Err(r),
     }
 }
 
@@ -51,8 +51,8 @@ pub fn cost_in(store: &[u8], lanes: &[Chunk], m: Model, v: [i16; 8], cap: u64) -
     ensures limit { DecodedFor store.now m lanes.now → result ≤ 1152921367167897600 }
 {
     match check_model(store, m) {
-        Check::Pass => values::up_to(store, lanes, m, v, v, false, cap),
-        Check::Refuse(_) => 0,
+        Ok(()) => values::up_to(store, lanes, m, v, v, false, cap),
+        Err(_) => 0,
     }
 }
 
@@ -62,11 +62,11 @@ pub fn bound_in(store: &[u8], lanes: &[Chunk], m: Model, b: Box, cap: u64) -> u6
     ensures store { DecodedFor store.now m lanes.now → result ≡ bound_up_to store.now m b cap }
 {
     match check_model(store, m) {
-        Check::Pass => {
+        Ok(()) => {
             let low = b.low;
             let high = b.high;
             values::up_to(store, lanes, m, low, high, true, cap)
         }
-        Check::Refuse(_) => 0,
+        Err(_) => 0,
     }
 }

@@ -1,8 +1,7 @@
 -- A record written into a lent buffer.
 use Rattle.std.specs.Prelude.{List, ℕ, leb, length}
 use Rattle.integers.specs.Lists.{over}
-use Rattle.codes.specs.Codes.{pass_if, if_passed}
-use Rattle.codes.specs.declared.Check.{Check}
+use Rattle.codes.specs.Codes.{Check, pass_if, if_passed}
 use Rattle.codes.specs.declared.Refusal.TheVariants.{Short}
 
 -- Check 10: "output too small" for a record of so many bytes.

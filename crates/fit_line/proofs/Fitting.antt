@@ -11,12 +11,11 @@ use lib.Dec.{T, leb}
 use lib.IntN.{ℤ}
 use lib.ListN.{length, take, drop, take-append-drop, length-append, length-drop, drop_of_length-le}
 use lib.Seq.{length-take-le, take_all, take_at, drop_at, drop-append-le}
+use Rattle.std.specs.Prelude.{Ok, Err}
 use Rattle.integers.specs.Lists.{over}
 use Rattle.integers.proofs.Tests.{le_or_lt}
 use Rattle.codes.proofs.Checks.{refused_not_passed}
-use Rattle.codes.specs.Codes.{in_order, pass_if, within}
-use Rattle.codes.specs.declared.Check.{Check}
-use Rattle.codes.specs.declared.Check.TheVariants.{Pass, Refuse}
+use Rattle.codes.specs.Codes.{Check, pass, in_order, pass_if, within}
 use Rattle.codes.specs.declared.Refusal.{Refusal}
 use Rattle.jobs.specs.declared.Job.{Job}
 use Rattle.model_checks.specs.Checks.{check_model}
@@ -93,7 +92,7 @@ lent_back store job table part bounds entries a n e few q =
 -- what a search leaves of the front of a table, where the rest is kept, it leaves of the whole
 module _
     (check : Check) (found : Search.Answer) (table u : List ℤ) (n : ℕ) (there : n ≤ length table) (kept : drop n u ≡ drop n table)
-    (s : TableAfter check found (take n table) (take n u)) (within : check ≡ Pass → 16 * found.peak ≤ n)
+    (s : TableAfter check found (take n table) (take n u)) (within : check ≡ pass → 16 * found.peak ≤ n)
   where
     abbrev with_rest : List ℤ → List ℤ
     with_rest front = front ++ drop n table
@@ -127,15 +126,15 @@ module _
         }
 
 -- checks of which the first passes, or the last
-first_passes : (cs : List Check) → in_order (Pass ∷ cs) ≡ in_order cs
+first_passes : (cs : List Check) → in_order (pass ∷ cs) ≡ in_order cs
 unfolding in_order
 first_passes cs = refl
 
-last_passes : (a b : Check) → in_order (a ∷ b ∷ Pass ∷ []) ≡ in_order (a ∷ b ∷ [])
+last_passes : (a b : Check) → in_order (a ∷ b ∷ pass ∷ []) ≡ in_order (a ∷ b ∷ [])
 unfolding in_order
-last_passes Pass Pass = refl
-last_passes Pass (Refuse r) = refl
-last_passes (Refuse r) b = refl
+last_passes (Ok _) (Ok _) = refl
+last_passes (Ok _) (Err r) = refl
+last_passes (Err r) b = refl
 
 -- a text that was written over a buffer is the front of it
 written_front : (text out : List ℕ) → take (length text) (over text out) ≡ text
@@ -156,12 +155,12 @@ module _ (input : List ℕ) (table : List ℤ) (bounds : List ℕ) (long : 32768
   by_length f g = ⊎_elim f g (le_or_lt 72 (length input))
 
   -- an input that is too short has no store
-  short_refused : length input < 72 → check_fit input ≡ Refuse Refusal.Length
+  short_refused : length input < 72 → check_fit input ≡ Err Refusal.Length
   unfolding check_fit in_order
   short_refused short = rw (lt-leb 72 (length input) short) refl
 
   empty_refused : (job : Job) (numbers entries : ℕ) → length input < 72
-      → check_search (store_of input) job numbers entries ≡ Refuse Refusal.Length
+      → check_search (store_of input) job numbers entries ≡ Err Refusal.Length
   unfolding check_search check_job check_model check_store in_order
   empty_refused job numbers entries short = rw (drop_of_length-le input {i = 72} (le_of_lt short)) refl
 
@@ -192,13 +191,13 @@ module _ (input : List ℕ) (table : List ℤ) (bounds : List ℕ) (long : 32768
     same_search : job ≡ job_of input → lent ≡ 16 * job.rows → searched_lent (store_of input) job front bounds ≡ fit_search input
     same_search read all = rw (lent_rows all, read) refl
 
-    refused_fit : (why : Refusal) → check_fit input ≡ Refuse why → check_lent (store_of input) job front bounds ≡ Refuse why → Promised a u e
+    refused_fit : (why : Refusal) → check_fit input ≡ Err why → check_lent (store_of input) job front bounds ≡ Err why → Promised a u e
     unfolding fit_answer search_answer
     refused_fit why is refuses =
-        let never : check_fit input ≡ Pass → ⊥ = λ h. refused_not_passed why (sym is ∙ h) in
+        let never : check_fit input ≡ pass → ⊥ = λ h. refused_not_passed why (sym is ∙ h) in
         let found = searched_lent (store_of input) job front bounds in
         let w =
-        whole_table (Refuse why) found table u lent (omega (arith, lent_few job.rows)) s.rest (rw refuses at s.rows)
+        whole_table (Err why) found table u lent (omega (arith, lent_few job.rows)) s.rest (rw refuses at s.rows)
         (λ h. refused_not_passed why h) in (
           s.told ∙ rw (refuses, is) refl,
           (
@@ -223,30 +222,30 @@ module _ (input : List ℕ) (table : List ℤ) (bounds : List ℕ) (long : 32768
           ),
         )
 
-    accepted_fit : job ≡ job_of input → check_fit input ≡ Pass → check_lent (store_of input) job front bounds ≡ Pass → Promised a u e
+    accepted_fit : job ≡ job_of input → check_fit input ≡ pass → check_lent (store_of input) job front bounds ≡ pass → Promised a u e
     unfolding fit_answer fit_line search_answer
-    accepted_fit read is pass =
-        let some = rows_accepted (store_of input) job (length front) (length bounds) pass in
+    accepted_fit read is good =
+        let some = rows_accepted (store_of input) job (length front) (length bounds) good in
         let all : lent ≡ 16 * job.rows = lent_all job.rows (omega (arith, lent_long, some)) in
         let same = same_search read all in
-        let few = peak_accepted (store_of input) job front bounds pass in
+        let few = peak_accepted (store_of input) job front bounds good in
         let found = searched_lent (store_of input) job front bounds in
         let table-after =
-        whole_table Pass found table u lent (omega (arith, lent_few job.rows)) s.rest (rw pass at s.rows)
+        whole_table pass found table u lent (omega (arith, lent_few job.rows)) s.rest (rw good at s.rows)
         (λ h. omega (arith, few, lent_long)) in (
-          s.told ∙ rw (pass, is, same) refl,
+          s.told ∙ rw (good, is, same) refl,
           (
             rw is (rw same at table-after),
             (
-              rw is (rw (pass, same, read) at s.entries),
-              λ h. (rw is refl, rw (lent_rows all, read) at (s.certificate pass).1),
+              rw is (rw (good, same, read) at s.entries),
+              λ h. (rw is refl, rw (lent_rows all, read) at (s.certificate good).1),
             ),
           ),
         )
 
     by_check : (c : Check) → check_fit input ≡ c → 72 ≤ length input → job ≡ job_of input → Promised a u e
-    by_check Pass is whole read = accepted_fit read is (sym (same_checks whole read) ∙ is)
-    by_check (Refuse why) is whole read = refused_fit why is (sym (same_checks whole read) ∙ is)
+    by_check (Ok _) is whole read = accepted_fit read is (sym (same_checks whole read) ∙ is)
+    by_check (Err why) is whole read = refused_fit why is (sym (same_checks whole read) ∙ is)
 
     promised : (72 ≤ length input → job ≡ job_of input) → Promised a u e
     promised read =

@@ -1,9 +1,7 @@
 -- What the program named fit makes of its input: "a job record and then a store", "with a table of at most 2,048 rows".
 use Rattle.std.specs.Prelude.{Bool, true, false, cond, ◌&&◌, List, [], ◌∷◌, ◌≡◌, ℕ, leb, ℤ, length, drop}
 use Rattle.certificate.specs.Search as Search
-use Rattle.codes.specs.Codes.{pass_if, in_order, within}
-use Rattle.codes.specs.declared.Check.{Check}
-use Rattle.codes.specs.declared.Check.TheVariants.{Pass}
+use Rattle.codes.specs.Codes.{Check, pass, pass_if, in_order, within}
 use Rattle.codes.specs.declared.Refusal.{Refusal}
 use Rattle.residuals.specs.Cost.{bound}
 use Rattle.points.specs.Points.{points_of}
@@ -68,5 +66,5 @@ pub record BoundsLent (input : List ℕ) (table : List ℤ) (bounds out after : 
 -- rows.
 abbrev pub FitCertified : List ℕ → List ℕ → Type 0
 FitCertified input text =
-    check_fit input ≡ Pass →
+    check_fit input ≡ pass →
     (text ≡ line (job_of input).model (told (fit_search input))) × CertifiedIn (store_of input) (job_of input) (job_of input).rows

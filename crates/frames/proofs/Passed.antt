@@ -8,16 +8,14 @@ use lib.ListN.{length}
 use Rattle.integers.specs.Lists.{All, none, also}
 use Rattle.integers.proofs.Lists.{all_head, all_tail}
 use Rattle.integers.proofs.Tests.{is_true, is_false, and_parts}
-use Rattle.codes.specs.declared.Check.{Check}
-use Rattle.codes.specs.declared.Check.TheVariants.{Pass}
 use Rattle.codes.specs.declared.Refusal.TheVariants.{Length, Order, Clash}
-use Rattle.codes.specs.Codes.{in_order}
+use Rattle.codes.specs.Codes.{Check, pass, in_order}
 use Rattle.codes.proofs.Checks.{passed, first_passed, others_passed}
 use Rattle.frames.specs.Frames.{records_of, frames_of, rising, clashes, union}
 use Rattle.frames.specs.Frames.{check_either, check_order, check_clash, check_union, check_both}
 use Rattle.frames.proofs.Checks.{either_whole}
 
-pass_all : (cs : List Check) → in_order cs ≡ Pass → All (λ (c : Check). c ≡ Pass) cs
+pass_all : (cs : List Check) → in_order cs ≡ pass → All (λ (c : Check). c ≡ pass) cs
 pass_all [] e = none
 pass_all (c ∷ cs) e = also (first_passed c cs e) (pass_all cs (others_passed c cs e))
 
@@ -26,12 +24,12 @@ abbrev behind : List ℕ → List ℕ → List Check
 behind first second = check_order first second ∷ check_clash first second ∷ check_union first second ∷ []
 
 -- whole records, whose frames rise and none of which clash, and a union of at most 4,096
-module _ (first second : List ℕ) (e : check_both first second ≡ Pass) where
-  all_pass : All (λ (c : Check). c ≡ Pass) (check_either (length first) ∷ check_either (length second) ∷ behind first second)
+module _ (first second : List ℕ) (e : check_both first second ≡ pass) where
+  all_pass : All (λ (c : Check). c ≡ pass) (check_either (length first) ∷ check_either (length second) ∷ behind first second)
   unfolding check_both
   all_pass = pass_all _ e
 
-  behind_lengths : All (λ (c : Check). c ≡ Pass) (behind first second)
+  behind_lengths : All (λ (c : Check). c ≡ pass) (behind first second)
   behind_lengths = all_tail (all_tail all_pass)
 
   pub both_whole : (length first % 12 ≡ 0) × (length second % 12 ≡ 0)

@@ -2,11 +2,8 @@
 -- first and second. A record is its list of 12 bytes here.
 use Rattle.std.specs.Prelude.{Bool, true, false, not, cond, ◌&&◌, ◌||◌, ℕ, zero, suc, ◌/◌, leb, ltb, eqb, length, take, drop}
 use mathlib.Core.List.{List, [], ◌∷◌, map, flatten}
-use Rattle.codes.specs.declared.Check.{Check}
-use Rattle.codes.specs.declared.Check.TheVariants.{Pass}
 use Rattle.codes.specs.declared.Refusal.TheVariants.{Length, Order, Clash}
-use Rattle.codes.specs.declared.Outcome.{Outcome}
-use Rattle.codes.specs.Codes.{pass_if, in_order, unless_refused}
+use Rattle.codes.specs.Codes.{Check, Outcome, pass, pass_if, in_order, unless_refused}
 use Rattle.points.specs.Points.{record_at, check_store}
 
 -- The first n records of a store, and all of them.
@@ -64,7 +61,7 @@ merged first second = flatten (union (records_of first) (records_of second))
 
 -- Check 1 of one of the two: "Here a store may be empty".
 unfoldable pub check_either : ℕ → Check
-check_either bytes = cond (eqb bytes 0) Pass (check_store bytes)
+check_either bytes = cond (eqb bytes 0) pass (check_store bytes)
 
 -- "15, order, for frames not rising, checked after 1"
 unfoldable pub check_order : List ℕ → List ℕ → Check

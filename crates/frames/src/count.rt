@@ -5,10 +5,10 @@ ghost use Rattle.frames.specs.Frames.{merged, check_clash};
 ghost use Rattle.frames.specs.Inside.{Sound};
 
 use crate::stride;
-use codes::{Outcome, Refusal};
+use codes::Refusal;
 
 // Check 16, and how many bytes the union has. Both stores go on at once only past records of one frame.
-pub fn count(first: &[u8], second: &[u8]) -> Outcome
+pub fn count(first: &[u8], second: &[u8]) -> Result<u64, Refusal>
     requires { Sound first.now × Sound second.now }
     ensures { result
         ≡ unless_refused (check_clash first.now second.now)
@@ -23,12 +23,12 @@ pub fn count(first: &[u8], second: &[u8]) -> Outcome
         let s = stride(second, j, first, i);
         if f == s {
             if !check::same(&first[i..i + f], &second[j..j + s]) {
-                return Outcome::Refused(Refusal::Clash);
+                return Err(Refusal::Clash);
             }
         }
         i += f;
         j += s;
         n += 12;
     }
-    Outcome::Value(n)
+    Ok(n)
 }

@@ -8,42 +8,39 @@ ghost use Rattle.std.specs.Prelude.{◌≡◌};
 ghost use Rattle.frames.specs.Frames.{check_either, union_answer};
 ghost use Rattle.frames.specs.Walk.{from, stride};
 
-use codes::{Check, Outcome, Refusal};
+use codes::Refusal;
 
 // Check 1 of one of two stores, by its length in bytes: it may be empty.
-fn check_either(len: usize) -> Check
+fn check_either(len: usize) -> Result<(), Refusal>
     ensures { result ≡ check_either len }
 {
     if len == 0 {
-        return Check::Pass;
+        return Ok(());
     }
     points::check_store(len)
 }
 
 // Checks 1, 15 and 16 of two stores, and again 1 of their union: its length in bytes.
 #[tactic(auto, using(crate::proofs::Checks::lengths, crate::proofs::Checks::lengths_refused, crate::proofs::Checks::whole, crate::proofs::Checks::first_falls, crate::proofs::Checks::second_falls, crate::proofs::Checks::clash_refused))]
-pub fn check_both(first: &[u8], second: &[u8]) -> Outcome
+pub fn check_both(first: &[u8], second: &[u8]) -> Result<u64, Refusal>
     ensures { result ≡ union_answer first.now second.now }
 {
-    if let Check::Refuse(r) = codes::in_order(
-        check_either(first.len()),
-        check_either(second.len()),
-    ) {
-        return Outcome::Refused(r);
+    if let Err(r) = codes::in_order(check_either(first.len()), check_either(second.len())) {
+        return Err(r);
     }
     if !order::rising(first) {
-        return Outcome::Refused(Refusal::Order);
+        return Err(Refusal::Order);
     }
     if !order::rising(second) {
-        return Outcome::Refused(Refusal::Order);
+        return Err(Refusal::Order);
     }
     match count::count(first, second) {
-        Outcome::Refused(r) => Outcome::Refused(r),
-        Outcome::Value(bytes) => {
+        Err(r) => Err(r),
+        Ok(bytes) => {
             if 49152 < bytes {
-                return Outcome::Refused(Refusal::Length);
+                return Err(Refusal::Length);
             }
-            Outcome::Value(bytes)
+            Ok(bytes)
         }
     }
 }

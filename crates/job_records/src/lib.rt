@@ -1,21 +1,20 @@
 // Job records: from a job to its 72 bytes and back.
 #![tactic(auto)]
 
-ghost use Rattle.std.specs.Prelude.{◌≡◌, ◌≤◌, length};
+ghost use Rattle.std.specs.Prelude.{◌≡◌, ◌≤◌, length, Err};
 ghost use Rattle.integers.specs.Lists.{over};
-ghost use Rattle.codes.specs.declared.Check.TheVariants.{Refuse};
 ghost use Rattle.fields.specs.Buffers.{check_room, written};
 ghost use Rattle.job_records.specs.Jobs.{job_bytes, job_of, read_job, zero_job};
 
 use boxes::Box;
-use codes::{Check, Refusal};
+use codes::Refusal;
 use fields::{get_number, get_number32, get_vector, put_number, put_vector};
 use jobs::{Job, Model};
 
 // What reading a job record comes to: at a refusal the job is all 0.
 #[derive(Clone, Copy)]
 pub struct JobRead {
-    pub check: Check,
+    pub check: Result<(), Refusal>,
     pub job: Job,
 }
 
@@ -67,11 +66,11 @@ fn put_job(job: Job, bytes: &mut [u8])
 }
 
 fn refused_job(r: Refusal) -> JobRead
-    ensures { result ≡ record { check = Refuse r; job = zero_job } }
+    ensures { result ≡ record { check = Err r; job = zero_job } }
 {
     let zeros = [0i16; 8];
     JobRead {
-        check: Check::Refuse(r),
+        check: Err(r),
         job: Job {
             model: Model {
                 n: 0,
@@ -100,19 +99,19 @@ pub fn read_job(bytes: &[u8]) -> JobRead
         return refused_job(Refusal::Length);
     }
     JobRead {
-        check: Check::Pass,
+        check: Ok(()),
         job: get_job(bytes),
     }
 }
 
 // The job record in the first 72 bytes.
-pub fn write_job(job: Job, out: &mut [u8]) -> Check
+pub fn write_job(job: Job, out: &mut [u8]) -> Result<(), Refusal>
     ensures check { result ≡ check_room 72 out.old }
     ensures bytes { out.new ≡ written result (job_bytes job) out.old }
 {
     if out.len() < 72 {
-        return Check::Refuse(Refusal::Short);
+        return Err(Refusal::Short);
     }
     put_job(job, out);
-    Check::Pass
+    Ok(())
 }

@@ -1,10 +1,8 @@
 -- The labels of a store's points, and the call that writes them. Lines count from 0 here, and from 1 in a label.
 use Rattle.std.specs.Prelude.{cond, List, [], ◌∷◌, map, ℕ, zero, suc, ◌+◌, leb, ltb, ℤ, length}
 use Rattle.integers.specs.Lists.{over}
-use Rattle.codes.specs.declared.Check.{Check}
-use Rattle.codes.specs.declared.Outcome.{Outcome}
 use Rattle.codes.specs.declared.Refusal.TheVariants.{Short}
-use Rattle.codes.specs.Codes.{pass_if, in_order, unless_refused, if_passed}
+use Rattle.codes.specs.Codes.{Check, Outcome, pass_if, in_order, unless_refused, if_passed}
 use Rattle.jobs.specs.declared.Model.{Model}
 use Rattle.points.specs.declared.Point.{Point}
 use Rattle.points.specs.Points.{is_gap, points_of}

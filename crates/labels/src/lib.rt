@@ -9,7 +9,7 @@ ghost use Rattle.points.specs.Points.{points_of};
 ghost use Rattle.residuals.specs.Inside.{Ready};
 ghost use Rattle.labels.specs.Labels.{label, labels_answer, labelled};
 
-use codes::{Check, Outcome, Refusal};
+use codes::Refusal;
 use jobs::Model;
 
 fn write_labels(store: &[u8], m: Model, v: &[i16; 8], out: &mut [u8])
@@ -26,19 +26,19 @@ fn write_labels(store: &[u8], m: Model, v: &[i16; 8], out: &mut [u8])
 }
 
 // One label a point into the front of a lent buffer.
-pub fn labels(store: &[u8], m: Model, v: [i16; 8], out: &mut [u8]) -> Outcome
+pub fn labels(store: &[u8], m: Model, v: [i16; 8], out: &mut [u8]) -> Result<u64, Refusal>
     ensures answer { result ≡ labels_answer store.now m v out.old }
     ensures buffer { out.new ≡ labelled store.now m v out.old }
 {
     match model_checks::check_threshold(store, m, v) {
-        Check::Pass => {
+        Ok(()) => {
             let count = store.len() / 12;
             if out.len() < count {
-                return Outcome::Refused(Refusal::Short);
+                return Err(Refusal::Short);
             }
             write_labels(store, m, &v, out);
-            Outcome::Value(count as u64)
+            Ok(count as u64)
         }
-        Check::Refuse(r) => Outcome::Refused(r),
+        Err(r) => Err(r),
     }
 }

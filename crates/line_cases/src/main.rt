@@ -1,11 +1,11 @@
 // Lines of coefficients at the edges: a line of output for each, the four patterns or the number of the refusal.
 #![tactic(auto)]
 
-use codes::Check;
+use codes::Refusal;
 use std::io;
 
 fn refused(rt: &impl Print, r: codes::Refusal) -> io::Result<()> {
-    let number = codes::number(r);
+    let number = u8::from(r);
     println!(rt; "refused {number}")
 }
 
@@ -19,8 +19,8 @@ fn write(rt: &impl Print, d: u8, s: u8, w: [i16; 4]) -> io::Result<()> {
     let check = written.check;
     let line = written.line;
     match check {
-        Check::Pass => show(rt, coefficients::patterns(line)),
-        Check::Refuse(r) => refused(rt, r),
+        Ok(()) => show(rt, coefficients::patterns(line)),
+        Err(r) => refused(rt, r),
     }
 }
 
@@ -30,8 +30,8 @@ fn read(rt: &impl Print, d: u8, s: u8, bits: [u32; 4]) -> io::Result<()> {
     let check = found.check;
     let w = found.w;
     match check {
-        Check::Pass => write(rt, 4, 0, w),
-        Check::Refuse(r) => refused(rt, r),
+        Ok(()) => write(rt, 4, 0, w),
+        Err(r) => refused(rt, r),
     }
 }
 
@@ -43,8 +43,8 @@ fn back(rt: &impl Print, d: u8, s: u8, w: [i16; 4]) -> io::Result<()> {
     let check = found.check;
     let again = found.w;
     match check {
-        Check::Pass => write(rt, 4, 0, again),
-        Check::Refuse(r) => refused(rt, r),
+        Ok(()) => write(rt, 4, 0, again),
+        Err(r) => refused(rt, r),
     }
 }
 

@@ -7,8 +7,7 @@ use native.Mathlib.Omega.{arith}
 use lib.ListN.{length, take, drop}
 use lib.Seq.{drop-drop}
 use Rattle.integers.specs.Lists.{over}
-use Rattle.codes.specs.declared.Check.TheVariants.{Pass}
-use Rattle.codes.specs.Codes.{in_order}
+use Rattle.codes.specs.Codes.{pass, in_order}
 use Rattle.fields.specs.Buffers.{check_room}
 use Rattle.points.specs.declared.Point.{Point}
 use Rattle.points.specs.Points.{record_at, point_at, first_points, points_of, check_store}
@@ -22,12 +21,12 @@ use Rattle.merge.specs.Laws.{Merged, AllMerged, EmptyMerged, RecordPoints}
 use Rattle.merge.specs.Merge.{check_merge, merge_answer, output_after}
 use Rattle.merge.proofs.Union.{union_rises, union_found, agree, union_first, union_second}
 
-module _ (first second : List ℕ) (e : check_both first second ≡ Pass) where
+module _ (first second : List ℕ) (e : check_both first second ≡ pass) where
   its_records : records_of (merged first second) ≡ union (records_of first) (records_of second)
   unfolding merged
   its_records = records_flatten (union_long first second)
 
-  stored : 0 < length (merged first second) → check_store (length (merged first second)) ≡ Pass
+  stored : 0 < length (merged first second) → check_store (length (merged first second)) ≡ pass
   unfolding check_store
   stored h =
       let n = merged_length first second in
@@ -49,11 +48,11 @@ pub all_merged : AllMerged
 all_merged = the_merged
 
 -- all checks of two empty stores pass, for every output
-both_empty : check_both [] [] ≡ Pass
+both_empty : check_both [] [] ≡ pass
 unfolding check_both check_either check_order check_clash check_union in_order union clashes rising records_of first_records
 both_empty = refl
 
-empty_passes : (out : List ℕ) → check_merge [] [] out ≡ Pass
+empty_passes : (out : List ℕ) → check_merge [] [] out ≡ pass
 unfolding check_merge check_room in_order merged union records_of first_records flatten
 empty_passes out = rw (both_empty, le-leb 0 (length out) (omega arith))
 

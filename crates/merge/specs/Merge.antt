@@ -1,9 +1,7 @@
 -- "Both polarisations in one store", request 7 of document 02: "Make one store of two, each with strictly rising frame numbers."
 -- first and second are the two stores, out is the lent output.
 use Rattle.std.specs.Prelude.{List, [], ◌∷◌, ℕ, length}
-use Rattle.codes.specs.declared.Check.{Check}
-use Rattle.codes.specs.declared.Outcome.{Outcome}
-use Rattle.codes.specs.Codes.{in_order, unless_refused}
+use Rattle.codes.specs.Codes.{Check, Outcome, in_order, unless_refused}
 use Rattle.fields.specs.Buffers.{check_room, written}
 use Rattle.frames.specs.Frames.{merged, check_both}
 

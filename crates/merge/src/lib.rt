@@ -6,21 +6,21 @@ mod write;
 ghost use Rattle.std.specs.Prelude.{◌≡◌};
 ghost use Rattle.merge.specs.Merge.{merge_answer, output_after};
 
-use codes::{Outcome, Refusal};
+use codes::Refusal;
 
 // The union of both stores' records at the front of the output, and its length in bytes. Nothing is written before all checks have passed.
-pub fn merge(first: &[u8], second: &[u8], out: &mut [u8]) -> Outcome
+pub fn merge(first: &[u8], second: &[u8], out: &mut [u8]) -> Result<u64, Refusal>
     ensures outcome { result ≡ merge_answer first.now second.now out.old }
     ensures output { out.new ≡ output_after first.now second.now out.old }
 {
     match frames::check_both(first, second) {
-        Outcome::Refused(r) => Outcome::Refused(r),
-        Outcome::Value(bytes) => {
+        Err(r) => Err(r),
+        Ok(bytes) => {
             if (out.len() as u64) < bytes {
-                return Outcome::Refused(Refusal::Short);
+                return Err(Refusal::Short);
             }
             write::write(first, second, out, bytes as usize);
-            Outcome::Value(bytes)
+            Ok(bytes)
         }
     }
 }

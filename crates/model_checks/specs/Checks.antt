@@ -1,7 +1,6 @@
 -- Which checks the calls on a store and a model make. "Codes for jobs that can't run".
 use Rattle.std.specs.Prelude.{List, [], ◌∷◌, ℕ, ◌/◌, ℤ, length}
-use Rattle.codes.specs.declared.Check.{Check}
-use Rattle.codes.specs.Codes.{in_order}
+use Rattle.codes.specs.Codes.{Check, in_order}
 use Rattle.scale.specs.Scale.{check_scale}
 use Rattle.boxes.specs.declared.Box.{Box}
 use Rattle.boxes.specs.Shape.{check_shape, check_vector}

@@ -7,11 +7,11 @@ ghost use Rattle.points.specs.Points.{points_of, check_stray};
 ghost use Rattle.model_checks.specs.Checks.{check_model, check_cost, check_threshold, check_bound};
 
 use boxes::Box;
-use codes::{Check, in_order};
+use codes::{Refusal, in_order};
 use jobs::Model;
 
 // Checks 1 to 4.
-pub fn check_model(store: &[u8], m: Model) -> Check
+pub fn check_model(store: &[u8], m: Model) -> Result<(), Refusal>
     ensures { result ≡ check_model store.now m }
 {
     let first = in_order(
@@ -26,17 +26,17 @@ pub fn check_model(store: &[u8], m: Model) -> Check
 }
 
 // Check 7 behind others: only a store that passes those is looked through for stray fields.
-fn then_stray(first: Check, store: &[u8], d: u8) -> Check
+fn then_stray(first: Result<(), Refusal>, store: &[u8], d: u8) -> Result<(), Refusal>
     ensures { result ≡ in_order (first ∷ check_stray d (points_of store.now) ∷ []) }
 {
     match first {
-        Check::Pass => points::check_stray(store, d),
-        Check::Refuse(r) => Check::Refuse(r),
+        Ok(()) => points::check_stray(store, d),
+        Err(r) => Err(r),
     }
 }
 
 // The checks of a cost.
-pub fn check_cost(store: &[u8], m: Model, v: [i16; 8]) -> Check
+pub fn check_cost(store: &[u8], m: Model, v: [i16; 8]) -> Result<(), Refusal>
     ensures { result ≡ check_cost store.now m v }
 {
     then_stray(
@@ -47,7 +47,7 @@ pub fn check_cost(store: &[u8], m: Model, v: [i16; 8]) -> Check
 }
 
 // The checks of a call over a vector that takes ε for a threshold.
-pub fn check_threshold(store: &[u8], m: Model, v: [i16; 8]) -> Check
+pub fn check_threshold(store: &[u8], m: Model, v: [i16; 8]) -> Result<(), Refusal>
     ensures { result ≡ check_threshold store.now m v }
 {
     let chosen = in_order(check_model(store, m), loss::check_loss(m.p, m.eps));
@@ -59,7 +59,7 @@ pub fn check_threshold(store: &[u8], m: Model, v: [i16; 8]) -> Check
 }
 
 // The checks of a bound.
-pub fn check_bound(store: &[u8], m: Model, b: Box) -> Check
+pub fn check_bound(store: &[u8], m: Model, b: Box) -> Result<(), Refusal>
     ensures { result ≡ check_bound store.now m b }
 {
     then_stray(

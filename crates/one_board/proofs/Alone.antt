@@ -7,10 +7,9 @@ use native.Mathlib.Omega.{arith}
 use borrow.Author.Tests.{le-leb, lt-leb}
 use lib.IntN.{ℤ}
 use lib.ListN.{length, take, drop}
-use Rattle.codes.specs.declared.Check.{Check}
-use Rattle.codes.specs.declared.Check.TheVariants.{Pass, Refuse}
+use Rattle.std.specs.Prelude.{Err}
 use Rattle.codes.specs.declared.Refusal.{Refusal}
-use Rattle.codes.specs.Codes.{in_order}
+use Rattle.codes.specs.Codes.{Check, pass, in_order}
 use Rattle.codes.proofs.Checks.{refused_not_passed, first_passed, others_passed}
 use Rattle.codes.proofs.Laws.{in_order_one}
 use Rattle.boxes.specs.declared.Box.{Box}
@@ -50,7 +49,7 @@ part_lent stores from size =
     rw e refl
 
 -- at a refusal the table and the list are as they were
-table_kept : (check : Check) (why : Refusal) (found : Search.Answer) (table : List ℤ) → check ≡ Refuse why
+table_kept : (check : Check) (why : Refusal) (found : Search.Answer) (table : List ℤ) → check ≡ Err why
     → TableAfter check found table table
 table_kept check why found table e = record {
   long = refl;
@@ -60,7 +59,7 @@ table_kept check why found table e = record {
   rest = λ p. refused_not_passed why (sym e ∙ p);
 }
 
-bounds_kept : (B : Box → ℕ) (check : Check) (why : Refusal) (found : Search.Answer) (bounds : List ℕ) → check ≡ Refuse why
+bounds_kept : (B : Box → ℕ) (check : Check) (why : Refusal) (found : Search.Answer) (bounds : List ℕ) → check ≡ Err why
     → BoundsAfter B check found bounds bounds
 bounds_kept B check why found bounds e = record {
   long = refl;
@@ -77,7 +76,7 @@ module _ (stores : List ℕ) (from size : ℕ) (job : Job) (table : List ℤ) (b
       (r ≡ board_answer stores from size job table bounds)
       × (BoardTable stores from size job table bounds u × BoardBounds stores from size job table bounds e)
 
-  past_check : length stores < from + size → check_in stores from size job table bounds ≡ Refuse Refusal.Length
+  past_check : length stores < from + size → check_in stores from size job table bounds ≡ Err Refusal.Length
   unfolding check_board in_order
   past_check past = rw (lt-leb (from + size) (length stores) past) refl
 
@@ -114,7 +113,7 @@ module _ (stores : List ℕ) (from size : ℕ) (job : Job) (table : List ℤ) (b
       (q.0 ∙ rw check refl, (rw check q.1.0, rw check q.1.1.0))
 
   -- of an accepted job's search demand 3 holds
-  pub board_certified : check_in stores from size job table bounds ≡ Pass → CertifiedIn (store_from stores from size) job (row_count table)
+  pub board_certified : check_in stores from size job table bounds ≡ pass → CertifiedIn (store_from stores from size) job (row_count table)
   unfolding check_board
   board_certified ok =
       certificate (store_from stores from size) job table bounds

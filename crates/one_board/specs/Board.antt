@@ -1,8 +1,7 @@
 -- One of several jobs (document 02, request 11): the job under the budget that it gets, and the search of its store in the table of all.
 use Rattle.std.specs.Prelude.{List, [], ◌∷◌, ℕ, ◌+◌, leb, ℤ, length, take, drop}
-use Rattle.codes.specs.declared.Check.{Check}
 use Rattle.codes.specs.declared.Refusal.{Refusal}
-use Rattle.codes.specs.Codes.{pass_if, in_order}
+use Rattle.codes.specs.Codes.{Check, pass_if, in_order}
 use Rattle.jobs.specs.declared.Job.{Job}
 use Rattle.points.specs.Points.{points_of}
 use Rattle.residuals.specs.Cost.{bound}

@@ -4,8 +4,9 @@ use mathlib.Core.List.{List}
 use Prim.Native.Nat.{ℕ}
 use lib.IntN.{ℤ}
 use lib.ListN.{length, replicate}
+use Rattle.codes.specs.Codes.{pass}
+use Rattle.std.specs.Prelude.{Err}
 use Rattle.integers.specs.Lists.{over}
-use Rattle.codes.specs.declared.Check.TheVariants.{Pass, Refuse}
 use Rattle.codes.specs.declared.Refusal.{Refusal}
 use Rattle.codes.proofs.Checks.{refused_not_passed}
 use Rattle.jobs.specs.declared.Job.{Job}
@@ -36,8 +37,8 @@ module _ (store : List ℕ) (job : Job) (limit : ℕ) (table : List ℤ) (bounds
       all_peeling job (row_count table) limit (points_of store) ok.given_holds.line ok.given_holds.counts
       (runs_accepted store job (length table) (length bounds) ok.searching).inside
 
-  pub where_accepted : (r : Peeled) (ls : List ℕ) (u : List ℤ) (e : List ℕ) → check_lent store job limit table bounds labels ≡ Pass →
-      r.check ≡ Pass →
+  pub where_accepted : (r : Peeled) (ls : List ℕ) (u : List ℤ) (e : List ℕ) → check_lent store job limit table bounds labels ≡ pass →
+      r.check ≡ pass →
       RoundsDone store job limit table bounds labels r.rounds r.answers ls u e →
       Kept r ls u e
   unfolding peel_answer labels_after
@@ -47,11 +48,11 @@ module _ (store : List ℕ) (job : Job) (limit : ℕ) (table : List ℤ) (bounds
         (d.labelled, (d.rows, (d.entries, λ _. all_shown pass))),
       )
 
-  pub where_refused : (why : Refusal) (blank : Answer) → check_lent store job limit table bounds labels ≡ Refuse why → blank ≡ no_round →
-      Kept (record { check = Refuse why; rounds = 0; answers = replicate 4 blank }) labels table bounds
+  pub where_refused : (why : Refusal) (blank : Answer) → check_lent store job limit table bounds labels ≡ Err why → blank ≡ no_round →
+      Kept (record { check = Err why; rounds = 0; answers = replicate 4 blank }) labels table bounds
   unfolding peel_answer labels_after over
   where_refused why blank refuse told =
       rw refuse (
-        (λ i. record { check = Refuse why; rounds = 0; answers = replicate 4 (told i) }),
+        (λ i. record { check = Err why; rounds = 0; answers = replicate 4 (told i) }),
         (refl, (table_shared.none table, (bounds_shared.none bounds, λ e. refused_not_passed why e))),
       )

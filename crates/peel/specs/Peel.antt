@@ -2,9 +2,7 @@
 -- with the checks before them.
 use Rattle.std.specs.Prelude.{◌≡◌, List, [], map, ℕ, ℤ, length}
 use Rattle.integers.specs.Lists.{over}
-use Rattle.codes.specs.declared.Check.{Check}
-use Rattle.codes.specs.declared.Check.TheVariants.{Pass}
-use Rattle.codes.specs.Codes.{if_passed}
+use Rattle.codes.specs.Codes.{Check, pass, if_passed}
 use Rattle.jobs.specs.declared.Job.{Job}
 use Rattle.points.specs.Points.{points_of}
 use Rattle.list_rows.specs.Rows.{row_count}
@@ -49,4 +47,4 @@ module _ (store : List ℕ) (job : Job) (limit : ℕ) (table : List ℤ) (bounds
 
   -- What is shown of every accepted call.
   abbrev pub PeelingLent : Type 0
-  PeelingLent = check_lent ≡ Pass → Peeling job (row_count table) limit (points_of store)
+  PeelingLent = check_lent ≡ pass → Peeling job (row_count table) limit (points_of store)

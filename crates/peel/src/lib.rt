@@ -4,20 +4,20 @@
 mod round;
 
 ghost use Rattle.std.specs.Prelude.{◌≡◌, cond, ◌≤◌, eqb, length};
-ghost use Rattle.codes.specs.declared.Check.TheVariants.{Pass};
+ghost use Rattle.codes.specs.Codes.{pass};
 ghost use Rattle.peel_rounds.specs.Told.{no_round};
 ghost use Rattle.peel_rounds.specs.Going.{RoundsDone};
 ghost use Rattle.peel.specs.Peel.{check_lent, peel_answer, labels_after, TablePeeled, BoundsPeeled, PeelingLent};
 
 use crate::round::one_round;
-use codes::{Check, Refusal};
+use codes::Refusal;
 use jobs::Job;
 use search::{Answer, Kind};
 
 // "the answers of all rounds run are given": so many of the slots hold them, in order. At a refusal there are none.
 #[derive(Clone, Copy)]
 pub struct Peeled {
-    pub check: Check,
+    pub check: Result<(), Refusal>,
     pub rounds: usize,
     pub answers: [Answer; 4],
 }
@@ -53,10 +53,10 @@ fn each_round(
     bounds: &mut [u64],
     labels: &mut [u8],
 ) -> Peeled
-    requires { check_lent store.now job limit table.old bounds.old labels.old ≡ Pass }
+    requires { check_lent store.now job limit table.old bounds.old labels.old ≡ pass }
     ensures done { RoundsDone store.now job limit table.old bounds.old labels.old result.rounds result.answers
         labels.new table.new bounds.new }
-    ensures check { result.check ≡ Pass }
+    ensures check { result.check ≡ pass }
 {
     let mut more = first_rounds(points_left::set_aside(store, labels), limit);
     let mut answers = [no_round(); 4];
@@ -69,7 +69,7 @@ fn each_round(
         i += 1;
     }
     Peeled {
-        check: Check::Pass,
+        check: Ok(()),
         rounds: i,
         answers,
     }
@@ -94,9 +94,9 @@ pub fn peel(
     ensures peeling { PeelingLent store.now job limit table.old bounds.old labels.old }
 {
     match peel_checks::check_peel(store, job, limit, table.len(), bounds.len(), labels.len()) {
-        Check::Pass => each_round(store, job, limit as usize, table, bounds, labels),
-        Check::Refuse(why) => Peeled {
-            check: Check::Refuse(why),
+        Ok(()) => each_round(store, job, limit as usize, table, bounds, labels),
+        Err(why) => Peeled {
+            check: Err(why),
             rounds: 0,
             answers: [no_round(); 4],
         },

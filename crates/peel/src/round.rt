@@ -1,6 +1,6 @@
 // A round: a search on the points left, and the removal of those that its line fits.
 ghost use Rattle.std.specs.Prelude.{◌≡◌, ◌/◌, ◌≤◌, length};
-ghost use Rattle.codes.specs.declared.Check.TheVariants.{Pass};
+ghost use Rattle.codes.specs.Codes.{pass};
 ghost use Rattle.model_checks.specs.Checks.{check_threshold};
 ghost use Rattle.points_left.specs.Left.{relabelled, relabels};
 ghost use Rattle.peel_rounds.specs.Going.{if_solved, marks_of, rounds_after, Ready, RoundDone};
@@ -25,7 +25,7 @@ fn remove(
     number: u8,
     labels: &mut [u8],
 ) -> usize
-    requires { check_threshold store.now m vector ≡ Pass }
+    requires { check_threshold store.now m vector ≡ pass }
     ensures removed { result ≡ if_solved kind (relabels labels.old (marks_of store.now m vector)) 0 }
     ensures labels { labels.new
         ≡ if_solved kind (relabelled number labels.old (marks_of store.now m vector)) labels.old }

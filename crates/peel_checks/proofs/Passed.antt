@@ -5,10 +5,9 @@ use Prim.Native.Nat.{ℕ, ◌/◌, ◌≤◌}
 use lib.Dec.{T, leb, eqb, leb→le, eqb→eq}
 use lib.IntN.{ℤ}
 use lib.ListN.{length}
-use Rattle.codes.specs.declared.Check.{Check}
-use Rattle.codes.specs.declared.Check.TheVariants.{Pass, Refuse}
+use Rattle.std.specs.Prelude.{Ok, Err}
 use Rattle.codes.specs.declared.Refusal.{Refusal}
-use Rattle.codes.specs.Codes.{pass_if, within, in_order}
+use Rattle.codes.specs.Codes.{Check, pass, pass_if, within, in_order}
 use Rattle.codes.proofs.Checks.{passed, passes, first_passed, others_passed, refused_not_passed}
 use Rattle.codes.proofs.Laws.{in_order_group, in_order_pairs, two_groups, others_decide, after_refusal}
 use Rattle.integers.proofs.Tests.{and_parts}
@@ -33,17 +32,17 @@ in_groups a b c d e f g =
     ∙ two_groups (a ∷ b ∷ c ∷ d ∷ []) (e ∷ f ∷ g ∷ [])
 
 -- behind 1 to 4 the checks of a search are the others
-search_behind : (model box start stray table bounds : Check) → model ≡ Pass →
+search_behind : (model box start stray table bounds : Check) → model ≡ pass →
     in_order (in_order (model ∷ box ∷ start ∷ stray ∷ []) ∷ table ∷ bounds ∷ [])
     ≡ in_order (box ∷ start ∷ stray ∷ table ∷ bounds ∷ [])
 unfolding in_order
 search_behind model box start stray table bounds e = rw e (in_order_group (box ∷ start ∷ stray ∷ []) (table ∷ bounds ∷ []))
 
-four_pass : (a b c d : Check) → a ≡ Pass → b ≡ Pass → c ≡ Pass → d ≡ Pass → in_order (a ∷ b ∷ c ∷ d ∷ []) ≡ Pass
+four_pass : (a b c d : Check) → a ≡ pass → b ≡ pass → c ≡ pass → d ≡ pass → in_order (a ∷ b ∷ c ∷ d ∷ []) ≡ pass
 unfolding in_order
 four_pass a b c d p q r s = rw (p, q, r, s) refl
 
-three_pass : (a b c : Check) → a ≡ Pass → b ≡ Pass → c ≡ Pass → in_order (a ∷ b ∷ c ∷ []) ≡ Pass
+three_pass : (a b c : Check) → a ≡ pass → b ≡ pass → c ≡ pass → in_order (a ∷ b ∷ c ∷ []) ≡ pass
 unfolding in_order
 three_pass a b c p q r = rw (p, q, r) refl
 
@@ -51,7 +50,7 @@ threshold_same : (records p ε : ℕ) → p ≡ 0 → check_loss_for records p �
 unfolding check_loss_for
 threshold_same records p ε e = rw e refl
 
-threshold : (records p ε : ℕ) → p ≡ 0 → check_loss p ε ≡ Pass → check_loss_for records p ε ≡ Pass
+threshold : (records p ε : ℕ) → p ≡ 0 → check_loss p ε ≡ pass → check_loss_for records p ε ≡ pass
 threshold records p ε e h = threshold_same records p ε e ∙ h
 
 any_records : (records others p ε : ℕ) → p ≡ 0 → check_loss_for records p ε ≡ check_loss_for others p ε
@@ -70,9 +69,9 @@ module _ (store : List ℕ) (job : Job) (limit numbers entries labels : ℕ) whe
     pub counts : m.p ≡ 0
     pub some : 1 ≤ limit
     pub few : limit ≤ 4
-    pub checked : check_model store m ≡ Pass
+    pub checked : check_model store m ≡ pass
 
-  pub given_passed : given ≡ Pass → Given
+  pub given_passed : given ≡ pass → Given
   unfolding check_model
   given_passed e =
       let c₁ = check_store (length store) in
@@ -107,7 +106,7 @@ module _ (store : List ℕ) (job : Job) (limit numbers entries labels : ℕ) whe
   room = pass_if (leb (length store / 12) labels) Refusal.Short
 
   -- where they pass, the checks of a search and the room for labels decide
-  pub search_decides : given ≡ Pass →
+  pub search_decides : given ≡ pass →
       check_peel store job limit numbers entries labels ≡ in_order (check_search store job numbers entries ∷ room ∷ [])
   unfolding check_peel check_search check_job
   search_decides e =
@@ -122,23 +121,23 @@ module _ (store : List ℕ) (job : Job) (limit numbers entries labels : ℕ) whe
       (search_behind (check_model store m) box start stray table bounds (given_passed e).checked)
       ∙ in_order_group (box ∷ start ∷ stray ∷ table ∷ bounds ∷ []) (room ∷ []))
 
-  pub first_refuses : (r : Refusal) → given ≡ Refuse r → check_peel store job limit numbers entries labels ≡ Refuse r
+  pub first_refuses : (r : Refusal) → given ≡ Err r → check_peel store job limit numbers entries labels ≡ Err r
   unfolding check_peel
   first_refuses r e = after_refusal (model_checks (length store) m limit) (lent_checks store job numbers entries labels) r e
 
   -- what a call that is accepted has
   pub record Accepted : Type 0 where
     pub given_holds : Given
-    pub searching : check_search store job numbers entries ≡ Pass
+    pub searching : check_search store job numbers entries ≡ pass
     pub room_holds : length store / 12 ≤ labels
 
-  front_passed : (cs ds : List Check) → in_order (cs ++ ds) ≡ Pass → in_order cs ≡ Pass
+  front_passed : (cs ds : List Check) → in_order (cs ++ ds) ≡ pass → in_order cs ≡ pass
   unfolding in_order
   front_passed [] ds e = refl
-  front_passed (Pass ∷ cs) ds e = front_passed cs ds e
-  front_passed (Refuse r ∷ cs) ds e = refused_not_passed r e
+  front_passed (Ok _ ∷ cs) ds e = front_passed cs ds e
+  front_passed (Err r ∷ cs) ds e = refused_not_passed r e
 
-  pub accepted : check_peel store job limit numbers entries labels ≡ Pass → Accepted
+  pub accepted : check_peel store job limit numbers entries labels ≡ pass → Accepted
   unfolding check_peel
   accepted e =
       let first = front_passed (model_checks (length store) m limit) (lent_checks store job numbers entries labels) e in
@@ -153,7 +152,7 @@ module _ (store : List ℕ) (job : Job) (limit numbers entries labels : ℕ) whe
       }
 
 -- check 4 of a model
-loss_passed : (store : List ℕ) (m : Model) → m.p ≡ 0 → check_model store m ≡ Pass → check_loss m.p m.eps ≡ Pass
+loss_passed : (store : List ℕ) (m : Model) → m.p ≡ 0 → check_model store m ≡ pass → check_loss m.p m.eps ≡ pass
 unfolding check_model
 loss_passed store m counts e =
     let c₁ = check_store (length store) in
@@ -165,8 +164,8 @@ loss_passed store m counts e =
 
 -- the checks of a search where those of the store's length, of p and of the fields are others that pass
 swapped : (a b c d x y z t u a' d' z' : Check) →
-    in_order (in_order (in_order (a ∷ b ∷ c ∷ d ∷ []) ∷ x ∷ y ∷ z ∷ []) ∷ t ∷ u ∷ []) ≡ Pass → a' ≡ Pass → d ≡ d' → z' ≡ Pass →
-    in_order (in_order (in_order (a' ∷ b ∷ c ∷ d' ∷ []) ∷ x ∷ y ∷ z' ∷ []) ∷ t ∷ u ∷ []) ≡ Pass
+    in_order (in_order (in_order (a ∷ b ∷ c ∷ d ∷ []) ∷ x ∷ y ∷ z ∷ []) ∷ t ∷ u ∷ []) ≡ pass → a' ≡ pass → d ≡ d' → z' ≡ pass →
+    in_order (in_order (in_order (a' ∷ b ∷ c ∷ d' ∷ []) ∷ x ∷ y ∷ z' ∷ []) ∷ t ∷ u ∷ []) ≡ pass
 swapped a b c d x y z t u a' d' z' e ea ed ez =
     let model = in_order (a ∷ b ∷ c ∷ d ∷ []) in
     let given = in_order (model ∷ x ∷ y ∷ z ∷ []) in
@@ -185,10 +184,10 @@ swapped a b c d x y z t u a' d' z' e ea ed ez =
 
 -- A store of some of the points, whose length and fields pass, is accepted by a search as the whole one is.
 pub others_searched : (store others : List ℕ) (job : Job) (numbers entries : ℕ) → job.model.p ≡ 0 →
-    check_search store job numbers entries ≡ Pass →
-    check_store (length others) ≡ Pass →
-    check_stray job.model.d (points_of others) ≡ Pass →
-    check_search others job numbers entries ≡ Pass
+    check_search store job numbers entries ≡ pass →
+    check_store (length others) ≡ pass →
+    check_stray job.model.d (points_of others) ≡ pass →
+    check_search others job numbers entries ≡ pass
 unfolding check_search check_job check_model
 others_searched store others job numbers entries counts e long clear =
     let m = job.model in
@@ -199,8 +198,8 @@ others_searched store others job numbers entries counts e long clear =
     (any_records (length store / 12) (length others / 12) m.p m.eps counts) clear
 
 -- what checks 1 to 7 of a search say of its store
-pub stray_passed : (store : List ℕ) (job : Job) (numbers entries : ℕ) → check_search store job numbers entries ≡ Pass →
-    check_stray job.model.d (points_of store) ≡ Pass
+pub stray_passed : (store : List ℕ) (job : Job) (numbers entries : ℕ) → check_search store job numbers entries ≡ pass →
+    check_stray job.model.d (points_of store) ≡ pass
 unfolding check_search check_job
 stray_passed store job numbers entries e =
     let m = job.model in
@@ -216,8 +215,8 @@ stray_passed store job numbers entries e =
 
 -- Where p is 0, checks 1 to 4 and 7 of a search and the unused coordinates of a vector are all that labelling asks.
 pub threshold_passed : (store : List ℕ) (job : Job) (numbers entries : ℕ) (v : List ℤ) → job.model.p ≡ 0 →
-    check_search store job numbers entries ≡ Pass → T (unused_zero job.model.n job.model.d v) →
-    check_threshold store job.model v ≡ Pass
+    check_search store job numbers entries ≡ pass → T (unused_zero job.model.n job.model.d v) →
+    check_threshold store job.model v ≡ pass
 unfolding check_threshold check_vector
 threshold_passed store job numbers entries v counts e unused =
     let m = job.model in

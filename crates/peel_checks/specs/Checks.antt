@@ -1,8 +1,7 @@
 -- The checks of peeling, request 1 of document 02: 1 to 4, 13, 5 to 8, 14 and 10.
 use Rattle.std.specs.Prelude.{List, [], ◌∷◌, ◌++◌, ℕ, ◌/◌, leb, eqb, length}
-use Rattle.codes.specs.declared.Check.{Check}
 use Rattle.codes.specs.declared.Refusal.{Refusal}
-use Rattle.codes.specs.Codes.{pass_if, within, in_order}
+use Rattle.codes.specs.Codes.{Check, pass_if, within, in_order}
 use Rattle.scale.specs.Scale.{check_scale}
 use Rattle.boxes.specs.Shape.{check_shape}
 use Rattle.boxes.specs.Boxes.{check_box, check_start}

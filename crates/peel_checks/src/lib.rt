@@ -6,55 +6,47 @@ ghost use Rattle.codes.specs.Codes.{pass_if, within, in_order};
 ghost use Rattle.codes.specs.declared.Refusal.{Refusal};
 ghost use Rattle.peel_checks.specs.Checks.{model_checks, check_peel};
 
-use codes::{Check, Refusal, in_order};
+use codes::{Refusal, in_order};
 use jobs::{Job, Model};
 
 // "Other n .. get 2".
-fn check_line(n: u8) -> Check
+fn check_line(n: u8) -> Result<(), Refusal>
     ensures { result ≡ pass_if (eqb n 1) Refusal.Shape }
 {
-    if n == 1 {
-        Check::Pass
-    } else {
-        Check::Refuse(Refusal::Shape)
-    }
+    if n == 1 { Ok(()) } else { Err(Refusal::Shape) }
 }
 
 // "Other .. p get .. 4".
-fn check_counting(p: u8) -> Check
+fn check_counting(p: u8) -> Result<(), Refusal>
     ensures { result ≡ pass_if (eqb p 0) Refusal.Loss }
 {
-    if p == 0 {
-        Check::Pass
-    } else {
-        Check::Refuse(Refusal::Loss)
-    }
+    if p == 0 { Ok(()) } else { Err(Refusal::Loss) }
 }
 
 // Check 13.
-fn check_limit(limit: u8) -> Check
+fn check_limit(limit: u8) -> Result<(), Refusal>
     ensures { result ≡ pass_if (within 1 limit 4) Refusal.Rounds }
 {
     if (1 <= limit) & (limit <= 4) {
-        Check::Pass
+        Ok(())
     } else {
-        Check::Refuse(Refusal::Rounds)
+        Err(Refusal::Rounds)
     }
 }
 
 // Check 10, of a store's bytes and the labels that there is room for.
-fn check_labels(bytes: usize, labels: usize) -> Check
+fn check_labels(bytes: usize, labels: usize) -> Result<(), Refusal>
     ensures { result ≡ pass_if (leb (bytes / 12) labels) Refusal.Short }
 {
     if bytes / 12 <= labels {
-        Check::Pass
+        Ok(())
     } else {
-        Check::Refuse(Refusal::Short)
+        Err(Refusal::Short)
     }
 }
 
 // Checks 1 to 4 and 13, of a store's bytes.
-fn check_given(bytes: usize, m: Model, limit: u8) -> Check
+fn check_given(bytes: usize, m: Model, limit: u8) -> Result<(), Refusal>
     ensures { result ≡ in_order (model_checks bytes m limit) }
 {
     let store = in_order(points::check_store(bytes), boxes::check_shape(m.n, m.d));
@@ -72,15 +64,15 @@ pub fn check_peel(
     numbers: usize,
     entries: usize,
     labels: usize,
-) -> Check
+) -> Result<(), Refusal>
     ensures { result ≡ check_peel store.now job limit numbers entries labels }
 {
     let m = job.model;
     match check_given(store.len(), m, limit) {
-        Check::Pass => in_order(
+        Ok(()) => in_order(
             search_checks::check_search(store, job, numbers, entries),
             check_labels(store.len(), labels),
         ),
-        Check::Refuse(r) => Check::Refuse(r),
+        Err(r) => Err(r),
     }
 }

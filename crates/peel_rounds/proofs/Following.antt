@@ -9,8 +9,8 @@ use lib.Dec.{eqb}
 use lib.IntN.{ℤ}
 use lib.ListN.{length, drop, set, replicate, get_or, length-append, length-drop, length-map, length-replicate}
 use lib.Seq.{append_snoc, set_at, drop-cons, drop-append_seam}
+use Rattle.codes.specs.Codes.{pass}
 use Rattle.integers.specs.Lists.{over}
-use Rattle.codes.specs.declared.Check.TheVariants.{Pass}
 use Rattle.jobs.specs.declared.Job.{Job}
 use Rattle.jobs.specs.declared.Model.{Model}
 use Rattle.points.specs.declared.Point.{Point}
@@ -212,12 +212,12 @@ module _ (store : List ℕ) (job : Job) (limit : ℕ) (table : List ℤ) (bounds
             labelled = relabelled_so;
             rows =
                 rw (map-append (run_of job) g.before (r ∷ []))
-                (table_shared.one_more (map (run_of job) g.before) (run_of job r) Pass table u u' refl g.rows
-                (subst (λ (f : Search.Answer). TableAfter Pass f u u') same d.rows));
+                (table_shared.one_more (map (run_of job) g.before) (run_of job r) pass table u u' refl g.rows
+                (subst (λ (f : Search.Answer). TableAfter pass f u u') same d.rows));
             entries =
                 rw (map-append (run_of job) g.before (r ∷ []))
-                (bounds_shared.one_more (map (run_of job) g.before) (run_of job r) Pass bounds e e' refl g.entries
-                (subst₂ (λ (l : List Point) (f : Search.Answer). BoundsAfter (bound m l) Pass f e e') those same d.entries));
+                (bounds_shared.one_more (map (run_of job) g.before) (run_of job r) pass bounds e e' refl g.entries
+                (subst₂ (λ (l : List Point) (f : Search.Answer). BoundsAfter (bound m l) pass f e e') those same d.entries));
           }
 
       -- fewer rounds may follow than before it
@@ -241,7 +241,7 @@ module _ (store : List ℕ) (job : Job) (limit : ℕ) (table : List ℤ) (bounds
 
   -- what a round is handed
   pub ready_next : (i more : ℕ) (answers : List Answer) (ls : List ℕ) (u : List ℤ) (e : List ℕ) →
-      check_search store job (length table) (length bounds) ≡ Pass → m.n ≡ 1 → m.p ≡ 0 → limit ≤ 4 → 0 < more →
+      check_search store job (length table) (length bounds) ≡ pass → m.n ≡ 1 → m.p ≡ 0 → limit ≤ 4 → 0 < more →
       Going store job limit table bounds labels i more answers ls u e →
       Ready store job i more ls u e
   ready_next i more answers ls u e searching line counts four h g =

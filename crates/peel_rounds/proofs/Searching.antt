@@ -9,8 +9,8 @@ use lib.IntN.{ℤ}
 use lib.Dec.{leb}
 use lib.ListN.{length, take, drop, length-map}
 use lib.Seq.{take_at}
+use Rattle.codes.specs.Codes.{pass}
 use Rattle.integers.specs.Lists.{over}
-use Rattle.codes.specs.declared.Check.TheVariants.{Pass}
 use Rattle.boxes.specs.Boxes.{InBox}
 use Rattle.boxes.proofs.Checks.{in_unused}
 use Rattle.jobs.specs.declared.Job.{Job}
@@ -38,7 +38,7 @@ pub points_number : (store : List ℕ) → length (points_of store) ≡ length s
 unfolding points_of
 points_number store = points_length store (length store / 12)
 
-store_passes : (bytes k : ℕ) → bytes ≡ k * 12 → 1 ≤ k → k ≤ 4096 → check_store bytes ≡ Pass
+store_passes : (bytes k : ℕ) → bytes ≡ k * 12 → 1 ≤ k → k ≤ 4096 → check_store bytes ≡ pass
 unfolding check_store
 store_passes bytes k e some few =
     rw (le-leb 1 bytes (omega arith), le-leb bytes 49152 (omega arith), eq-eqb (bytes % 12) 0 (omega arith)) refl
@@ -56,7 +56,7 @@ module _ (store : List ℕ) (job : Job) (i more : ℕ) (ls : List ℕ) (u : List
   pub count_left : length bytes / 12 ≡ length (on_those store job i more ls u e)
   count_left = omega (arith, bytes_left_lem ls store)
 
-  left_accepted : check_search bytes job (length u) (length e) ≡ Pass
+  left_accepted : check_search bytes job (length u) (length e) ≡ pass
   left_accepted =
       others_searched store bytes job (length u) (length e) given.counts given.searching
       (store_passes (length bytes) (length (left_of ls (points_of store))) (bytes_left_lem ls store) given.some
@@ -73,15 +73,15 @@ module _ (store : List ℕ) (job : Job) (i more : ℕ) (ls : List ℕ) (u : List
   unfolding search_answer
   answer_left r w = w ∙ rw (left_accepted, found_left) refl
 
-  pub table_left : (u' : List ℤ) → TableSearched bytes job u e u' → TableAfter Pass (found_on store job i more ls u e) u u'
+  pub table_left : (u' : List ℤ) → TableSearched bytes job u e u' → TableAfter pass (found_on store job i more ls u e) u u'
   table_left u' h = rw (left_accepted, found_left) at h
 
   pub bounds_left : (e' : List ℕ) → BoundsSearched bytes job u e e' →
-      BoundsAfter (bound job.model (on_those store job i more ls u e)) Pass (found_on store job i more ls u e) e e'
+      BoundsAfter (bound job.model (on_those store job i more ls u e)) pass (found_on store job i more ls u e) e e'
   bounds_left e' h = rw (left_accepted, found_left, points_left ls store) at h
 
   -- its line can be asked for labels
-  pub line_asked : check_threshold store job.model (found_on store job i more ls u e).vector ≡ Pass
+  pub line_asked : check_threshold store job.model (found_on store job i more ls u e).vector ≡ pass
   line_asked =
       let runs = runs_accepted store job (length u) (length e) given.searching in
       let v = (found_on store job i more ls u e).vector in
@@ -115,7 +115,7 @@ module _ (store : List ℕ) (job : Job) (i more : ℕ) (ls : List ℕ) (u : List
       pub answer_gathered : (r : Answer) → r ≡ search_answer (take n left) job u e → r ≡ told (found_on store job i more ls u e)
       answer_gathered r w = answer_left r (w ∙ ap (λ (s : List ℕ). search_answer s job u e) gathered_front)
 
-      pub line_gathered : (r : Answer) → r ≡ search_answer (take n left) job u e → check_threshold store job.model r.vector ≡ Pass
+      pub line_gathered : (r : Answer) → r ≡ search_answer (take n left) job u e → check_threshold store job.model r.vector ≡ pass
       line_gathered r w =
           ap (λ (a : Answer). check_threshold store job.model a.vector) (answer_gathered r w) ∙ line_asked
 
@@ -148,7 +148,7 @@ module _ (store : List ℕ) (job : Job) (i more : ℕ) (ls : List ℕ) (u : List
           }
 
 -- the marks that labelling a store leaves at the front of an array
-module _ (store : List ℕ) (m : Model) (v : List ℤ) (asked : check_threshold store m v ≡ Pass) where
+module _ (store : List ℕ) (m : Model) (v : List ℤ) (asked : check_threshold store m v ≡ pass) where
   pub marks_few : length store / 12 ≤ 4096
   marks_few = omega (arith, (ready store m (threshold_model store m v asked)).few)
 
@@ -157,8 +157,8 @@ module _ (store : List ℕ) (m : Model) (v : List ℤ) (asked : check_threshold 
   unfolding labelled over
   marks_front out marks long e =
       let number = points_number store in
-      let pass : check_labels store m v out ≡ Pass =
+      let good : check_labels store m v out ≡ pass =
       room_decides store m v out asked ∙ rw (le-leb (length (points_of store)) (length out) (omega (arith, marks_few))) refl in
-      ap (take (length store / 12)) (e ∙ rw pass refl)
+      ap (take (length store / 12)) (e ∙ rw good refl)
       ∙ take_at (marks_of store m v) (drop (length (marks_of store m v)) out) (length store / 12)
       (length-map (points_of store) (label m v) ∙ number)

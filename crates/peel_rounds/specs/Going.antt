@@ -1,7 +1,7 @@
 -- What the functions behind peeling say to each other: of one round, and between two rounds.
+use Rattle.codes.specs.Codes.{pass}
 use Rattle.std.specs.Prelude.{◌≡◌, cond, ◌||◌, List, ◌++◌, map, ℕ, suc, ◌+◌, ◌-◌, ◌≤◌, ◌<◌, eqb, ℤ, length}
 use Rattle.integers.specs.Lists.{over}
-use Rattle.codes.specs.declared.Check.TheVariants.{Pass}
 use Rattle.jobs.specs.declared.Job.{Job}
 use Rattle.jobs.specs.declared.Model.{Model}
 use Rattle.points.specs.declared.Point.{Point}
@@ -38,7 +38,7 @@ rounds_after removed left more = cond (eqb removed 0 || eqb removed left) 0 (mor
 
 -- What a round is handed, the labels, the table and the list being ls, u and e: checks that passed, and some points left.
 pub record Ready (store : List ℕ) (job : Job) (i more : ℕ) (ls : List ℕ) (u : List ℤ) (e : List ℕ) : Type 0 where
-  pub searching : check_search store job (length u) (length e) ≡ Pass
+  pub searching : check_search store job (length u) (length e) ≡ pass
   pub line : job.model.n ≡ 1
   pub counts : job.model.p ≡ 0
   pub some : 1 ≤ length (left_of ls (points_of store))
@@ -60,8 +60,8 @@ module _ (store : List ℕ) (job : Job) (i more : ℕ) (ls : List ℕ) (u : List
     pub answer : result ≡ told found_on
     pub labels : ls' ≡ if_solved (kind_of found_on.kind) (relabelled (suc i) ls marks_by) ls
     pub more_left : following ≡ rounds_after (if_solved (kind_of found_on.kind) (relabels ls marks_by) 0) (length on_those) more
-    pub rows : TableAfter Pass found_on u u'
-    pub entries : BoundsAfter (bound job.model on_those) Pass found_on e e'
+    pub rows : TableAfter pass found_on u u'
+    pub entries : BoundsAfter (bound job.model on_those) pass found_on e e'
 
 -- Between two rounds: `before` were run, `more` may still be run on the points whose label is 0, and these are all.
 pub record Going

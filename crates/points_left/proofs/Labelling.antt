@@ -7,9 +7,10 @@ use native.Mathlib.Omega.{arith}
 use lib.Dec.{leb, eqb}
 use lib.IntN.{ℤ}
 use lib.ListN.{length, length-map, drop}
+use Rattle.codes.specs.Codes.{pass}
+use Rattle.std.specs.Prelude.{Err}
 use Rattle.integers.specs.Integers.{all_zero}
 use Rattle.integers.specs.Lists.{All, none, also}
-use Rattle.codes.specs.declared.Check.TheVariants.{Pass, Refuse}
 use Rattle.codes.specs.declared.Refusal.{Refusal}
 use Rattle.codes.proofs.Checks.{refused_not_passed}
 use Rattle.jobs.specs.declared.Model.{Model}
@@ -122,21 +123,21 @@ module _ (ls store : List ℕ) where
 abbrev Clear : ℕ → List Point → Type 0
 Clear d qs = All (λ q. all_zero (drop d (xs q)) ≡ true) qs
 
-passed_clear : (d i : ℕ) (qs : List Point) → stray_from d i qs ≡ Pass → Clear d qs
+passed_clear : (d i : ℕ) (qs : List Point) → stray_from d i qs ≡ pass → Clear d qs
 unfolding stray_from
 passed_clear d i [] e = none
 passed_clear d i (q ∷ qs) e = one (all_zero (drop d (xs q))) refl e (λ k. passed_clear d (suc i) qs k)
   where
-    one : (b : Bool) → all_zero (drop d (xs q)) ≡ b → cond b (stray_from d (suc i) qs) (Refuse (Refusal.Stray i)) ≡ Pass →
-        (stray_from d (suc i) qs ≡ Pass → Clear d qs) → Clear d (q ∷ qs)
+    one : (b : Bool) → all_zero (drop d (xs q)) ≡ b → cond b (stray_from d (suc i) qs) (Err (Refusal.Stray i)) ≡ pass →
+        (stray_from d (suc i) qs ≡ pass → Clear d qs) → Clear d (q ∷ qs)
     one true z e later = also z (later e)
     one false z e later = refused_not_passed (Refusal.Stray i) e
 
-clear_passes : (d i : ℕ) (qs : List Point) → Clear d qs → stray_from d i qs ≡ Pass
+clear_passes : (d i : ℕ) (qs : List Point) → Clear d qs → stray_from d i qs ≡ pass
 unfolding stray_from
 clear_passes d i [] none = refl
 clear_passes d i (q ∷ qs) (also h hs) = rw (h, clear_passes d (suc i) qs hs) refl
 
-pub clear_left : (d : ℕ) (ls : List ℕ) (qs : List Point) → check_stray d qs ≡ Pass → check_stray d (left_of ls qs) ≡ Pass
+pub clear_left : (d : ℕ) (ls : List ℕ) (qs : List Point) → check_stray d qs ≡ pass → check_stray d (left_of ls qs) ≡ pass
 unfolding check_stray
 clear_left d ls qs e = clear_passes d 0 (left_of ls qs) (left-all ls (passed_clear d 0 qs e))

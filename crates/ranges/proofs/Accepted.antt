@@ -7,9 +7,9 @@ use borrow.Author.Tests.{le-leb}
 use lib.Dec.{leb, leb→le}
 use lib.IntN.{ℤ, pos}
 use lib.ListN.{length, get_or, drop, take-append-drop}
-use Rattle.codes.specs.declared.Check.TheVariants.{Pass, Refuse}
+use Rattle.std.specs.Prelude.{Err}
 use Rattle.codes.specs.declared.Refusal.{Refusal}
-use Rattle.codes.specs.Codes.{pass_if}
+use Rattle.codes.specs.Codes.{pass, pass_if}
 use Rattle.codes.proofs.Checks.{refused_not_passed, passed, first_passed, others_passed}
 use Rattle.integers.proofs.Parts.{abs_parts, apart, le_parts}
 use Rattle.boxes.specs.declared.Box.{Box}
@@ -53,7 +53,7 @@ module _ (store : List ℕ) (job : Job) (K : ℕ) (t : List ℤ) where
   abbrev Promised : Answer → List ℤ → Type 0
   Promised r u = (r ≡ ranges_answer store job K t) × (TableRanged store job K t u × RangesCertified store job K t r)
 
-  module _ (ok : check_lent store job K t ≡ Pass) where
+  module _ (ok : check_lent store job K t ≡ pass) where
     pub accepted : Runs store job
     unfolding check_ranges
     accepted = runs store job (first_passed (check_job store job) (pass_if (leb 16 (length t)) Refusal.Table ∷ []) ok)
@@ -146,10 +146,10 @@ module _ (store : List ℕ) (job : Job) (K : ℕ) (t : List ℤ) where
             ),
           )
 
-  pub promised_refused : (why : Refusal) (r : Answer) → check_lent store job K t ≡ Refuse why → r ≡ refused why → Promised r t
+  pub promised_refused : (why : Refusal) (r : Answer) → check_lent store job K t ≡ Err why → r ≡ refused why → Promised r t
   unfolding ranges_answer
   promised_refused why r refuses e =
-      let never : check_lent store job K t ≡ Pass → ⊥ = λ h. refused_not_passed why (sym refuses ∙ h) in (
+      let never : check_lent store job K t ≡ pass → ⊥ = λ h. refused_not_passed why (sym refuses ∙ h) in (
         rw refuses e,
         (
           record { long = refl; untouched = λ w h. refl; leftovers = []; rows = λ h. absurd (never h); rest = λ h. absurd (never h) },

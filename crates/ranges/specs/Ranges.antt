@@ -1,10 +1,8 @@
 -- Request 13 of document 02: what a search for the range of every coefficient answers, over the points of a store, with the checks 1 to 8
 -- before it, and what it leaves in the table. The search itself is range_search/specs/RangeSearch.antt.
-use Rattle.std.specs.Prelude.{◌≡◌, List, [], ◌∷◌, ◌++◌, ℕ, ◌*◌, leb, ℤ, length, drop, replicate}
-use Rattle.codes.specs.declared.Check.{Check}
-use Rattle.codes.specs.declared.Check.TheVariants.{Pass, Refuse}
+use Rattle.std.specs.Prelude.{◌≡◌, List, [], ◌∷◌, ◌++◌, ℕ, ◌*◌, leb, ℤ, length, drop, replicate, Ok, Err}
 use Rattle.codes.specs.declared.Refusal.{Refusal}
-use Rattle.codes.specs.Codes.{pass_if, in_order}
+use Rattle.codes.specs.Codes.{Check, pass, pass_if, in_order}
 use Rattle.boxes.specs.declared.Box.{Box}
 use Rattle.jobs.specs.declared.Job.{Job}
 use Rattle.jobs.specs.declared.Model.{Model}
@@ -70,18 +68,18 @@ abbrev pub refused : Refusal → Answer
 refused why = record { kind = Refused why; slots = replicate 8 (record { range = Nothing }); count = 0; «open» = 0; peak = 0 }
 
 abbrev pub answer_unless_refused : Check → Model → Search.Answer → Answer
-answer_unless_refused Pass m r = told m r
-answer_unless_refused (Refuse why) m r = refused why
+answer_unless_refused (Ok _) m r = told m r
+answer_unless_refused (Err why) m r = refused why
 
 -- What the search leaves of the table, by its check and by what it comes to. 01: "At the end the first rows hold the open boxes in list
 -- order. Rows from there up to peak may hold leftovers; from peak on, and in a partial row, nothing changed." At a refusal nothing changed.
 pub record TableAfter (check : Check) (found : Search.Answer) (table after : List ℤ) : Type 0 where
   pub long : length after ≡ length table
-  pub untouched : (why : Refusal) → check ≡ Refuse why → after ≡ table
+  pub untouched : (why : Refusal) → check ≡ Err why → after ≡ table
   -- The leftovers are free: boxes of any signed 16-bit numbers, as many as peak is more than the open count.
   pub leftovers : List Box
-  pub rows : check ≡ Pass → rows_of after found.state.peak ≡ found.state.list ++ leftovers
-  pub rest : check ≡ Pass → drop (16 * found.state.peak) after ≡ drop (16 * found.state.peak) table
+  pub rows : check ≡ pass → rows_of after found.state.peak ≡ found.state.list ++ leftovers
+  pub rest : check ≡ pass → drop (16 * found.state.peak) after ≡ drop (16 * found.state.peak) table
 
 -- A search for ranges that is lent a table. 01: "r is its length divided by 16, rounded down."
 module _ (store : List ℕ) (job : Job) (K : ℕ) (table : List ℤ) where
@@ -102,7 +100,7 @@ module _ (store : List ℕ) (job : Job) (K : ℕ) (table : List ℤ) where
   -- The answer r to an accepted job tells what the search comes to, and of that everything holds that request 13 promises.
   abbrev pub RangesCertified : Answer → Type 0
   RangesCertified r =
-      check_lent ≡ Pass →
+      check_lent ≡ pass →
       (r ≡ told job.model ranges_lent)
       × Ranged (cost job.model (points_of store)) (bound job.model (points_of store)) K job.budget (row_count table) job.domain
       ranges_lent

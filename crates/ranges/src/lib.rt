@@ -12,7 +12,7 @@ ghost use Rattle.ranges.specs.Ranges.{check_ranges, given_by, refused, ranges_an
 ghost use Rattle.ranges.specs.Inside.{told_of};
 
 use crate::run::{End, begin, no_hull, steps};
-use codes::{Check, Refusal};
+use codes::Refusal;
 use eval_lanes::{Chunk, Lanes};
 use jobs::{Job, Model};
 use range_hulls::{Hull, Range, Slot, slots};
@@ -38,7 +38,7 @@ pub struct Answer {
 }
 
 // Checks 1 to 8, with a table of so many numbers.
-pub fn check_ranges(store: &[u8], job: Job, numbers: usize) -> Check
+pub fn check_ranges(store: &[u8], job: Job, numbers: usize) -> Result<(), Refusal>
     ensures { result ≡ check_ranges store.now job numbers }
 {
     let given = search_checks::check_job(store, job);
@@ -115,7 +115,7 @@ pub fn ranges(store: &[u8], job: Job, ceiling: u64, table: &mut [i16]) -> Answer
     ensures ranges { RangesCertified store.now job ceiling table.old result }
 {
     match check_ranges(store, job, table.len()) {
-        Check::Pass => {
+        Ok(()) => {
             let m = job.model;
             let domain = job.domain;
             let low = domain.low;
@@ -129,6 +129,6 @@ pub fn ranges(store: &[u8], job: Job, ceiling: u64, table: &mut [i16]) -> Answer
             let first = begin(store, &lanes, m, ceiling, table, domain);
             tell(m, steps(store, &lanes, job, ceiling, table, first))
         }
-        Check::Refuse(why) => refusal(why),
+        Err(why) => refusal(why),
     }
 }

@@ -10,8 +10,7 @@ use lib.Dec.{leb, eqb, leb→le}
 use Rattle.integers.proofs.Tests.{and_parts}
 use lib.ListN.{get_or, set}
 use lib.Seq.{get_or-set_other}
-use Rattle.codes.specs.Codes.{within}
-use Rattle.codes.specs.declared.Check.TheVariants.{Pass}
+use Rattle.codes.specs.Codes.{pass, within}
 use Rattle.registers.specs.Runs.{check_run, found_bytes}
 use Rattle.registers.specs.History as Hist
 use Rattle.registers.specs.History.{Access, reads, writes, History, last, last_value, runs, clears, interrupts, enabled}
@@ -104,7 +103,7 @@ answer_described store h k few =
 last_answer :
     (store : List ℕ) (h earlier : History) (o v numbers entries : ℕ) →
     last runs h ≡ writes o v numbers entries ∷ earlier →
-    check_run store (job_standing earlier) numbers entries ≡ Pass →
+    check_run store (job_standing earlier) numbers entries ≡ pass →
     answer store h ≡ found_bytes store (job_standing earlier)
 unfolding answer
 last_answer store h earlier o v numbers entries is done = rw (is, done)

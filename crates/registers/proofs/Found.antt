@@ -6,10 +6,9 @@ use Prim.Native.Nat.{ℕ, ◌/◌, ◌≤◌}
 use native.Mathlib.Omega.{arith}
 use lib.Dec.{T, leb, eqb, eqb→eq}
 use lib.ListN.{length, length-append}
+use Rattle.std.specs.Prelude.{Ok, Err}
 use Rattle.integers.proofs.Tests.{and_parts}
-use Rattle.codes.specs.Codes.{pass_if, in_order}
-use Rattle.codes.specs.declared.Check.{Check}
-use Rattle.codes.specs.declared.Check.TheVariants.{Pass, Refuse}
+use Rattle.codes.specs.Codes.{Check, pass, pass_if, in_order}
 use Rattle.codes.specs.declared.Refusal.{Refusal}
 use Rattle.codes.proofs.Checks.{passed, passes, first_passed, others_passed}
 use Rattle.boxes.proofs.Volume.{between_length}
@@ -26,7 +25,7 @@ use Rattle.answer_records.specs.Answers.{answer_bytes}
 use Rattle.answers.specs.Records.{record_of}
 use Rattle.registers.specs.Runs.{check_run, run_search, found_bytes, record_shown}
 
-module _ (store : List ℕ) (job : Job) (numbers entries : ℕ) (ok : check_run store job numbers entries ≡ Pass) where
+module _ (store : List ℕ) (job : Job) (numbers entries : ℕ) (ok : check_run store job numbers entries ≡ pass) where
   table_test : T (leb 16 numbers && eqb (numbers / 16) job.rows)
   unfolding check_run
   table_test =
@@ -36,18 +35,18 @@ module _ (store : List ℕ) (job : Job) (numbers entries : ℕ) (ok : check_run 
   pub rows_equal : numbers / 16 ≡ job.rows
   rows_equal = eqb→eq (numbers / 16) job.rows (and_parts (leb 16 numbers) (eqb (numbers / 16) job.rows) table_test).1
 
-  job_passed : check_job store job ≡ Pass
+  job_passed : check_job store job ≡ pass
   unfolding check_run
   job_passed = first_passed _ _ ok
 
-  bounds_passed : pass_if (leb (numbers / 16) entries) Refusal.Bounds ≡ Pass
+  bounds_passed : pass_if (leb (numbers / 16) entries) Refusal.Bounds ≡ pass
   unfolding check_run
   bounds_passed = first_passed _ _ (others_passed _ _ (others_passed _ _ ok))
 
-  table_passed : pass_if (leb 16 numbers) Refusal.Table ≡ Pass
+  table_passed : pass_if (leb 16 numbers) Refusal.Table ≡ pass
   table_passed = passes (leb 16 numbers) Refusal.Table (and_parts (leb 16 numbers) (eqb (numbers / 16) job.rows) table_test).0
 
-  pub search_passed : check_search store job numbers entries ≡ Pass
+  pub search_passed : check_search store job numbers entries ≡ pass
   unfolding check_search in_order
   search_passed = rw (job_passed, table_passed, bounds_passed)
 
@@ -76,5 +75,5 @@ pub shown_long :
 shown_long store bytes numbers entries whole = go (check_run store (job_of bytes) numbers entries) refl
   where
     go : (c : Check) → check_run store (job_of bytes) numbers entries ≡ c → length (record_shown c (found_bytes store (job_of bytes))) ≡ 40
-    go Pass is = found_long store (job_of bytes) numbers entries is (low_eight bytes whole)
-    go (Refuse why) is = refl
+    go (Ok _) is = found_long store (job_of bytes) numbers entries is (low_eight bytes whole)
+    go (Err why) is = refl

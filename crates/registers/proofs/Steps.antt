@@ -7,12 +7,11 @@ use Prim.Native.Nat.{ℕ, ◌+◌, ◌-◌, ◌*◌, ◌/◌, ◌%◌, ◌≤◌
 use native.Mathlib.Nat.{mod-mod}
 use native.Mathlib.Omega.{arith}
 use lib.Dec.{T, leb, eqb, leb→le}
+use Rattle.std.specs.Prelude.{Ok, Err}
 use Rattle.integers.proofs.Tests.{by_test, and_parts}
 use Rattle.jobs.specs.declared.Job.{Job}
 use lib.ListN.{length, set, take}
-use Rattle.codes.specs.Codes.{if_passed, within}
-use Rattle.codes.specs.declared.Check.{Check}
-use Rattle.codes.specs.declared.Check.TheVariants.{Pass, Refuse}
+use Rattle.codes.specs.Codes.{Check, if_passed, within}
 use Rattle.job_records.specs.Jobs.{job_of}
 use Rattle.answer_records.specs.Answers.{passing}
 use Rattle.registers.specs.Runs.{check_run, found_bytes, refusal_number, record_shown}
@@ -46,8 +45,8 @@ module _ where
   three_bits false false false = refl
 
   run_bits : (check : Check) (c : Bool) → bit (passing check) + 2 * bit (not (passing check)) + 4 * bit c ≡ if_passed check 1 2 + 4 * bit c
-  run_bits Pass c = refl
-  run_bits (Refuse why) c = refl
+  run_bits (Ok _) c = refl
+  run_bits (Err why) c = refl
 
 or_true : (b : Bool) → (b || true) ≡ true
 or_true true = refl

@@ -1,9 +1,7 @@
 -- What the registers read, by the history of accesses since reset: a line for each sentence of request 14 of document 02. Every register
 -- is told by the last access that touched it; no state is carried along.
 use Rattle.std.specs.Prelude.{Bool, true, false, cond, not, ◌&&◌, ◌||◌, List, [], ◌∷◌, ℕ, zero, suc, ◌+◌, ◌-◌, ◌*◌, ◌%◌, eqb, get_or, replicate}
-use Rattle.codes.specs.Codes.{within}
-use Rattle.codes.specs.declared.Check.{Check}
-use Rattle.codes.specs.declared.Check.TheVariants.{Pass}
+use Rattle.codes.specs.Codes.{Check, pass, within}
 use Rattle.jobs.specs.declared.Job.{Job}
 use Rattle.job_records.specs.Jobs.{job_of}
 use Rattle.answer_records.specs.Answers.{passing}
@@ -94,8 +92,8 @@ bit false = 0
 module _ (store : List ℕ) where
   -- the check of a run, by the job record as it stood; and the record of its answer
   abbrev pub check_at : History → Check
-  check_at [] = Pass
-  check_at (reads o ∷ h) = Pass
+  check_at [] = pass
+  check_at (reads o ∷ h) = pass
   check_at (writes o v n e ∷ h) = check_run store (job_standing h) n e
 
   abbrev pub record_at : History → List ℕ

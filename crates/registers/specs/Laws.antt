@@ -1,7 +1,6 @@
 -- What is shown of the registers: statements, each proved in proofs/ under the name of its record.
 use Rattle.std.specs.Prelude.{List, [], ◌∷◌, reverse, ◌≡◌, ℕ, ◌+◌, ◌/◌, ◌<◌, get_or, true, false}
-use Rattle.codes.specs.Codes.{within}
-use Rattle.codes.specs.declared.Check.TheVariants.{Pass}
+use Rattle.codes.specs.Codes.{pass, within}
 use Rattle.search.specs.Search.{CertifiedIn}
 use Rattle.registers.specs.Runs.{check_run, found_bytes}
 use Rattle.registers.specs.History.{Access, reads, writes, History, last, runs, clears, interrupts, enabled, pending}
@@ -27,7 +26,7 @@ abbrev pub AsCertified : Type 0
 AsCertified =
     (store : List ℕ) (accesses : List Access) (earlier : History) (o v numbers entries : ℕ) →
     last runs (reverse accesses) ≡ writes o v numbers entries ∷ earlier →
-    check_run store (job_standing earlier) numbers entries ≡ Pass →
+    check_run store (job_standing earlier) numbers entries ≡ pass →
     DoneCertified store accesses earlier o v numbers entries
 
 -- The sentences of the request that say what an access leaves alone, of the description itself.

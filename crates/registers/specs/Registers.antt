@@ -1,7 +1,6 @@
 -- The 136 register bytes: what an access does to them, and what a read of them gives, whatever they hold.
 use Rattle.std.specs.Prelude.{cond, ◌||◌, List, [], ◌∷◌, ◌++◌, ℕ, ◌+◌, ◌*◌, ◌/◌, ◌%◌, eqb, get_or, set, take, drop, replicate}
-use Rattle.codes.specs.Codes.{if_passed, within}
-use Rattle.codes.specs.declared.Check.{Check}
+use Rattle.codes.specs.Codes.{Check, if_passed, within}
 use Rattle.jobs.specs.declared.Job.{Job}
 use Rattle.job_records.specs.Jobs.{job_of}
 use Rattle.registers.specs.History.{Access, reads, writes, bit}

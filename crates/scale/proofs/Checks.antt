@@ -2,11 +2,11 @@
 use mathlib.Core.Path.{◌≡◌}
 use Prim.Native.Nat.{ℕ, ◌≤◌}
 use lib.Dec.{leb, leb→le}
-use Rattle.codes.specs.declared.Check.TheVariants.{Pass}
+use Rattle.codes.specs.Codes.{pass}
 use Rattle.codes.specs.declared.Refusal.TheVariants.{Scale}
 use Rattle.codes.proofs.Checks.{passed}
 use Rattle.scale.specs.Scale.{check_scale}
 
-pub scale_within : (S : ℕ) → check_scale S ≡ Pass → S ≤ 15
+pub scale_within : (S : ℕ) → check_scale S ≡ pass → S ≤ 15
 unfolding check_scale
 scale_within S e = leb→le S 15 (passed (leb S 15) Scale e)

@@ -1,8 +1,7 @@
 -- "S, 0 to 15, is the scale".
 use Rattle.std.specs.Prelude.{ℕ, leb}
-use Rattle.codes.specs.declared.Check.{Check}
 use Rattle.codes.specs.declared.Refusal.TheVariants.{Scale}
-use Rattle.codes.specs.Codes.{pass_if}
+use Rattle.codes.specs.Codes.{Check, pass_if}
 
 -- Check 3: "S over 15".
 unfoldable pub check_scale : ℕ → Check

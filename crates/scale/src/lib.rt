@@ -4,7 +4,7 @@
 ghost use Rattle.std.specs.Prelude.{◌≡◌, ◌^◌, ◌%◌};
 ghost use Rattle.scale.specs.Scale.{check_scale};
 
-use codes::{Check, Refusal};
+use codes::Refusal;
 
 // 2^s for s to 15, by doubling. 2^16 is no u16, so s counts modulo 16.
 pub fn power(s: u8) -> u16
@@ -20,12 +20,8 @@ pub fn power(s: u8) -> u16
 
 // Check 3.
 #[tactic(auto, unfolding(crate::specs::Scale::check_scale))]
-pub fn check_scale(s: u8) -> Check
+pub fn check_scale(s: u8) -> Result<(), Refusal>
     ensures { result ≡ check_scale s }
 {
-    if s <= 15 {
-        Check::Pass
-    } else {
-        Check::Refuse(Refusal::Scale)
-    }
+    if s <= 15 { Ok(()) } else { Err(Refusal::Scale) }
 }

@@ -6,7 +6,8 @@ use native.Mathlib.Omega.{arith}
 use lib.IntN.{ℤ}
 use lib.ListN.{length, take, drop, take-append-drop}
 use lib.Seq.{take-take}
-use Rattle.codes.specs.declared.Check.TheVariants.{Pass, Refuse}
+use Rattle.codes.specs.Codes.{pass}
+use Rattle.std.specs.Prelude.{Err}
 use Rattle.codes.specs.declared.Refusal.{Refusal}
 use Rattle.codes.proofs.Checks.{refused_not_passed}
 use Rattle.boxes.specs.declared.Box.{Box}
@@ -43,7 +44,7 @@ module _ (store : List ℕ) (job : Job) (t : List ℤ) (d : List ℕ) where
   Promised r u e =
       (r ≡ search_answer store job t d) × (TableSearched store job t d u × (BoundsSearched store job t d e × Certified store job t d r))
 
-  module _ (ok : check_lent store job t d ≡ Pass) where
+  module _ (ok : check_lent store job t d ≡ pass) where
     pub certificate : CertifiedIn store job (row_count t)
     unfolding searched
     certificate =
@@ -89,10 +90,10 @@ module _ (store : List ℕ) (job : Job) (t : List ℤ) (d : List ℕ) where
       ),
     )
 
-  pub promised_refused : (why : Refusal) (r : Answer) → check_lent store job t d ≡ Refuse why → r ≡ refused why → Promised r t d
+  pub promised_refused : (why : Refusal) (r : Answer) → check_lent store job t d ≡ Err why → r ≡ refused why → Promised r t d
   unfolding search_answer
   promised_refused why r refuses e =
-      let never : check_lent store job t d ≡ Pass → ⊥ = λ h. refused_not_passed why (sym refuses ∙ h) in (
+      let never : check_lent store job t d ≡ pass → ⊥ = λ h. refused_not_passed why (sym refuses ∙ h) in (
         rw refuses e,
         (
           record { long = refl; untouched = λ w h. refl; leftovers = []; rows = λ h. absurd (never h); rest = λ h. absurd (never h) },

@@ -4,8 +4,8 @@ use mathlib.Core.List.{List}
 use Prim.Native.Nat.{ℕ}
 use native.Mathlib.Omega.{arith}
 use lib.IntN.{ℤ}
-use Rattle.codes.specs.declared.Check.{Check}
-use Rattle.codes.specs.declared.Check.TheVariants.{Pass, Refuse}
+use Rattle.codes.specs.Codes.{Check, pass}
+use Rattle.std.specs.Prelude.{Ok, Err}
 use Rattle.jobs.specs.declared.Job.{Job}
 use Rattle.list_rows.specs.Rows.{row_count}
 use Rattle.certificate.specs.Search as Search
@@ -20,12 +20,12 @@ solved_is solved e = refl
 solved_is spent e = let n = ap kind_number e in absurd (omega arith)
 solved_is full e = let n = ap kind_number e in absurd (omega arith)
 
-accepted_is : (check : Check) (r : Search.Answer) → (answer_unless_refused check r).kind ≡ Solved → check ≡ Pass
-accepted_is Pass r e = refl
-accepted_is (Refuse why) r e = let n = ap kind_number e in absurd (omega arith)
+accepted_is : (check : Check) (r : Search.Answer) → (answer_unless_refused check r).kind ≡ Solved → check ≡ pass
+accepted_is (Ok _) r e = refl
+accepted_is (Err why) r e = let n = ap kind_number e in absurd (omega arith)
 
 module _ (store : List ℕ) (job : Job) (table : List ℤ) (bounds : List ℕ) (is : (search_answer store job table bounds).kind ≡ Solved) where
-  pass : check_lent store job table bounds ≡ Pass
+  pass : check_lent store job table bounds ≡ pass
   unfolding search_answer
   pass = accepted_is (check_lent store job table bounds) (searched_lent store job table bounds) is
 

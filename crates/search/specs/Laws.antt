@@ -1,6 +1,6 @@
 -- What is shown of the answers of a search. The proofs stand in proofs/SameVector.antt, Stopped.antt and EachStep.antt.
+use Rattle.codes.specs.Codes.{pass}
 use Rattle.std.specs.Prelude.{◌≡◌, List, map, ℕ, ℤ, length, take}
-use Rattle.codes.specs.declared.Check.TheVariants.{Pass}
 use Rattle.boxes.specs.declared.Box.{Box}
 use Rattle.jobs.specs.declared.Job.{Job}
 use Rattle.points.specs.Points.{points_of}
@@ -45,7 +45,7 @@ with_budget k job =
 abbrev pub EachStep : Type 0
 EachStep =
     (store : List ℕ) (job : Job) (table after : List ℤ) (bounds entries : List ℕ) (k : ℕ) (s : State) →
-    check_lent store job table bounds ≡ Pass →
+    check_lent store job table bounds ≡ pass →
     Reached (cost job.model (points_of store)) (bound job.model (points_of store)) job.budget (row_count table) job.t
     job.start job.domain k s →
     TableSearched store (with_budget k job) table bounds after →

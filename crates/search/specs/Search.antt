@@ -1,7 +1,6 @@
 -- What a search answers: "The search" over the points of a store, with the checks 1 to 8 and 14 before it. What it leaves in lent memory.
-use Rattle.std.specs.Prelude.{◌≡◌, List, ◌++◌, map, ℕ, ◌*◌, ℤ, pos, length, take, drop, replicate}
-use Rattle.codes.specs.declared.Check.{Check}
-use Rattle.codes.specs.declared.Check.TheVariants.{Pass, Refuse}
+use Rattle.codes.specs.Codes.{Check, pass}
+use Rattle.std.specs.Prelude.{◌≡◌, List, ◌++◌, map, ℕ, ◌*◌, ℤ, pos, length, take, drop, replicate, Ok, Err}
 use Rattle.codes.specs.declared.Refusal.{Refusal}
 use Rattle.boxes.specs.declared.Box.{Box}
 use Rattle.jobs.specs.declared.Job.{Job}
@@ -53,29 +52,29 @@ refused why = record { kind = Refused why; vector = replicate 8 (pos 0); cost = 
 
 -- "A search accepts a job when none of the checks that it makes, by the codes below, refuses the call."
 abbrev pub answer_unless_refused : Check → Search.Answer → Answer
-answer_unless_refused Pass r = told r
-answer_unless_refused (Refuse why) r = refused why
+answer_unless_refused (Ok _) r = told r
+answer_unless_refused (Err why) r = refused why
 
 -- What a search leaves of the table, by its check and by what it comes to. "At the end the first rows hold the open boxes in list order.
 -- Rows from there up to peak may hold leftovers; from peak on, and in a partial row, nothing changed." At a refusal nothing changed at all.
 pub record TableAfter (check : Check) (found : Search.Answer) (table after : List ℤ) : Type 0 where
   pub long : length after ≡ length table
-  pub untouched : (why : Refusal) → check ≡ Refuse why → after ≡ table
+  pub untouched : (why : Refusal) → check ≡ Err why → after ≡ table
   -- The leftovers are free: boxes of any signed 16-bit numbers, as many as peak is more than the open count.
   pub leftovers : List Box
-  pub rows : check ≡ Pass → rows_of after found.peak ≡ found.list ++ leftovers
-  pub rest : check ≡ Pass → drop (16 * found.peak) after ≡ drop (16 * found.peak) table
+  pub rows : check ≡ pass → rows_of after found.peak ≡ found.list ++ leftovers
+  pub rest : check ≡ pass → drop (16 * found.peak) after ≡ drop (16 * found.peak) table
 
 -- What it leaves of the list of bounds. Document 02: "keep each open row's bound in a second lent list of unsigned 64-bit numbers", "the
 -- entry equals that bound by definition. Entries from the open count up to peak .. are as free as the rows there, and those from there on
 -- keep their contents." At a refusal nothing changed at all.
 pub record BoundsAfter (bound : Box → ℕ) (check : Check) (found : Search.Answer) (bounds after : List ℕ) : Type 0 where
   pub long : length after ≡ length bounds
-  pub untouched : (why : Refusal) → check ≡ Refuse why → after ≡ bounds
+  pub untouched : (why : Refusal) → check ≡ Err why → after ≡ bounds
   -- The leftovers are free: any unsigned 64-bit numbers, as many as peak is more than the open count.
   pub leftovers : List ℕ
-  pub entries : check ≡ Pass → take found.peak after ≡ map bound found.list ++ leftovers
-  pub rest : check ≡ Pass → drop found.peak after ≡ drop found.peak bounds
+  pub entries : check ≡ pass → take found.peak after ≡ map bound found.list ++ leftovers
+  pub rest : check ≡ pass → drop found.peak after ≡ drop found.peak bounds
 
 -- of what a search in so many rows comes to demand 3 holds
 abbrev pub CertifiedIn : List ℕ → Job → ℕ → Type 0
@@ -105,4 +104,4 @@ module _ (store : List ℕ) (job : Job) (table : List ℤ) (bounds : List ℕ) w
 
   -- An answer r to an accepted job is certified: it tells what the search comes to, and of that demand 3 holds.
   abbrev pub Certified : Answer → Type 0
-  Certified r = check_lent ≡ Pass → (r ≡ told searched_lent) × CertifiedIn store job (row_count table)
+  Certified r = check_lent ≡ pass → (r ≡ told searched_lent) × CertifiedIn store job (row_count table)

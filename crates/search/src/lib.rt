@@ -8,7 +8,7 @@ ghost use Rattle.std.specs.Prelude.{◌≡◌};
 ghost use Rattle.search.specs.Search.{refused, search_answer, TableSearched, BoundsSearched, Certified};
 
 use crate::run::run;
-use codes::{Check, Refusal};
+use codes::Refusal;
 use eval_lanes::{Chunk, Lanes};
 use jobs::Job;
 use list_blocks::{Leasts, Places};
@@ -59,7 +59,7 @@ pub fn search(store: &[u8], job: Job, table: &mut [i16], bounds: &mut [u64]) -> 
     ensures certificate { Certified store.now job table.old bounds.old result }
 {
     match check_search(store, job, table.len(), bounds.len()) {
-        Check::Pass => {
+        Ok(()) => {
             let m = job.model;
             let column: Lanes = [0.0; 80];
             let chunk: Chunk = [column; 5];
@@ -81,6 +81,6 @@ pub fn search(store: &[u8], job: Job, table: &mut [i16], bounds: &mut [u64]) -> 
                 &mut beside,
             )
         }
-        Check::Refuse(why) => refusal(why),
+        Err(why) => refusal(why),
     }
 }

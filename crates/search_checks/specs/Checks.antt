@@ -1,8 +1,7 @@
 -- The checks of a search: 1 to 8 and 14.
 use Rattle.std.specs.Prelude.{List, [], ◌∷◌, ℕ, ◌/◌, leb}
-use Rattle.codes.specs.declared.Check.{Check}
 use Rattle.codes.specs.declared.Refusal.{Refusal}
-use Rattle.codes.specs.Codes.{pass_if, in_order}
+use Rattle.codes.specs.Codes.{Check, pass_if, in_order}
 use Rattle.boxes.specs.Boxes.{check_box, check_start}
 use Rattle.jobs.specs.declared.Job.{Job}
 use Rattle.points.specs.Points.{points_of, check_stray}

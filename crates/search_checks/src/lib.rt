@@ -6,33 +6,33 @@ ghost use Rattle.codes.specs.Codes.{pass_if};
 ghost use Rattle.codes.specs.declared.Refusal.{Refusal};
 ghost use Rattle.search_checks.specs.Checks.{check_job, check_search};
 
-use codes::{Check, Refusal, in_order};
+use codes::{Refusal, in_order};
 use jobs::Job;
 
 // Check 8, of the numbers that the table has.
-pub fn check_table(numbers: usize) -> Check
+pub fn check_table(numbers: usize) -> Result<(), Refusal>
     ensures { result ≡ pass_if (leb 16 numbers) Refusal.Table }
 {
     if 16 <= numbers {
-        Check::Pass
+        Ok(())
     } else {
-        Check::Refuse(Refusal::Table)
+        Err(Refusal::Table)
     }
 }
 
 // Check 14, of the entries beside a table of so many numbers.
-pub fn check_bounds(numbers: usize, entries: usize) -> Check
+pub fn check_bounds(numbers: usize, entries: usize) -> Result<(), Refusal>
     ensures { result ≡ pass_if (leb (numbers / 16) entries) Refusal.Bounds }
 {
     if numbers / 16 <= entries {
-        Check::Pass
+        Ok(())
     } else {
-        Check::Refuse(Refusal::Bounds)
+        Err(Refusal::Bounds)
     }
 }
 
 // Checks 1 to 7. Only where checks 1 to 6 pass is the store looked through for stray fields.
-pub fn check_job(store: &[u8], job: Job) -> Check
+pub fn check_job(store: &[u8], job: Job) -> Result<(), Refusal>
     ensures { result ≡ check_job store.now job }
 {
     let m = job.model;
@@ -43,13 +43,13 @@ pub fn check_job(store: &[u8], job: Job) -> Check
         boxes::check_start(domain, start),
     );
     match in_order(model_checks::check_model(store, m), region) {
-        Check::Pass => points::check_stray(store, m.d),
-        Check::Refuse(r) => Check::Refuse(r),
+        Ok(()) => points::check_stray(store, m.d),
+        Err(r) => Err(r),
     }
 }
 
 // Checks 1 to 8 and 14, with a table of so many numbers and a list of so many entries.
-pub fn check_search(store: &[u8], job: Job, numbers: usize, entries: usize) -> Check
+pub fn check_search(store: &[u8], job: Job, numbers: usize, entries: usize) -> Result<(), Refusal>
     ensures { result ≡ check_search store.now job numbers entries }
 {
     let given = check_job(store, job);

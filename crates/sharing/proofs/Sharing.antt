@@ -6,8 +6,8 @@ use native.Mathlib.Omega.{arith}
 use lib.IntN.{ℤ}
 use lib.ListN.{length, take, drop, length-append, length-take}
 use lib.Seq.{take_at, take-take}
-use Rattle.codes.specs.declared.Check.{Check}
-use Rattle.codes.specs.declared.Check.TheVariants.{Pass, Refuse}
+use Rattle.codes.specs.Codes.{Check, pass}
+use Rattle.std.specs.Prelude.{Ok, Err}
 use Rattle.list_rows.specs.Rows.{rows_of}
 use Rattle.list_rows.proofs.Rows.{rows_length, rows_take, rest_later}
 use Rattle.search.specs.Search.{TableAfter, BoundsAfter}
@@ -51,7 +51,7 @@ module _ (runs : List Run) (r : Run) where
   peak_own : r.found.peak ≤ largest_peak (runs ++ (r ∷ []))
   peak_own = omega (arith, peak_more runs r)
 
-  table_more : (check : Check) (table before after : List ℤ) → check ≡ Pass → SharedTable runs table before
+  table_more : (check : Check) (table before after : List ℤ) → check ≡ pass → SharedTable runs table before
       → TableAfter check r.found before after → SharedTable (runs ++ (r ∷ [])) table after
   table_more check table before after ok s t =
       let boxes = r.found.list in
@@ -67,7 +67,7 @@ module _ (runs : List Run) (r : Run) where
             (omega (arith, peak_before)) (omega (arith, peak_own)) s.rest (t.rest ok);
       }
 
-  bounds_more : (check : Check) (bounds before after : List ℕ) → check ≡ Pass → SharedBounds runs bounds before
+  bounds_more : (check : Check) (bounds before after : List ℕ) → check ≡ pass → SharedBounds runs bounds before
       → BoundsAfter r.bound check r.found before after → SharedBounds (runs ++ (r ∷ [])) bounds after
   bounds_more check bounds before after ok s t =
       let own = map r.bound r.found.list in
@@ -86,13 +86,13 @@ module _ (runs : List Run) (r : Run) where
 
   table_next : (check : Check) (table before after : List ℤ) → SharedTable runs table before
       → TableAfter check r.found before after → SharedTable (runs ++ run_if check r) table after
-  table_next Pass table before after s t = table_more Pass table before after refl s t
-  table_next (Refuse why) table before after s t = rw (append-nil runs, t.untouched why refl) s
+  table_next (Ok _) table before after s t = table_more pass table before after refl s t
+  table_next (Err why) table before after s t = rw (append-nil runs, t.untouched why refl) s
 
   bounds_next : (check : Check) (bounds before after : List ℕ) → SharedBounds runs bounds before
       → BoundsAfter r.bound check r.found before after → SharedBounds (runs ++ run_if check r) bounds after
-  bounds_next Pass bounds before after s t = bounds_more Pass bounds before after refl s t
-  bounds_next (Refuse why) bounds before after s t = rw (append-nil runs, t.untouched why refl) s
+  bounds_next (Ok _) bounds before after s t = bounds_more pass bounds before after refl s t
+  bounds_next (Err why) bounds before after s t = rw (append-nil runs, t.untouched why refl) s
 
 pub table_shared : TableShared
 unfolding largest_peak last_open rows_of

@@ -2,8 +2,7 @@
 -- searches, its first rows hold the last one's open boxes, and rows up to the largest peak may hold leftovers." Request 3: "Entries from
 -- the open count up to peak, of several searches the largest, are as free as the rows there, and those from there on keep their contents."
 use Rattle.std.specs.Prelude.{◌≡◌, List, [], ◌∷◌, map, ℕ, ◌*◌, max, ℤ, length, take, drop}
-use Rattle.codes.specs.declared.Check.{Check}
-use Rattle.codes.specs.Codes.{if_passed}
+use Rattle.codes.specs.Codes.{Check, if_passed}
 use Rattle.boxes.specs.declared.Box.{Box}
 use Rattle.list_rows.specs.Rows.{rows_of}
 use Rattle.certificate.specs.Search as Search

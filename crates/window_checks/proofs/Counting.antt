@@ -5,8 +5,8 @@ use Prim.Native.Nat.{ℕ, ◌-◌, ◌≤◌}
 use native.Mathlib.Nat.{le-div_iff_mul-le, div-le_self}
 use native.Mathlib.Omega.{arith}
 use lib.Dec.{leb, leb→le}
+use Rattle.codes.specs.Codes.{pass}
 use Rattle.integers.proofs.Tests.{and_parts}
-use Rattle.codes.specs.declared.Check.TheVariants.{Pass}
 use Rattle.codes.specs.declared.Refusal.{Refusal}
 use Rattle.codes.proofs.Checks.{passed}
 use Rattle.window_checks.specs.Checks.{window_count, check_window}
@@ -31,7 +31,7 @@ pub record Windowed (records k h : ℕ) : Type 0 where
   pub hops : 1 ≤ h
   pub few : k ≤ records
 
-pub windowed : (records k h : ℕ) → check_window records k h ≡ Pass → Windowed records k h
+pub windowed : (records k h : ℕ) → check_window records k h ≡ pass → Windowed records k h
 unfolding check_window
 windowed records k h e =
     let tests = and_parts (leb 1 k) (leb 1 h && leb k records) (passed (leb 1 k && (leb 1 h && leb k records)) Refusal.Window e) in

@@ -6,14 +6,12 @@ use Prim.Native.Nat.{ℕ, ◌+◌, ◌*◌, ◌/◌, ◌%◌, ◌≤◌, ◌<◌
 use native.Mathlib.Omega.{arith}
 use lib.Dec.{leb, eqb, leb→le}
 use lib.ListN.{length}
+use Rattle.std.specs.Prelude.{Ok, Err}
 use Rattle.integers.specs.Lists.{All, none, also}
 use Rattle.integers.proofs.Lists.{all_head, all_tail}
 use Rattle.integers.proofs.Tests.{and_parts}
-use Rattle.codes.specs.declared.Check.{Check}
-use Rattle.codes.specs.declared.Check.TheVariants.{Pass, Refuse}
-use Rattle.codes.specs.declared.Outcome.TheVariants.{Value, Refused}
 use Rattle.codes.specs.declared.Refusal.{Refusal}
-use Rattle.codes.specs.Codes.{in_order, pass_if, within, unless_refused}
+use Rattle.codes.specs.Codes.{Check, pass, in_order, pass_if, within, unless_refused}
 use Rattle.codes.proofs.Checks.{passed, first_passed, others_passed}
 use Rattle.scale.specs.Scale.{check_scale}
 use Rattle.boxes.specs.Shape.{check_shape}
@@ -25,20 +23,20 @@ use Rattle.window_checks.specs.Checks.{window_count, check_given, check_window, 
 use Rattle.window_checks.proofs.Counting.{Windowed, windowed, inside}
 
 -- checks that all pass
-pub each_passed : (cs : List Check) → in_order cs ≡ Pass → All (λ c. c ≡ Pass) cs
+pub each_passed : (cs : List Check) → in_order cs ≡ pass → All (λ c. c ≡ pass) cs
 each_passed [] e = none
 each_passed (c ∷ cs) e = also (first_passed c cs e) (each_passed cs (others_passed c cs e))
 
 -- an outcome that is a value, or a refusal, tells of its check
-pub value_passed : (check : Check) (n v : ℕ) → unless_refused check n ≡ Value v → (check ≡ Pass) × (v ≡ n)
-value_passed Pass n v e = (refl, cc)
-value_passed (Refuse r) n v e = let z : ◌≡◌ {A = ℕ} 0 1 = cc in absurd (omega arith)
+pub value_passed : (check : Check) (n v : ℕ) → unless_refused check n ≡ Ok v → (check ≡ pass) × (v ≡ n)
+value_passed (Ok _) n v e = (refl, cc)
+value_passed (Err r) n v e = let z : ◌≡◌ {A = ℕ} 0 1 = cc in absurd (omega arith)
 
-pub refusal_refused : (check : Check) (n : ℕ) (r : Refusal) → unless_refused check n ≡ Refused r → check ≡ Refuse r
-refusal_refused Pass n r e = let z : ◌≡◌ {A = ℕ} 0 1 = cc in absurd (omega arith)
-refusal_refused (Refuse s) n r e = cc
+pub refusal_refused : (check : Check) (n : ℕ) (r : Refusal) → unless_refused check n ≡ Err r → check ≡ Err r
+refusal_refused (Ok _) n r e = let z : ◌≡◌ {A = ℕ} 0 1 = cc in absurd (omega arith)
+refusal_refused (Err s) n r e = cc
 
-store_few : (bytes : ℕ) → check_store bytes ≡ Pass → bytes / 12 ≤ 4096
+store_few : (bytes : ℕ) → check_store bytes ≡ pass → bytes / 12 ≤ 4096
 unfolding check_store
 store_few bytes e =
     let tests = and_parts (within 1 bytes 49152) (eqb (bytes % 12) 0) (passed (within 1 bytes 49152 && eqb (bytes % 12) 0) Refusal.Length e) in
@@ -46,10 +44,10 @@ store_few bytes e =
     omega arith
 
 -- checks 1 to 7
-module _ (store : List ℕ) (job : Job) (k : ℕ) (ok : check_given store job k ≡ Pass) where
+module _ (store : List ℕ) (job : Job) (k : ℕ) (ok : check_given store job k ≡ pass) where
   pub given_all :
       let m = job.model in
-      All (λ c. c ≡ Pass)
+      All (λ c. c ≡ pass)
       (check_store (length store)
       ∷ check_shape m.n m.d
       ∷ check_scale m.scale
@@ -64,13 +62,13 @@ module _ (store : List ℕ) (job : Job) (k : ℕ) (ok : check_given store job k 
   pub records_few : length store / 12 ≤ 4096
   records_few = store_few (length store) (all_head given_all)
 
-  pub start_given : check_start job.domain job.start ≡ Pass
+  pub start_given : check_start job.domain job.start ≡ pass
   start_given = all_head (all_tail (all_tail (all_tail (all_tail (all_tail given_all)))))
 
 -- all of them
-module _ (store : List ℕ) (job : Job) (k h numbers entries room : ℕ) (ok : check_windows store job k h numbers entries room ≡ Pass) where
+module _ (store : List ℕ) (job : Job) (k h numbers entries room : ℕ) (ok : check_windows store job k h numbers entries room ≡ pass) where
   pass_all :
-      All (λ c. c ≡ Pass)
+      All (λ c. c ≡ pass)
       (check_given store job k
       ∷ check_window (length store / 12) k h
       ∷ check_lent_for (window_count (length store / 12) k h) numbers entries room
@@ -78,14 +76,14 @@ module _ (store : List ℕ) (job : Job) (k h numbers entries room : ℕ) (ok : c
   unfolding check_windows
   pass_all = each_passed _ ok
 
-  pub given : check_given store job k ≡ Pass
+  pub given : check_given store job k ≡ pass
   given = all_head pass_all
 
   pub window_given : Windowed (length store / 12) k h
   window_given = windowed (length store / 12) k h (all_head (all_tail pass_all))
 
   lent_all :
-      All (λ c. c ≡ Pass)
+      All (λ c. c ≡ pass)
       (pass_if (leb 16 numbers) Refusal.Table
       ∷ pass_if (leb (numbers / 16) entries) Refusal.Bounds
       ∷ pass_if (leb (40 * window_count (length store / 12) k h) room) Refusal.Short
@@ -93,10 +91,10 @@ module _ (store : List ℕ) (job : Job) (k h numbers entries room : ℕ) (ok : c
   unfolding check_lent_for
   lent_all = each_passed _ (all_head (all_tail (all_tail pass_all)))
 
-  pub table_given : pass_if (leb 16 numbers) Refusal.Table ≡ Pass
+  pub table_given : pass_if (leb 16 numbers) Refusal.Table ≡ pass
   table_given = all_head lent_all
 
-  pub bounds_given : pass_if (leb (numbers / 16) entries) Refusal.Bounds ≡ Pass
+  pub bounds_given : pass_if (leb (numbers / 16) entries) Refusal.Bounds ≡ pass
   bounds_given = all_head (all_tail lent_all)
 
   pub room_given : 40 * window_count (length store / 12) k h ≤ room

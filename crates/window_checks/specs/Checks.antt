@@ -1,9 +1,8 @@
 -- The windows of a store, how many there are, and the checks before the first of them is searched. Document 02, request 9: "Take a window
 -- length k and a hop h, in records."
 use Rattle.std.specs.Prelude.{◌&&◌, List, [], ◌∷◌, ℕ, ◌+◌, ◌-◌, ◌*◌, ◌/◌, leb, length, take, drop}
-use Rattle.codes.specs.declared.Check.{Check}
 use Rattle.codes.specs.declared.Refusal.{Refusal}
-use Rattle.codes.specs.Codes.{pass_if, in_order}
+use Rattle.codes.specs.Codes.{Check, pass_if, in_order}
 use Rattle.scale.specs.Scale.{check_scale}
 use Rattle.boxes.specs.Shape.{check_shape}
 use Rattle.boxes.specs.Boxes.{check_box, check_start}

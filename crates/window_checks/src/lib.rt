@@ -6,11 +6,11 @@ ghost use Rattle.codes.specs.Codes.{pass_if, unless_refused};
 ghost use Rattle.codes.specs.declared.Refusal.{Refusal};
 ghost use Rattle.window_checks.specs.Checks.{window_count, check_given, check_window, check_lent_for, check_windows};
 
-use codes::{Check, Outcome, Refusal, in_order};
+use codes::{Refusal, in_order};
 use jobs::Job;
 
 // Checks 1 to 7, with check 4 for k records. Only where checks 1 to 6 pass is the store looked through for stray fields.
-fn check_given(store: &[u8], job: Job, k: usize) -> Check
+fn check_given(store: &[u8], job: Job, k: usize) -> Result<(), Refusal>
     ensures { result ≡ check_given store.now job k }
 {
     let m = job.model;
@@ -29,25 +29,25 @@ fn check_given(store: &[u8], job: Job, k: usize) -> Check
         boxes::check_start(domain, start),
     );
     match in_order(in_order(shape, numbers), region) {
-        Check::Pass => points::check_stray(store, m.d),
-        Check::Refuse(r) => Check::Refuse(r),
+        Ok(()) => points::check_stray(store, m.d),
+        Err(r) => Err(r),
     }
 }
 
 // Check 17.
-fn check_window(records: usize, k: usize, h: usize) -> Check
+fn check_window(records: usize, k: usize, h: usize) -> Result<(), Refusal>
     ensures { result ≡ check_window records k h }
 {
     if k < 1 {
-        return Check::Refuse(Refusal::Window);
+        return Err(Refusal::Window);
     }
     if h < 1 {
-        return Check::Refuse(Refusal::Window);
+        return Err(Refusal::Window);
     }
     if k <= records {
-        Check::Pass
+        Ok(())
     } else {
-        Check::Refuse(Refusal::Window)
+        Err(Refusal::Window)
     }
 }
 
@@ -60,19 +60,19 @@ fn window_count(records: usize, k: usize, h: usize) -> usize
 }
 
 // Check 10.
-fn check_room(count: usize, room: usize) -> Check
+fn check_room(count: usize, room: usize) -> Result<(), Refusal>
     requires { count ≤ 4097 }
     ensures { result ≡ pass_if (leb (40 * count) room) Refusal.Short }
 {
     if 40 * count <= room {
-        Check::Pass
+        Ok(())
     } else {
-        Check::Refuse(Refusal::Short)
+        Err(Refusal::Short)
     }
 }
 
 // So many windows, if what is lent suffices for them.
-fn unless_short(count: usize, numbers: usize, entries: usize, room: usize) -> Outcome
+fn unless_short(count: usize, numbers: usize, entries: usize, room: usize) -> Result<u64, Refusal>
     requires { count ≤ 4097 }
     ensures { result ≡ unless_refused (check_lent_for count numbers entries room) count }
 {
@@ -81,8 +81,8 @@ fn unless_short(count: usize, numbers: usize, entries: usize, room: usize) -> Ou
         search_checks::check_bounds(numbers, entries),
     );
     match in_order(lent, check_room(count, room)) {
-        Check::Pass => Outcome::Value(count as u64),
-        Check::Refuse(r) => Outcome::Refused(r),
+        Ok(()) => Ok(count as u64),
+        Err(r) => Err(r),
     }
 }
 
@@ -95,7 +95,7 @@ pub fn count_windows(
     numbers: usize,
     entries: usize,
     room: usize,
-) -> Outcome
+) -> Result<u64, Refusal>
     ensures { result
         ≡ unless_refused (check_windows store.now job k h numbers entries room)
         (window_count (length store.now / 12) k h) }
@@ -103,7 +103,7 @@ pub fn count_windows(
     let records = store.len() / 12;
     let given = check_given(store, job, k);
     match in_order(given, check_window(records, k, h)) {
-        Check::Pass => unless_short(window_count(records, k, h), numbers, entries, room),
-        Check::Refuse(r) => Outcome::Refused(r),
+        Ok(()) => unless_short(window_count(records, k, h), numbers, entries, room),
+        Err(r) => Err(r),
     }
 }

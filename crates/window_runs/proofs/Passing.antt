@@ -9,12 +9,10 @@ use native.Mathlib.Omega.{arith}
 use lib.IntN.{ℤ}
 use lib.ListN.{length, take, drop, length-append, length-drop, drop_of_length-le}
 use lib.Seq.{take_at, drop_at, drop-drop}
+use Rattle.codes.specs.Codes.{Check, Outcome, pass}
+use Rattle.std.specs.Prelude.{Ok, Err}
 use Rattle.integers.specs.Lists.{over}
 use Rattle.integers.proofs.Tests.{le_or_lt}
-use Rattle.codes.specs.declared.Check.{Check}
-use Rattle.codes.specs.declared.Check.TheVariants.{Pass, Refuse}
-use Rattle.codes.specs.declared.Outcome.{Outcome}
-use Rattle.codes.specs.declared.Outcome.TheVariants.{Value, Refused}
 use Rattle.codes.specs.declared.Refusal.{Refusal}
 use Rattle.codes.proofs.Checks.{refused_not_passed}
 use Rattle.boxes.specs.Boxes.{InBox}
@@ -65,7 +63,7 @@ records_more m (s ∷ runs) r =
     ∙ sym (append_assoc first (records_of m runs) (answer_bytes (record_of m (told r.found))))
 
 module _
-    (store : List ℕ) (job : Job) (k h : ℕ) (table : List ℤ) (bounds out : List ℕ) (ok : check_pass store job k h table bounds out ≡ Pass)
+    (store : List ℕ) (job : Job) (k h : ℕ) (table : List ℤ) (bounds out : List ℕ) (ok : check_pass store job k h table bounds out ≡ pass)
   where
     abbrev r : ℕ
     r = row_count table
@@ -90,7 +88,7 @@ module _
     unfolding runs_of
     one_record_more n = records_more job.model (runs_of store job k h r n) _
 
-    accepted_from : (i : ℕ) → i < count → InBox (start_of store job k h r i) job.domain → check_lent (part i) (its i) table bounds ≡ Pass
+    accepted_from : (i : ℕ) → i < count → InBox (start_of store job k h r i) job.domain → check_lent (part i) (its i) table bounds ≡ pass
     accepted_from i below =
         window_accepted store job k h (length table) (length bounds) (length out) ok i below (start_of store job k h r i)
 
@@ -102,7 +100,7 @@ module _
         (certificate (part i) (its i) table bounds (accepted_from i (omega arith) (start_inside i (omega arith)))).inside
 
     -- "the answer for that window alone"
-    pub accepted : (i : ℕ) → i < count → check_lent (part i) (its i) table bounds ≡ Pass
+    pub accepted : (i : ℕ) → i < count → check_lent (part i) (its i) table bounds ≡ pass
     accepted i below = accepted_from i below (start_inside i (omega arith))
 
     tells : (i : ℕ) → i < count → search_record (part i) (its i) table bounds ≡ record_of job.model (told (found_in store job k h r i))
@@ -112,7 +110,7 @@ module _
     -- the table and the list that window i is lent are as long as those at the beginning
     module _ (i : ℕ) (below : i < count) (u : List ℤ) (e : List ℕ) (p : SharedTable (runs_of store job k h r i) table u)
         (q : SharedBounds (runs_of store job k h r i) bounds e) where
-      accepted_now : check_lent (part i) (its i) u e ≡ Pass
+      accepted_now : check_lent (part i) (its i) u e ≡ pass
       accepted_now = rw (p.long, q.long) (accepted i below)
 
       same_search : searched_lent (part i) (its i) u e ≡ found_in store job k h r i
@@ -249,7 +247,7 @@ module _
           }
 
     pub turn_accepted : (m i : ℕ) → i < count → (current : Job) (u : List ℤ) (e o lent : List ℕ)
-        → Turn store job k h m table bounds out i current u e o → lent ≡ part i → check_lent lent current u e ≡ Pass
+        → Turn store job k h m table bounds out i current u e o → lent ≡ part i → check_lent lent current u e ≡ pass
     turn_accepted m i below current u e o lent t is-part =
         rw (is-part, t.its) (accepted_now i below u e t.passed.rows t.passed.entries)
 
@@ -266,7 +264,7 @@ module _
 pub alone :
     (store : List ℕ) (job : Job) (table u : List ℤ) (bounds e place place' : List ℕ) (answer : Answer) (told-record : AnswerRecord)
     (check : Check) →
-    check_lent store job table bounds ≡ Pass →
+    check_lent store job table bounds ≡ pass →
     IsJob job →
     length place ≡ 40 →
     (answer ≡ search_answer store job table bounds)
@@ -280,7 +278,7 @@ alone store job table u bounds e place place' answer told-record check ok is for
     let tells : answer ≡ told (searched_lent store job table bounds) = (q.1.1.1 ok).0 in
     let same : told-record ≡ search_record store job table bounds = as-record ∙ ap (record_of job.model) q.0 in
     let long : length (answer_bytes told-record) ≡ 40 = answer_round_trip.size told-record (rw same (fits.numbers ok is)) in
-    let passes : check ≡ Pass = w.0 ∙ write_accepted told-record place (rw same (fits.accepted ok is)) (omega arith) in
+    let passes : check ≡ pass = w.0 ∙ write_accepted told-record place (rw same (fits.accepted ok is)) (omega arith) in
     let none_left : drop (length (answer_bytes told-record)) place ≡ [] = drop_of_length-le place {i = length (answer_bytes told-record)} (omega arith) in
     record {
       next_job = ap (λ (a : Answer). starting_at job a.vector) tells;
@@ -300,8 +298,8 @@ module _ (store : List ℕ) (job : Job) (k h : ℕ) (table : List ℤ) (bounds o
       × (SharedTable (searches_made store job k h table bounds out) table u
       × (SharedBounds (searches_made store job k h table bounds out) bounds e × WindowsCertified store job k h table bounds out o)))
 
-  pub promised_pass : check_pass store job k h table bounds out ≡ Pass → IsJob job → (n : ℕ) → n ≡ window_count (length store / 12) k h
-      → (u : List ℤ) (e o : List ℕ) → Passed store job k h table bounds out n u e o → Promised (Value n) u e o
+  pub promised_pass : check_pass store job k h table bounds out ≡ pass → IsJob job → (n : ℕ) → n ≡ window_count (length store / 12) k h
+      → (u : List ℤ) (e o : List ℕ) → Passed store job k h table bounds out n u e o → Promised (Ok n) u e o
   promised_pass ok is n all u e o p =
       let q = rw all at p in (
         rw (ok, all) refl,
@@ -314,7 +312,7 @@ module _ (store : List ℕ) (job : Job) (k h : ℕ) (table : List ℤ) (bounds o
         ),
       )
 
-  pub promised_refused : (why : Refusal) → check_pass store job k h table bounds out ≡ Refuse why → Promised (Refused why) table bounds out
+  pub promised_refused : (why : Refusal) → check_pass store job k h table bounds out ≡ Err why → Promised (Err why) table bounds out
   unfolding over records_of
   promised_refused why refuses = (
     rw refuses refl,

@@ -8,15 +8,14 @@ use borrow.Author.Tests.{le-leb, eq-eqb}
 use lib.IntN.{ℤ}
 use lib.ListN.{length, take, drop, length-drop, take-append-drop}
 use lib.Seq.{length-take-le}
+use Rattle.std.specs.Prelude.{Err}
 use Rattle.integers.specs.Lists.{All, none, also}
 use Rattle.integers.specs.Integers.{all_zero}
 use Rattle.integers.proofs.Lists.{all_head, all_tail}
 use Rattle.integers.proofs.Tests.{and_both}
-use Rattle.codes.specs.declared.Check.{Check}
-use Rattle.codes.specs.declared.Check.TheVariants.{Pass, Refuse}
 use Rattle.codes.specs.declared.Refusal.{Refusal}
 use Rattle.codes.specs.declared.Refusal.TheVariants.{Stray}
-use Rattle.codes.specs.Codes.{in_order}
+use Rattle.codes.specs.Codes.{Check, pass, in_order}
 use Rattle.codes.proofs.Checks.{refused_not_passed, passes}
 use Rattle.boxes.specs.Boxes.{InBox, at_most, check_start}
 use Rattle.boxes.specs.declared.Box.{Box}
@@ -33,13 +32,13 @@ use Rattle.window_checks.proofs.Passed.{given_all, records_few, given, window_gi
 use Rattle.window_runs.specs.Windows.{starting_at}
 
 -- checks that all pass
-all_pass : {cs : List Check} → All (λ c. c ≡ Pass) cs → in_order cs ≡ Pass
+all_pass : {cs : List Check} → All (λ c. c ≡ pass) cs → in_order cs ≡ pass
 unfolding in_order
 all_pass none = refl
 all_pass (also e es) = rw e (all_pass es)
 
 -- a vector of the box passes check 6
-pub start_passes : (b : Box) (v : List ℤ) → InBox v b → check_start b v ≡ Pass
+pub start_passes : (b : Box) (v : List ℤ) → InBox v b → check_start b v ≡ pass
 unfolding check_start
 start_passes b v i =
     let ends = between_at_most i.between in
@@ -47,22 +46,22 @@ start_passes b v i =
 
 -- where no record is stray, none is in a part of them
 module _ (d : ℕ) where
-  one_clear : (i j : ℕ) (clear : Bool) (c c' : Check) → (c ≡ Pass → c' ≡ Pass) → cond clear c (Refuse (Stray i)) ≡ Pass
-      → cond clear c' (Refuse (Stray j)) ≡ Pass
+  one_clear : (i j : ℕ) (clear : Bool) (c c' : Check) → (c ≡ pass → c' ≡ pass) → cond clear c (Err (Stray i)) ≡ pass
+      → cond clear c' (Err (Stray j)) ≡ pass
   one_clear i j true c c' f e = f e
   one_clear i j false c c' f e = refused_not_passed (Stray i) e
 
-  clear_anywhere : (i j : ℕ) (qs : List Point) → stray_from d i qs ≡ Pass → stray_from d j qs ≡ Pass
+  clear_anywhere : (i j : ℕ) (qs : List Point) → stray_from d i qs ≡ pass → stray_from d j qs ≡ pass
   unfolding stray_from
   clear_anywhere i j [] e = refl
   clear_anywhere i j (q ∷ qs) e = one_clear i j (all_zero (drop d (xs q))) _ _ (clear_anywhere (suc i) (suc j) qs) e
 
-  clear_front : (i : ℕ) (qs rs : List Point) → stray_from d i (qs ++ rs) ≡ Pass → stray_from d i qs ≡ Pass
+  clear_front : (i : ℕ) (qs rs : List Point) → stray_from d i (qs ++ rs) ≡ pass → stray_from d i qs ≡ pass
   unfolding stray_from
   clear_front i [] rs e = refl
   clear_front i (q ∷ qs) rs e = one_clear i i (all_zero (drop d (xs q))) _ _ (clear_front (suc i) qs rs) e
 
-  clear_behind : (i : ℕ) (qs rs : List Point) → stray_from d i (qs ++ rs) ≡ Pass → stray_from d i rs ≡ Pass
+  clear_behind : (i : ℕ) (qs rs : List Point) → stray_from d i (qs ++ rs) ≡ pass → stray_from d i rs ≡ pass
   clear_behind i qs rs e =
       clear_anywhere (i + length qs) i rs (sym (stray_after d i qs rs (clear_front i qs rs e)) ∙ e)
 
@@ -88,14 +87,14 @@ module _ (store : List ℕ) (n k : ℕ) (there : 12 * n + 12 * k ≤ length stor
       ∙ ap (λ (qs : List Point). points_of front ++ qs)
       (ap points_of (sym (take-append-drop (12 * k) (drop (12 * n) store))) ∙ points_append part behind (omega (arith, part_long)))
 
-  part_clear : (d : ℕ) → check_stray d (points_of store) ≡ Pass → check_stray d (points_of part) ≡ Pass
+  part_clear : (d : ℕ) → check_stray d (points_of store) ≡ pass → check_stray d (points_of part) ≡ pass
   unfolding check_stray
   part_clear d e =
       clear_front d 0 (points_of part) (points_of behind)
       (clear_behind d 0 (points_of front) (points_of part ++ points_of behind) (ap (stray_from d 0) (sym three_parts) ∙ e))
 
 -- a store of k records
-store_passes : (bytes k : ℕ) → bytes ≡ 12 * k → 1 ≤ k → k ≤ 4096 → check_store bytes ≡ Pass
+store_passes : (bytes k : ℕ) → bytes ≡ 12 * k → 1 ≤ k → k ≤ 4096 → check_store bytes ≡ pass
 unfolding check_store
 store_passes bytes k e some few =
     rw (le-leb 1 bytes (omega arith), le-leb bytes 49152 (omega arith), eq-eqb (bytes % 12) 0 (omega arith))
@@ -109,9 +108,9 @@ window_lent store k h i =
     rw size refl
 
 -- where the checks let a pass through, a search accepts each window, from any vector of the box
-module _ (store : List ℕ) (job : Job) (k h numbers entries room : ℕ) (ok : check_windows store job k h numbers entries room ≡ Pass) where
+module _ (store : List ℕ) (job : Job) (k h numbers entries room : ℕ) (ok : check_windows store job k h numbers entries room ≡ pass) where
   pub window_accepted : (i : ℕ) → i < window_count (length store / 12) k h → (v : List ℤ) → InBox v job.domain
-      → check_search (window_at store k h i) (starting_at job v) numbers entries ≡ Pass
+      → check_search (window_at store k h i) (starting_at job v) numbers entries ≡ pass
   unfolding check_search check_job check_model window_at
   window_accepted i below v vector =
       let there = window_there store job k h numbers entries room ok i below in

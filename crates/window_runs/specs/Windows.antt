@@ -1,10 +1,7 @@
 -- What a pass through the windows of a store comes to, over the list of its searches. Document 02, request 9.
 use Rattle.std.specs.Prelude.{◌≡◌, List, [], ◌∷◌, ◌++◌, ℕ, zero, suc, ◌*◌, ◌/◌, ◌<◌, ℤ, length, take, drop}
 use Rattle.integers.specs.Lists.{over}
-use Rattle.codes.specs.declared.Check.{Check}
-use Rattle.codes.specs.declared.Check.TheVariants.{Pass}
-use Rattle.codes.specs.declared.Outcome.{Outcome}
-use Rattle.codes.specs.Codes.{unless_refused, if_passed}
+use Rattle.codes.specs.Codes.{Check, Outcome, pass, unless_refused, if_passed}
 use Rattle.jobs.specs.declared.Job.{Job}
 use Rattle.jobs.specs.declared.Model.{Model}
 use Rattle.points.specs.Points.{points_of}
@@ -70,8 +67,8 @@ module _ (store : List ℕ) (job : Job) (k h : ℕ) (table : List ℤ) (bounds o
   -- "Each must equal the answer for that window alone from that start, certificate included": a search that is handed window i alone, with
   -- a table and a list as long as these, accepts it; its record passes check 9 and stands at its place of the output; demand 3 holds.
   pub record WindowCertified (after : List ℕ) (i : ℕ) : Type 0 where
-    pub accepted : check_lent (window_at store k h i) (job_at store job k h (row_count table) i) table bounds ≡ Pass
-    pub fits : check_answer (search_record (window_at store k h i) (job_at store job k h (row_count table) i) table bounds) ≡ Pass
+    pub accepted : check_lent (window_at store k h i) (job_at store job k h (row_count table) i) table bounds ≡ pass
+    pub fits : check_answer (search_record (window_at store k h i) (job_at store job k h (row_count table) i) table bounds) ≡ pass
     pub bytes :
         take 40 (drop (40 * i) after)
         ≡ answer_bytes (search_record (window_at store k h i) (job_at store job k h (row_count table) i) table bounds)
@@ -79,4 +76,4 @@ module _ (store : List ℕ) (job : Job) (k h : ℕ) (table : List ℤ) (bounds o
 
   -- "for any number of windows"
   abbrev pub WindowsCertified : List ℕ → Type 0
-  WindowsCertified after = check_pass ≡ Pass → (i : ℕ) → i < count_lent → WindowCertified after i
+  WindowsCertified after = check_pass ≡ pass → (i : ℕ) → i < count_lent → WindowCertified after i

@@ -2,19 +2,19 @@
 #![tactic(auto)]
 
 ghost use Rattle.std.specs.Prelude.{◌≡◌, ◌/◌, length};
-ghost use Rattle.codes.specs.declared.Check.TheVariants.{Pass};
+ghost use Rattle.codes.specs.Codes.{pass};
 ghost use Rattle.search.specs.Search.{check_lent};
 ghost use Rattle.sharing.specs.Sharing.{SharedTable, SharedBounds};
 ghost use Rattle.window_checks.specs.Checks.{window_count, check_windows};
 ghost use Rattle.window_runs.specs.Windows.{windows_answer, windows_out, searches_made, WindowsCertified};
 ghost use Rattle.window_runs.specs.Inside.{Searched, Passed};
 
-use codes::Outcome;
+use codes::Refusal;
 use jobs::Job;
 
 // One window: its search, and the record of its answer. Answers the job of the next window, which starts at the vector found.
 fn window(store: &[u8], job: Job, table: &mut [i16], bounds: &mut [u64], place: &mut [u8]) -> Job
-    requires { (check_lent store.now job table.old bounds.old ≡ Pass) × (length place.old ≡ 40) }
+    requires { (check_lent store.now job table.old bounds.old ≡ pass) × (length place.old ≡ 40) }
     ensures { Searched store.now job table.old bounds.old result
         table.new bounds.new place.new }
 {
@@ -22,7 +22,7 @@ fn window(store: &[u8], job: Job, table: &mut [i16], bounds: &mut [u64], place: 
     let m = job.model;
     let domain = job.domain;
     let vector = answer.vector;
-    answer_records::write_answer(answers::record_of(m, answer), place);
+    let _ = answer_records::write_answer(answers::record_of(m, answer), place);
     Job {
         model: m,
         t: job.t,
@@ -44,7 +44,7 @@ fn each_window(
     bounds: &mut [u64],
     out: &mut [u8],
 )
-    requires { (check_windows store.now job k h (length table.old) (length bounds.old) (length out.old) ≡ Pass)
+    requires { (check_windows store.now job k h (length table.old) (length bounds.old) (length out.old) ≡ pass)
         × (count ≡ window_count (length store.now / 12) k h) }
     ensures { Passed store.now job k h table.old bounds.old out.old count
         table.new bounds.new out.new }
@@ -71,7 +71,7 @@ pub fn windows(
     table: &mut [i16],
     bounds: &mut [u64],
     out: &mut [u8],
-) -> Outcome
+) -> Result<u64, Refusal>
     ensures answer { result ≡ windows_answer store.now job k h table.old bounds.old out.old }
     ensures out { out.new
         ≡ windows_out store.now job k h table.old bounds.old out.old }
@@ -82,10 +82,10 @@ pub fn windows(
     ensures certificate { WindowsCertified store.now job k h table.old bounds.old out.old out.new }
 {
     match window_checks::count_windows(store, job, k, h, table.len(), bounds.len(), out.len()) {
-        Outcome::Value(count) => {
+        Ok(count) => {
             each_window(store, job, k, h, count as usize, table, bounds, out);
-            Outcome::Value(count)
+            Ok(count)
         }
-        Outcome::Refused(r) => Outcome::Refused(r),
+        Err(r) => Err(r),
     }
 }

@@ -12,11 +12,11 @@ check-answer-requires c κs = search rules
 enum-known-r : tie.Need-enum_known-r
 enum-known-r c = search rules
 
-returns : tie.Need-returns-in-Refuse
+returns : tie.Need-returns-in-Err
 returns c =
     let check = c.before in
     let args = check.args in
-    (sym (write_refused args.a args.out.now c.in-Refuse.r (sym check.check_answer.ensures ∙ c.in-Refuse.is)), refl)
+    (sym (write_refused args.a args.out.now c.in-Err.r (sym check.check_answer.ensures ∙ c.in-Err.is)), refl)
 
 enum_told : tie.Need-enum_told-1
 enum_told c = search rules

@@ -4,8 +4,8 @@ use mathlib.Core.Path.{◌≡◌, sym, ◌∙◌}
 use Prim.Native.Nat.{◌+◌, ◌≤◌}
 use native.Mathlib.Omega.{arith}
 use lib.ListN.{length}
-use Rattle.codes.specs.declared.Check.{Check}
-use Rattle.codes.specs.declared.Check.TheVariants.{Pass, Refuse}
+use Rattle.codes.specs.Codes.{Check, pass}
+use Rattle.std.specs.Prelude.{Err}
 use Rattle.beacon.specs.Beacon.{check_take_in, take_in_answer, store_after}
 use Rattle.beacon.proofs.Laws.{new_mark}
 use Rattle.beacon.proofs.take_in.Statement.{statement}
@@ -15,11 +15,11 @@ use Rattle.beacon.proofs.take_in.Tie as tie
 checks : tie.Start → Check
 checks s = check_take_in (length s.args.store.now) s.args.mark (length s.args.beacon.now)
 
-taken : (c : tie.In-Pass) → checks c.before.before.before.before ≡ Pass
+taken : (c : tie.In-Ok) → checks c.before.before.before.before ≡ pass
 unfolding checks
-taken c = sym c.check_take_in.ensures ∙ c.in-Pass.is
+taken c = sym c.check_take_in.ensures ∙ c.in-Ok.is
 
-room : (s : tie.Start) → checks s ≡ Pass
+room : (s : tie.Start) → checks s ≡ pass
     → (s.args.mark + length s.args.beacon.now ≤ length s.args.store.now)
     × (s.args.mark + length s.args.beacon.now ≤ 49152)
 unfolding checks
@@ -43,18 +43,18 @@ enum-known-r c = search rules
 same_length : tie.Need-shape_of-store
 same_length c = search rules
 
-returns : tie.Need-returns-in-Pass
+returns : tie.Need-returns-in-Ok
 unfolding take_in_answer store_after checks
 returns c =
     let passed = taken c.before.before.before.before in
     (rw passed, rw passed c.copy_behind.ensures)
 
-returns-2 : tie.Need-returns-in-Refuse
+returns-2 : tie.Need-returns-in-Err
 unfolding take_in_answer store_after checks
 returns-2 c =
     let k = c.before in
-    let refused : checks k.before.before.before ≡ Refuse c.in-Refuse.r =
-    sym k.check_take_in.ensures ∙ c.in-Refuse.is in
+    let refused : checks k.before.before.before ≡ Err c.in-Err.r =
+    sym k.check_take_in.ensures ∙ c.in-Err.is in
     (rw refused, rw refused)
 
 pub take_in_spec : {M : Type 1} → statement M

@@ -3,9 +3,8 @@ use mathlib.Core.Path.{sym, ap, ap₂, ◌∙◌}
 use mathlib.Core.List.{[], ◌∷◌}
 use Prim.Native.Nat.{ℕ}
 use lib.Dec.{leb}
-use Rattle.codes.specs.declared.Check.{Check}
 use Rattle.codes.specs.declared.Refusal.TheVariants.{Short}
-use Rattle.codes.specs.Codes.{in_order, pass_if}
+use Rattle.codes.specs.Codes.{Check, in_order, pass_if}
 use Rattle.beacon_costs.specs.BeaconCosts.{check_by_beacon}
 use Rattle.beacon_costs.proofs.Writing.{group_number}
 use borrow.Author.Rules.{rules}

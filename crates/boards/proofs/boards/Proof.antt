@@ -1,7 +1,7 @@
 -- By check 18: job after job, or nothing.
 use mathlib.Core.Path.{◌≡◌, sym, ◌∙◌}
 use lib.ListN.{length}
-use Rattle.codes.specs.declared.Check.TheVariants.{Pass}
+use Rattle.codes.specs.Codes.{pass}
 use Rattle.boards.specs.Boards.{check_jobs}
 use Rattle.boards.proofs.Boarding.{promised_pass, promised_refused}
 use borrow.Author.Rules.{rules}
@@ -15,10 +15,10 @@ enum_told : tie.Need-enum_told-1
 enum_told c = search rules
 
 -- check 18 passes
-ok : (c : tie.In-Pass) →
+ok : (c : tie.In-Ok) →
     let a = c.args in
-    check_jobs a.count (length a.jobs.now) (length a.lengths.now) ≡ Pass
-ok c = sym c.check_jobs.ensures ∙ c.in-Pass.is
+    check_jobs a.count (length a.jobs.now) (length a.lengths.now) ≡ pass
+ok c = sym c.check_jobs.ensures ∙ c.in-Ok.is
 
 each-board-requires : tie.Need-each_board-requires
 each-board-requires c κs = ok c.before.before
@@ -35,7 +35,7 @@ same_length c = search rules
 same-length-2 : tie.Need-shape_of-bounds
 same-length-2 c = search rules
 
-returns : tie.Need-returns-in-Pass
+returns : tie.Need-returns-in-Ok
 returns c =
     let each = c.before.before.before in
     let told = each.before.before.before in
@@ -44,13 +44,13 @@ returns c =
     each.each_board.result each.each_board.new.table each.each_board.new.bounds (ok told)
     each.each_board.ensures
 
-returns-2 : tie.Need-returns-in-Refuse
+returns-2 : tie.Need-returns-in-Err
 returns-2 c =
     let why = c.before in
     let q = why.before in
     let a = q.args in
     promised_refused a.count a.total a.jobs.now a.stores.now a.lengths.now a.table.now a.bounds.now
-    why.in-Refuse.why c.refusal.result (sym q.check_jobs.ensures ∙ why.in-Refuse.is) c.refusal.ensures
+    why.in-Err.why c.refusal.result (sym q.check_jobs.ensures ∙ why.in-Err.is) c.refusal.ensures
 
 pub boards_spec : {M : Type 1} → statement M
 boards_spec =

@@ -12,11 +12,11 @@ enum-known-check c = search rules
 number-requires : tie.Need-number-requires
 number-requires c κs = search rules
 
-returns : tie.Need-returns-in-Pass
+returns : tie.Need-returns-in-Ok
 returns c = search rules
 
-returns-2 : tie.Need-returns-in-Refuse
-returns-2 c = rw c.in-Refuse.is c.number.ensures
+returns-2 : tie.Need-returns-in-Err
+returns-2 c = rw c.in-Err.is c.number.ensures
 
 pub refusal_number_spec : {M : Type 1} → statement M
 refusal_number_spec =

@@ -47,7 +47,7 @@ same_length c = search rules
 same-length-2 : tie.Need-shape_of-numbers
 same-length-2 c = search rules
 
-returns-2 : tie.Need-returns-in-Pass
+returns-2 : tie.Need-returns-in-Ok
 returns-2 c =
     let lay = c.before.before.before in
     let told = lay.before.before.before in
@@ -59,12 +59,12 @@ returns-2 c =
     let answer = r.read_answer-read.result.answer in
     let vector = filled_whole a.vector.now answer.vector (room.0 ∙ sym out.1.1) in
     let numbers = filled_whole a.numbers.now (answer_numbers answer) room.1 in
-    rw (right, ← r.read_answer-read.ensures, told.in-Pass.is) (refl, (rw vector at out.0, rw numbers at out.1.0))
+    rw (right, ← r.read_answer-read.ensures, told.in-Ok.is) (refl, (rw vector at out.0, rw numbers at out.1.0))
 
-returns-3 : tie.Need-returns-in-Refuse
+returns-3 : tie.Need-returns-in-Err
 returns-3 c =
     let r = c.before.before.before in
-    rw (lengths-right r, ← r.read_answer-read.ensures, c.in-Refuse.is) (c.refusal_code.ensures, (refl, refl))
+    rw (lengths-right r, ← r.read_answer-read.ensures, c.in-Err.is) (c.refusal_code.ensures, (refl, refl))
 
 pub read_answer_spec : {M : Type 1} → statement M
 read_answer_spec =

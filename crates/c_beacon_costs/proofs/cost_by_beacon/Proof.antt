@@ -5,7 +5,7 @@ use mathlib.Core.List.{List}
 use borrow.Author.Tests.{eq-eqb, ne_eqb}
 use lib.IntN.{ℤ}
 use lib.ListN.{length}
-use Rattle.codes.specs.declared.Outcome.{Outcome}
+use Rattle.codes.specs.Codes.{Outcome}
 use Rattle.jobs.specs.declared.Model.{Model}
 use Rattle.beacon_costs.specs.BeaconCosts.{cost_by_beacon, sums_after}
 use Rattle.c_boundary.specs.Boundary.{model_of, answered, code_of, value_after}

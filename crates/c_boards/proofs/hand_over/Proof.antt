@@ -27,7 +27,7 @@ slice-aggregate-fill-patterns c = search rules
 fill-patterns-requires : tie.Need-fill_patterns-requires
 fill-patterns-requires c κs = search rules
 
-abbrev begun : tie.In-Pass → tie.Start
+abbrev begun : tie.In-Ok → tie.Start
 begun c = c.before.before.before.before.before.before
 
 each-slot-requires : tie.Need-each_slot-requires
@@ -53,7 +53,7 @@ same-length-3 c = search rules
 same-length-4 : tie.Need-shape_of-numbers
 same-length-4 c = search rules
 
-returns : tie.Need-returns-in-Pass
+returns : tie.Need-returns-in-Ok
 returns c =
     let e = c.before.before.before.before.before in
     let f = e.before.before.before.before.before.before in
@@ -61,15 +61,15 @@ returns c =
     let s = begun t in
     let a = s.args in
     handed_pass a.count a.b a.codes.now a.budgets.now a.vectors.now a.numbers.now e.each_slot.new.codes
-    f.fill_patterns.new.out e.each_slot.new.vectors e.each_slot.new.numbers t.in-Pass.is
+    f.fill_patterns.new.out e.each_slot.new.vectors e.each_slot.new.numbers t.in-Ok.is
     (omega (arith, (sizes s).1.0, eight s)) f.fill_patterns.ensures e.each_slot.ensures
 
-returns-2 : tie.Need-returns-in-Refuse
+returns-2 : tie.Need-returns-in-Err
 returns-2 c =
     let why = c.before in
     let a = why.args in
     handed_refused a.count a.b a.codes.now a.budgets.now a.vectors.now a.numbers.now c.refusal_code.result
-    why.in-Refuse.why why.in-Refuse.is c.refusal_code.ensures
+    why.in-Err.why why.in-Err.is c.refusal_code.ensures
 
 pub hand_over_spec : {M : Type 1} → statement M
 hand_over_spec =

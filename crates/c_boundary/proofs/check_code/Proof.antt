@@ -12,11 +12,11 @@ enum-known-c c = search rules
 refusal-code-requires : tie.Need-refusal_code-requires
 refusal-code-requires c κs = search rules
 
-returns : tie.Need-returns-in-Pass
+returns : tie.Need-returns-in-Ok
 returns c = search rules
 
-returns-2 : tie.Need-returns-in-Refuse
-returns-2 c = rw c.in-Refuse.is c.refusal_code.ensures
+returns-2 : tie.Need-returns-in-Err
+returns-2 c = rw c.in-Err.is c.refusal_code.ensures
 
 pub check_code_spec : {M : Type 1} → statement M
 check_code_spec =

@@ -51,7 +51,7 @@ same-length-2 c = search rules
 same-length-3 : tie.Need-shape_of-start
 same-length-3 c = search rules
 
-returns-2 : tie.Need-returns-in-Pass
+returns-2 : tie.Need-returns-in-Ok
 returns-2 c =
     let lay = c.before.before.before.before in
     let told = lay.before.before.before.before in
@@ -63,15 +63,15 @@ returns-2 c =
     let job = r.read_job-read.result.job in
     let numbers = filled_whole a.numbers.now (job_numbers job) room.0 in
     let first = filled_whole a.start.now job.start (room.1 ∙ sym out.1.1.1) in
-    rw (right, ← r.read_job-read.ensures, told.in-Pass.is) (
+    rw (right, ← r.read_job-read.ensures, told.in-Ok.is) (
       refl,
       (rw numbers at out.0, (out.1.0, rw first at out.1.1.0)),
     )
 
-returns-3 : tie.Need-returns-in-Refuse
+returns-3 : tie.Need-returns-in-Err
 returns-3 c =
     let r = c.before.before.before in
-    rw (lengths-right r, ← r.read_job-read.ensures, c.in-Refuse.is) (c.refusal_code.ensures, (refl, (refl, refl)))
+    rw (lengths-right r, ← r.read_job-read.ensures, c.in-Err.is) (c.refusal_code.ensures, (refl, (refl, refl)))
 
 pub read_job_spec : {M : Type 1} → statement M
 read_job_spec =

@@ -61,7 +61,7 @@ refusal-code-requires c κs = search rules
 same_length : tie.Need-shape_of-coordinates
 same_length c = search rules
 
-returns-2 : tie.Need-returns-in-Pass
+returns-2 : tie.Need-returns-in-Ok
 returns-2 c =
     let fill = c.before in
     let told = fill.before.before.before in
@@ -70,12 +70,12 @@ returns-2 c =
     let room = line_lengths_lem (length a.coordinates.now) (length a.patterns.now) (lengths-right r) in
     let four = long told.before in
     let whole = filled_whole a.coordinates.now r.read_patterns-line.result.w (room.0 ∙ sym four) in
-    rw (lengths-right r, ← is_read r, told.in-Pass.is) (refl, fill.fill_coordinates.ensures ∙ whole)
+    rw (lengths-right r, ← is_read r, told.in-Ok.is) (refl, fill.fill_coordinates.ensures ∙ whole)
 
-returns-3 : tie.Need-returns-in-Refuse
+returns-3 : tie.Need-returns-in-Err
 returns-3 c =
     let r = c.before.before.before in
-    rw (lengths-right r, ← is_read r, c.in-Refuse.is) (c.refusal_code.ensures, refl)
+    rw (lengths-right r, ← is_read r, c.in-Err.is) (c.refusal_code.ensures, refl)
 
 pub read_line_spec : {M : Type 1} → statement M
 read_line_spec =

@@ -62,7 +62,7 @@ refusal-code-requires c κs = search rules
 same_length : tie.Need-shape_of-patterns
 same_length c = search rules
 
-returns-2 : tie.Need-returns-in-Pass
+returns-2 : tie.Need-returns-in-Ok
 unfolding patterns_of
 returns-2 c =
     let fill = c.before.before in
@@ -72,13 +72,13 @@ returns-2 c =
     let a = (start w).args in
     let room = line_lengths_lem (length a.coordinates.now) (length a.patterns.now) (lengths-right w) in
     let whole = filled_whole a.patterns.now (patterns_of w.write_line-line.result.line) room.1 in
-    rw (lengths-right w, ← is-written w, told.in-Pass.is)
+    rw (lengths-right w, ← is-written w, told.in-Ok.is)
     (refl, fill.fill_patterns.ensures ∙ ap (filled a.patterns.now) bits.patterns-bits.ensures ∙ whole)
 
-returns-3 : tie.Need-returns-in-Refuse
+returns-3 : tie.Need-returns-in-Err
 returns-3 c =
     let w = c.before.before.before in
-    rw (lengths-right w, ← is-written w, c.in-Refuse.is) (c.refusal_code.ensures, refl)
+    rw (lengths-right w, ← is-written w, c.in-Err.is) (c.refusal_code.ensures, refl)
 
 pub write_line_spec : {M : Type 1} → statement M
 write_line_spec =

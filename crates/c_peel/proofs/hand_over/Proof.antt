@@ -4,9 +4,9 @@ use mathlib.Core.Path.{◌≡◌, refl}
 use mathlib.Core.List.{List}
 use Prim.Native.Nat.{ℕ}
 use lib.IntN.{ℤ}
-use Rattle.codes.specs.declared.Check.TheVariants.{Pass, Refuse}
+use Rattle.codes.specs.Codes.{pass}
+use Rattle.std.specs.Prelude.{Err}
 use Rattle.codes.specs.declared.Refusal.{Refusal}
-use Rattle.codes.specs.declared.Outcome.TheVariants.{Refused}
 use Rattle.peel.specs.declared.Peeled.{Peeled}
 use Rattle.c_boundary.specs.Boundary.{answered, code_of, value_after, if_accepted}
 use Rattle.c_peel.specs.Calls.{outcome_of, vectors_of, numbers_of}
@@ -40,24 +40,24 @@ module _ (r : Peeled) (held : ℕ) (vectors : List ℤ) (numbers : List ℕ) whe
       × ((v ≡ if_accepted (answered (outcome_of r)) (vectors_of r.answers) vectors)
       × (n ≡ if_accepted (answered (outcome_of r)) (numbers_of r.answers) numbers)))
 
-  where-passed : (v : List ℤ) (n : List ℕ) → r.check ≡ Pass → v ≡ vectors_of r.answers → n ≡ numbers_of r.answers →
+  where-passed : (v : List ℤ) (n : List ℕ) → r.check ≡ pass → v ≡ vectors_of r.answers → n ≡ numbers_of r.answers →
       Handed 0 r.rounds v n
   where-passed v n e p q = rw e (refl, (refl, (p, q)))
 
-  where_refused : (why : Refusal) (code : ℕ) → r.check ≡ Refuse why → code ≡ code_of (answered (Refused why)) →
+  where_refused : (why : Refusal) (code : ℕ) → r.check ≡ Err why → code ≡ code_of (answered (Err why)) →
       Handed code held vectors numbers
   where_refused why code e w = rw e (w, (refl, (refl, refl)))
 
-returns : tie.Need-returns-in-Pass
+returns : tie.Need-returns-in-Ok
 returns c =
     let a = c.args in
     where-passed a.r a.value.now a.vectors.now a.numbers.now _ _
-    c.in-Pass.is c.lay_all.ensures.0 c.lay_all.ensures.1
+    c.in-Ok.is c.lay_all.ensures.0 c.lay_all.ensures.1
 
-returns-2 : tie.Need-returns-in-Refuse
+returns-2 : tie.Need-returns-in-Err
 returns-2 c =
     let a = c.args in
-    where_refused a.r a.value.now a.vectors.now a.numbers.now c.in-Refuse.why c.refusal_code.result c.in-Refuse.is
+    where_refused a.r a.value.now a.vectors.now a.numbers.now c.in-Err.why c.refusal_code.result c.in-Err.is
     c.refusal_code.ensures
 
 pub hand_over_spec : {M : Type 1} → statement M

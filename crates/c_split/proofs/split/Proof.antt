@@ -42,7 +42,7 @@ enum_told c = search rules
 write-row-requires : tie.Need-write_row-requires
 write-row-requires c κs = search rules
 
-write-row-requires-2 : tie.Need-write_row-requires-in-Pass
+write-row-requires-2 : tie.Need-write_row-requires-in-Ok
 write-row-requires-2 c κs = search rules
 
 enum-known-check : tie.Need-enum_known-check
@@ -54,20 +54,20 @@ refusal-code-requires c κs = search rules
 same_length : tie.Need-shape_of-halves
 same_length c = search rules
 
-returns-2 : tie.Need-returns-in-Pass
+returns-2 : tie.Need-returns-in-Ok
 unfolding split_call halves_after
 returns-2 c =
     let told = c.before.before.before.before.before.before.before.before in
     let s = told.before in
     let first = c.write_row.ensures in
-    rw (lengths-right s, ← split_is s, told.in-Pass.is)
-    (refl, c.write_row-in-Pass.ensures ∙ ap (λ t. with_row t 1 s.split-cut.result.right) first)
+    rw (lengths-right s, ← split_is s, told.in-Ok.is)
+    (refl, c.write_row-in-Ok.ensures ∙ ap (λ t. with_row t 1 s.split-cut.result.right) first)
 
-returns-3 : tie.Need-returns-in-Refuse
+returns-3 : tie.Need-returns-in-Err
 unfolding split_call halves_after
 returns-3 c =
     let s = c.before.before in
-    rw (lengths-right s, ← split_is s, c.in-Refuse.is) (c.refusal_code.ensures, refl)
+    rw (lengths-right s, ← split_is s, c.in-Err.is) (c.refusal_code.ensures, refl)
 
 pub split_spec : {M : Type 1} → statement M
 split_spec =

@@ -4,10 +4,10 @@ use Rattle.codes.specs.Codes.{in_order}
 use Rattle.codes.proofs.Laws.{in_order_one}
 use Rattle.codes.proofs.in_order.Goals as goal
 
-pub returns-in-Pass : goal.returns-in-Pass
+pub returns-in-Ok : goal.returns-in-Ok
 unfolding in_order
-returns-in-Pass c = rw c.in-Pass.is (sym (in_order_one c.args.second))
+returns-in-Ok c = rw c.in-Ok.is (sym (in_order_one c.args.second))
 
-pub returns-in-Refuse : goal.returns-in-Refuse
+pub returns-in-Err : goal.returns-in-Err
 unfolding in_order
-returns-in-Refuse c = rw c.in-Refuse.is refl
+returns-in-Err c = rw c.in-Err.is refl

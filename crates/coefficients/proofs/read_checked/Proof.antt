@@ -2,10 +2,8 @@
 use Rattle.std.proofs.Common.{◌≡◌, ℕ, Bool, ◌&&◌, List, [], ◌∷◌, map, length, get_or, drop, ℤ, sym, ap, ◌∙◌, subst, w16, SFits, to_z, of_z, rules}
 use mir.ValLaws.{to_z-of_z}
 use Rattle.integers.specs.Integers.{all_zero}
-use Rattle.codes.specs.declared.Check.{Check}
-use Rattle.codes.specs.declared.Check.TheVariants.{Pass}
 use Rattle.codes.specs.declared.Refusal.TheVariants.{OffGrid}
-use Rattle.codes.specs.Codes.{pass_if}
+use Rattle.codes.specs.Codes.{Check, pass, pass_if}
 use Rattle.coefficients.specs.Grid.{coordinate_of}
 use Rattle.coefficients.specs.Lines.{check_grid, coordinates_if}
 use Rattle.coefficients.proofs.Grid.{coordinate_fits}
@@ -97,7 +95,7 @@ module _ (c : tie.After-rest_zero) where
       ∙ ap (λ (k : Check). coordinates_if k (map (coordinate_of S) ps)) (sym (grid_check S r1.requires d ps long))
 
 returns : tie.Need-returns-then-c1-c2
-returns c = ap (coordinates_if Pass) (read c.before) ∙ checked c.before c.if-c1-c2.true
+returns c = ap (coordinates_if pass) (read c.before) ∙ checked c.before c.if-c1-c2.true
 
 returns-2 : tie.Need-returns-else-c1-c2
 returns-2 c = c.not_read.ensures ∙ checked c.before.before c.if-c1-c2.false

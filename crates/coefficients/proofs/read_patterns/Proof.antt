@@ -1,8 +1,6 @@
 -- A refusal by check 2 or 3 stands; else check 12 decides, and S is at most 15.
 use Rattle.std.proofs.Common.{◌≡◌, [], ◌∷◌, map, sym, ap, ◌∙◌, rules}
-use Rattle.codes.specs.declared.Check.{Check}
-use Rattle.codes.specs.declared.Check.TheVariants.{Pass}
-use Rattle.codes.specs.Codes.{in_order}
+use Rattle.codes.specs.Codes.{Check, pass, in_order}
 use Rattle.codes.proofs.Laws.{after_pass, after_refusal}
 use Rattle.scale.specs.Scale.{check_scale}
 use Rattle.coefficients.specs.Grid.{coordinate_of}
@@ -20,20 +18,20 @@ enum-known-r c = search rules
 not-read-requires : tie.Need-not_read-requires
 not-read-requires c κs = search rules
 
-returns : tie.Need-returns-in-Refuse
+returns : tie.Need-returns-in-Err
 unfolding coordinates_of reading_checks
 returns c =
     let a = c.args in
-    let e = sym c.check_line.ensures ∙ c.in-Refuse.is in
+    let e = sym c.check_line.ensures ∙ c.in-Err.is in
     c.not_read.ensures
     ∙ ap (λ (k : Check). coordinates_if k (map (coordinate_of a.s) a.bits))
-    (sym (after_refusal (check_used a.d ∷ check_scale a.s ∷ []) (check_grid a.d a.s a.bits ∷ []) c.in-Refuse.r e))
+    (sym (after_refusal (check_used a.d ∷ check_scale a.s ∷ []) (check_grid a.d a.s a.bits ∷ []) c.in-Err.r e))
 
 enum_told : tie.Need-enum_told-1
 enum_told c = search rules
 
 passed : (c : tie.In_default)
-    → in_order (check_used c.args.d ∷ check_scale c.args.s ∷ []) ≡ Pass
+    → in_order (check_used c.args.d ∷ check_scale c.args.s ∷ []) ≡ pass
 passed c = sym c.check_line.ensures ∙ c.in_default.is
 
 read-checked-requires : tie.Need-read_checked-requires

@@ -3,9 +3,8 @@ use Rattle.std.proofs.Common.{◌≡◌, ℕ, ◌<◌, Bool, List, get_or, ℤ, 
 use lib.Signed.{mag}
 use lib.Ieee.{Float}
 use mir.ValLaws.{to_z-of_z}
-use Rattle.codes.specs.declared.Check.TheVariants.{Pass}
 use Rattle.codes.specs.declared.Refusal.TheVariants.{Start}
-use Rattle.codes.specs.Codes.{pass_if}
+use Rattle.codes.specs.Codes.{pass, pass_if}
 use Rattle.boxes.specs.Shape.{check_vector}
 use Rattle.coefficients.specs.Coefficient.{coefficient_of}
 use Rattle.coefficients.specs.Lines.{line_of, written_if}
@@ -70,7 +69,7 @@ returns c =
     let e2 = field _ (S at) (get_or (w at) 1 (pos 0)) r2.coefficient-then-rest_zero.ensures r2.coefficient-arg-then-rest_zero-1.given in
     let e3 = field _ (S at) (get_or (w at) 2 (pos 0)) r3.coefficient-then-rest_zero-2.ensures r3.coefficient-arg-then-rest_zero-2-1.given in
     let e4 = field _ (S at) (get_or (w at) 3 (pos 0)) c.coefficient-then-rest_zero-3.ensures c.coefficient-arg-then-rest_zero-3-1.given in
-    ap (written_if Pass) (λ i. record { c1 = e1 i; c2 = e2 i; c3 = e3 i; c4 = e4 i }) ∙ checked at r1.if-rest_zero.true
+    ap (written_if pass) (λ i. record { c1 = e1 i; c2 = e2 i; c3 = e3 i; c4 = e4 i }) ∙ checked at r1.if-rest_zero.true
 
 returns-2 : tie.Need-returns-else-rest_zero
 returns-2 c = c.not_written.ensures ∙ checked c.before.before c.if-rest_zero.false

@@ -1,8 +1,6 @@
 -- A refusal by check 2 or 3 stands; else check 6 decides, and S is at most 15.
 use Rattle.std.proofs.Common.{◌≡◌, [], ◌∷◌, sym, ap, ◌∙◌, rules}
-use Rattle.codes.specs.declared.Check.{Check}
-use Rattle.codes.specs.declared.Check.TheVariants.{Pass}
-use Rattle.codes.specs.Codes.{in_order}
+use Rattle.codes.specs.Codes.{Check, pass, in_order}
 use Rattle.codes.proofs.Laws.{after_pass, after_refusal}
 use Rattle.scale.specs.Scale.{check_scale}
 use Rattle.boxes.specs.Shape.{check_vector}
@@ -20,20 +18,20 @@ enum-known-r c = search rules
 not-written-requires : tie.Need-not_written-requires
 not-written-requires c κs = search rules
 
-returns : tie.Need-returns-in-Refuse
+returns : tie.Need-returns-in-Err
 unfolding written_of writing_checks
 returns c =
     let a = c.args in
-    let e = sym c.check_line.ensures ∙ c.in-Refuse.is in
+    let e = sym c.check_line.ensures ∙ c.in-Err.is in
     c.not_written.ensures
     ∙ ap (λ (k : Check). written_if k (line_of a.s a.w))
-    (sym (after_refusal (check_used a.d ∷ check_scale a.s ∷ []) (check_vector 1 a.d a.w ∷ []) c.in-Refuse.r e))
+    (sym (after_refusal (check_used a.d ∷ check_scale a.s ∷ []) (check_vector 1 a.d a.w ∷ []) c.in-Err.r e))
 
 enum_told : tie.Need-enum_told-1
 enum_told c = search rules
 
 passed : (c : tie.In_default)
-    → in_order (check_used c.args.d ∷ check_scale c.args.s ∷ []) ≡ Pass
+    → in_order (check_used c.args.d ∷ check_scale c.args.s ∷ []) ≡ pass
 passed c = sym c.check_line.ensures ∙ c.in_default.is
 
 write-checked-requires : tie.Need-write_checked-requires

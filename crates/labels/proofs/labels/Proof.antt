@@ -6,10 +6,9 @@ use Prim.Native.Nat.{ℕ, ◌/◌, ◌≤◌, ◌<◌}
 use native.Mathlib.Omega.{arith}
 use borrow.Author.Tests.{le-leb, lt-leb}
 use lib.ListN.{length}
-use Rattle.codes.specs.declared.Check.TheVariants.{Pass, Refuse}
+use Rattle.std.specs.Prelude.{Ok, Err}
 use Rattle.codes.specs.declared.Refusal.TheVariants.{Short}
-use Rattle.codes.specs.Codes.{pass_if}
-use Rattle.codes.specs.declared.Outcome.TheVariants.{Value}
+use Rattle.codes.specs.Codes.{pass, pass_if}
 use Rattle.points.specs.Points.{points_of}
 use Rattle.points.proofs.Laws.{points_length}
 use Rattle.model_checks.specs.Checks.{check_threshold}
@@ -19,11 +18,11 @@ use Rattle.labels.proofs.Passed.{room_decides, first_refuses}
 use Rattle.labels.proofs.labels.Statement.{statement}
 use Rattle.labels.proofs.labels.Tie as tie
 
-module _ (c : tie.In-Pass) where
+module _ (c : tie.In-Ok) where
   pass :
       let a = c.args in
-      check_threshold a.store.now a.m a.v ≡ Pass
-  pass = sym c.check_threshold.ensures ∙ c.in-Pass.is
+      check_threshold a.store.now a.m a.v ≡ pass
+  pass = sym c.check_threshold.ensures ∙ c.in-Ok.is
 
 points_number : (store : List ℕ) → length (points_of store) ≡ length store / 12
 unfolding points_of
@@ -41,7 +40,7 @@ returns c =
     let e = c.before in
     let a = e.args in
     let short : length a.out.now < length (points_of a.store.now) = omega (arith, points_number a.store.now, c.if-out-count.true) in
-    let refuse : check_labels a.store.now a.m a.v a.out.now ≡ Refuse Short =
+    let refuse : check_labels a.store.now a.m a.v a.out.now ≡ Err Short =
     room_decides a.store.now a.m a.v a.out.now (pass e) ∙ ap (λ t. pass_if t Short) (lt-leb _ _ short) in
     rw refuse (refl, refl)
 
@@ -63,17 +62,17 @@ returns-2 c =
     let e = c.before.before.before.before.before.before in
     let a = e.args in
     let room : length (points_of a.store.now) ≤ length a.out.now = omega (arith, points_number a.store.now) in
-    let accept : check_labels a.store.now a.m a.v a.out.now ≡ Pass =
+    let accept : check_labels a.store.now a.m a.v a.out.now ≡ pass =
     room_decides a.store.now a.m a.v a.out.now (pass e) ∙ ap (λ t. pass_if t Short) (le-leb _ _ room) in
-    rw accept (ap Value (sym (points_number a.store.now)), c.write_labels.ensures)
+    rw accept (ap Ok (sym (points_number a.store.now)), c.write_labels.ensures)
 
-returns-3 : tie.Need-returns-in-Refuse
+returns-3 : tie.Need-returns-in-Err
 unfolding labels_answer labelled
 returns-3 c =
     let e = c.before in
     let a = e.args in
     let refuse =
-    first_refuses a.store.now a.m a.v a.out.now c.in-Refuse.r (sym e.check_threshold.ensures ∙ c.in-Refuse.is) in
+    first_refuses a.store.now a.m a.v a.out.now c.in-Err.r (sym e.check_threshold.ensures ∙ c.in-Err.is) in
     rw refuse (refl, refl)
 
 pub labels_spec : {M : Type 1} → statement M

@@ -5,7 +5,7 @@ use mathlib.Core.Path.{ap, ◌∙◌}
 use Prim.Native.Nat.{◌*◌, ◌≤◌, ◌<◌}
 use native.Mathlib.Nat.{mul-le-mul}
 use native.Mathlib.Omega.{arith}
-use Rattle.codes.specs.declared.Outcome.TheVariants.{Value}
+use Rattle.std.specs.Prelude.{Ok}
 use Rattle.loss.specs.Loss.{loss_of}
 use Rattle.loss.proofs.Laws.{min_square}
 use Rattle.loss.proofs.picked.Statement.{statement}
@@ -36,14 +36,14 @@ returns-2 c =
 
 returns-3 : tie.Need-returns-in-1
 unfolding loss_of
-returns-3 c = simp c.in-1.is (ap Value c.least-cut.ensures)
+returns-3 c = simp c.in-1.is (ap Ok c.least-cut.ensures)
 
 returns-4 : tie.Need-returns-in-2
 unfolding loss_of
 returns-4 c =
     let s = c.before.before in
     let m = c.least-cut.ensures in
-    simp c.in-2.is (ap Value ((λ i. m i * m i) ∙ min_square s.args.a s.args.eps))
+    simp c.in-2.is (ap Ok ((λ i. m i * m i) ∙ min_square s.args.a s.args.eps))
 
 returns-5 : tie.Need-returns-in-3-to-255
 returns-5 c =

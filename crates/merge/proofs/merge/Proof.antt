@@ -4,8 +4,8 @@ use mathlib.Core.Path.{◌≡◌, sym, ◌∙◌}
 use Prim.Native.Nat.{◌≤◌, ◌<◌}
 use native.Mathlib.Omega.{arith}
 use lib.ListN.{length}
-use Rattle.codes.specs.declared.Check.TheVariants.{Pass, Refuse}
-use Rattle.codes.specs.Codes.{in_order}
+use Rattle.std.specs.Prelude.{Err}
+use Rattle.codes.specs.Codes.{pass, in_order}
 use Rattle.fields.specs.Buffers.{check_room}
 use Rattle.frames.specs.Frames.{merged, check_both, union_answer}
 use Rattle.frames.proofs.Checks.{told_value, told_refused}
@@ -28,7 +28,7 @@ enum-known-bytes c = search rules
 counted :
     (c : tie.In-Value) →
     let a = c.args in
-    (check_both a.first.now a.second.now ≡ Pass) × (c.in-Value.bytes ≡ length (merged a.first.now a.second.now))
+    (check_both a.first.now a.second.now ≡ pass) × (c.in-Value.bytes ≡ length (merged a.first.now a.second.now))
 unfolding union_answer
 counted c = told_value _ _ _ (sym c.check_both.ensures ∙ c.in-Value.is)
 
@@ -44,7 +44,7 @@ returns c =
 accepted :
     (c : tie.Else-out-bytes) →
     let a = c.args in
-    check_merge a.first.now a.second.now a.out.now ≡ Pass
+    check_merge a.first.now a.second.now a.out.now ≡ pass
 unfolding check_merge check_room in_order
 accepted c =
     let k = c.before in
@@ -65,7 +65,7 @@ returns-2 c =
     let k = c in
     let a = k.args in
     let e = sym k.check_both.ensures ∙ k.in-Refused.is in
-    let refused : check_both a.first.now a.second.now ≡ Refuse k.in-Refused.r = told_refused _ _ _ e in
+    let refused : check_both a.first.now a.second.now ≡ Err k.in-Refused.r = told_refused _ _ _ e in
     (rw refused, rw refused)
 
 same_length : tie.Need-shape_of-out

@@ -16,15 +16,15 @@ check-stray-requires c κs = search rules
 enum-known-first : tie.Need-enum_known-first
 enum-known-first c = search rules
 
-returns : tie.Need-returns-in-Pass
+returns : tie.Need-returns-in-Ok
 unfolding in_order
 returns c =
     let a = c.args in
-    rw c.in-Pass.is (c.check_stray.ensures ∙ sym (in_order_one (check_stray a.d (points_of a.store.now))))
+    rw c.in-Ok.is (c.check_stray.ensures ∙ sym (in_order_one (check_stray a.d (points_of a.store.now))))
 
-returns-2 : tie.Need-returns-in-Refuse
+returns-2 : tie.Need-returns-in-Err
 unfolding in_order
-returns-2 c = rw c.in-Refuse.is refl
+returns-2 c = rw c.in-Err.is refl
 
 pub then_stray_spec : {M : Type 1} → statement M
 then_stray_spec = tie.close (tie.spec enum_told check-stray-requires enum-known-first returns returns-2)

@@ -12,7 +12,7 @@ enum_told : tie.Need-enum_told-1
 enum_told c = search rules
 
 each-round-requires : tie.Need-each_round-requires
-each-round-requires c κs = sym c.check_peel.ensures ∙ c.in-Pass.is
+each-round-requires c κs = sym c.check_peel.ensures ∙ c.in-Ok.is
 
 enum-known-why : tie.Need-enum_known-why
 enum-known-why c = search rules
@@ -29,18 +29,18 @@ same-length-2 c = search rules
 same-length-3 : tie.Need-shape_of-labels
 same-length-3 c = search rules
 
-returns : tie.Need-returns-in-Pass
+returns : tie.Need-returns-in-Ok
 returns c =
     let a = c.args
     in
     where_accepted a.store.now a.job a.limit a.table.now a.bounds.now a.labels.now c.each_round.result _ _ _
-    (sym c.check_peel.ensures ∙ c.in-Pass.is) c.each_round.ensures.1 c.each_round.ensures.0
+    (sym c.check_peel.ensures ∙ c.in-Ok.is) c.each_round.ensures.1 c.each_round.ensures.0
 
-returns-2 : tie.Need-returns-in-Refuse
+returns-2 : tie.Need-returns-in-Err
 returns-2 c =
     let a = c.args in
-    where_refused a.store.now a.job a.limit a.table.now a.bounds.now a.labels.now c.in-Refuse.why
-    c.no_round.result (sym c.check_peel.ensures ∙ c.in-Refuse.is) c.no_round.ensures
+    where_refused a.store.now a.job a.limit a.table.now a.bounds.now a.labels.now c.in-Err.why
+    c.no_round.result (sym c.check_peel.ensures ∙ c.in-Err.is) c.no_round.ensures
 
 pub peel_spec : {M : Type 1} → statement M
 peel_spec =

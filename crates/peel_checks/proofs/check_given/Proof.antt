@@ -1,8 +1,7 @@
 -- Seven checks in order, in groups.
 use mathlib.Core.Path.{ap₂, ◌∙◌}
 use mathlib.Core.List.{[], ◌∷◌}
-use Rattle.codes.specs.declared.Check.{Check}
-use Rattle.codes.specs.Codes.{in_order}
+use Rattle.codes.specs.Codes.{Check, in_order}
 use Rattle.peel_checks.proofs.Passed.{in_groups}
 use borrow.Author.Rules.{rules}
 use Rattle.peel_checks.proofs.check_given.Statement.{statement}

@@ -1,8 +1,7 @@
 -- By the first group: where it passes, the checks of a search and the room decide.
 use mathlib.Core.Path.{sym, ap₂, ◌∙◌}
 use mathlib.Core.List.{[], ◌∷◌}
-use Rattle.codes.specs.declared.Check.{Check}
-use Rattle.codes.specs.Codes.{in_order}
+use Rattle.codes.specs.Codes.{Check, in_order}
 use Rattle.peel_checks.proofs.Passed.{search_decides, first_refuses}
 use borrow.Author.Rules.{rules}
 use Rattle.peel_checks.proofs.check_peel.Statement.{statement}
@@ -29,7 +28,7 @@ enum-known-r c = search rules
 abbrev both : Check → Check → Check
 both x y = in_order (x ∷ y ∷ [])
 
-returns : tie.Need-returns-in-Pass
+returns : tie.Need-returns-in-Ok
 returns c =
     let q = c.before.before in
     let told = q.before in
@@ -38,14 +37,14 @@ returns c =
     c.in_order.ensures
     ∙ ap₂ both q.check_search.ensures c.check_labels.ensures
     ∙ sym (search_decides a.store.now a.job a.limit a.numbers a.entries a.labels
-    (sym given.check_given.ensures ∙ told.in-Pass.is))
+    (sym given.check_given.ensures ∙ told.in-Ok.is))
 
-returns-2 : tie.Need-returns-in-Refuse
+returns-2 : tie.Need-returns-in-Err
 returns-2 c =
     let given = c.before in
     let a = given.args in
-    sym (first_refuses a.store.now a.job a.limit a.numbers a.entries a.labels c.in-Refuse.r
-    (sym given.check_given.ensures ∙ c.in-Refuse.is))
+    sym (first_refuses a.store.now a.job a.limit a.numbers a.entries a.labels c.in-Err.r
+    (sym given.check_given.ensures ∙ c.in-Err.is))
 
 pub check_peel_spec : {M : Type 1} → statement M
 check_peel_spec =

@@ -2,7 +2,7 @@
 use mathlib.Core.Path.{◌≡◌, refl, sym, ◌∙◌}
 use Prim.Native.Nat.{◌≤◌}
 use lib.ListN.{length}
-use Rattle.codes.specs.declared.Check.TheVariants.{Pass}
+use Rattle.codes.specs.Codes.{pass}
 use Rattle.boxes.specs.Boxes.{volume}
 use Rattle.points.specs.Points.{points_of}
 use Rattle.residuals.specs.Cost.{bound}
@@ -28,10 +28,10 @@ slice-aggregate-sixteen-bits c = search rules
 sixteen-bits-requires : tie.Need-sixteen_bits-requires
 sixteen-bits-requires c κs = search rules
 
-slice-aggregate-sixteen-bits-2 : tie.Need-slice_bounds-sixteen_bits-end-in-Pass
+slice-aggregate-sixteen-bits-2 : tie.Need-slice_bounds-sixteen_bits-end-in-Ok
 slice-aggregate-sixteen-bits-2 c = search rules
 
-sixteen-bits-requires-2 : tie.Need-sixteen_bits-requires-in-Pass
+sixteen-bits-requires-2 : tie.Need-sixteen_bits-requires-in-Ok
 sixteen-bits-requires-2 c κs = search rules
 
 slice-aggregate-decode : tie.Need-slice_bounds-decode-end
@@ -47,12 +47,12 @@ slice-aggregate-begin : tie.Need-slice_bounds-begin-end
 slice-aggregate-begin c = search rules
 
 -- an accepted job
-module _ (c : tie.In-Pass) where
+module _ (c : tie.In-Ok) where
   abbrev begun : tie.Start
   begun = c.before.before.before
 
-  pass : check_lent begun.args.store.now begun.args.job begun.args.ceiling begun.args.table.now ≡ Pass
-  pass = sym c.check_ranges.ensures ∙ c.in-Pass.is
+  pass : check_lent begun.args.store.now begun.args.job begun.args.ceiling begun.args.table.now ≡ pass
+  pass = sym c.check_ranges.ensures ∙ c.in-Ok.is
 
   rows : 16 ≤ length begun.args.table.now
   rows = rows_lent begun.args.store.now begun.args.job begun.args.ceiling begun.args.table.now pass
@@ -62,7 +62,7 @@ module _ (c : tie.In-Pass) where
 
 -- the store is decoded
 module _ (c : tie.After-decode) where
-  abbrev told : tie.In-Pass
+  abbrev told : tie.In-Ok
   told = c.before.before.before.before.before.before.before.before.before.before.before
 
   evaluable : Evaluable (begun told).args.store.now c.decode.new.lanes (begun told).args.job.model
@@ -79,7 +79,7 @@ module _ (c : tie.After-decode) where
   limit =
       let a = (begun told).args in
       limited a.store.now a.job a.ceiling a.table.now (pass told)
-      c.sixteen_bits.ensures c.sixteen_bits-in-Pass.ensures
+      c.sixteen_bits.ensures c.sixteen_bits-in-Ok.ensures
 
 begin-requires : tie.Need-begin-first-requires
 begin-requires c κs =
@@ -115,7 +115,7 @@ refusal-requires c κs = search rules
 same_length : tie.Need-shape_of-table
 same_length c = search rules
 
-returns : tie.Need-returns-in-Pass
+returns : tie.Need-returns-in-Ok
 returns c =
     let q = c.before.before in
     let b = q.before.before.before.before in
@@ -127,13 +127,13 @@ returns c =
     q.steps.new.table b.begin-first.result q.steps.result b.begin-first.ensures q.steps.ensures)
     c.tell.result c.tell.ensures
 
-returns-2 : tie.Need-returns-in-Refuse
+returns-2 : tie.Need-returns-in-Err
 returns-2 c =
     let w = c.before in
     let q = w.before in
     let a = q.args in
-    promised_refused a.store.now a.job a.ceiling a.table.now w.in-Refuse.why c.refusal.result
-    (sym q.check_ranges.ensures ∙ w.in-Refuse.is) c.refusal.ensures
+    promised_refused a.store.now a.job a.ceiling a.table.now w.in-Err.why c.refusal.result
+    (sym q.check_ranges.ensures ∙ w.in-Err.is) c.refusal.ensures
 
 pub ranges_spec : {M : Type 1} → statement M
 ranges_spec =

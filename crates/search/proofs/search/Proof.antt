@@ -3,7 +3,7 @@ use mathlib.Core.Path.{◌≡◌, refl, sym, ◌∙◌}
 use Prim.Native.Nat.{ℕ, ◌/◌, ◌≤◌}
 use native.Mathlib.Omega.{arith}
 use lib.ListN.{length, length-replicate}
-use Rattle.codes.specs.declared.Check.TheVariants.{Pass}
+use Rattle.codes.specs.Codes.{pass}
 use Rattle.costs.proofs.Passed.{decoded_for}
 use Rattle.search_checks.proofs.Passed.{Runs, runs_accepted, rows_accepted, entries_accepted}
 use Rattle.search.specs.Search.{check_lent}
@@ -20,12 +20,12 @@ enum_told : tie.Need-enum_told-1
 enum_told c = search rules
 
 -- an accepted job
-module _ (c : tie.In-Pass) where
+module _ (c : tie.In-Ok) where
   abbrev begun : tie.Start
   begun = c.before.before.before.before
 
-  pass : check_lent begun.args.store.now begun.args.job begun.args.table.now begun.args.bounds.now ≡ Pass
-  pass = sym c.check_search.ensures ∙ c.in-Pass.is
+  pass : check_lent begun.args.store.now begun.args.job begun.args.table.now begun.args.bounds.now ≡ pass
+  pass = sym c.check_search.ensures ∙ c.in-Ok.is
 
   runs : Runs begun.args.store.now begun.args.job
   runs =
@@ -52,15 +52,15 @@ decode-requires c κs = search rules
 slice-aggregate-run : tie.Need-slice_bounds-run-end
 slice-aggregate-run c = search rules
 
-slice-aggregate-run-2 : tie.Need-slice_bounds-run-end-in-Pass
+slice-aggregate-run-2 : tie.Need-slice_bounds-run-end-in-Ok
 slice-aggregate-run-2 c = search rules
 
-slice-aggregate-run-3 : tie.Need-slice_bounds-run-end-in-Pass-2
+slice-aggregate-run-3 : tie.Need-slice_bounds-run-end-in-Ok-2
 slice-aggregate-run-3 c = search rules
 
 -- the store is decoded
 module _ (c : tie.After-decode) where
-  abbrev told : tie.In-Pass
+  abbrev told : tie.In-Ok
   told = c.before.before.before.before
 
   evaluable : Evaluable (begun told).args.store.now c.decode.new.lanes (begun told).args.job.model
@@ -99,7 +99,7 @@ same_length c = search rules
 same-length-2 : tie.Need-shape_of-bounds
 same-length-2 c = search rules
 
-returns : tie.Need-returns-in-Pass
+returns : tie.Need-returns-in-Ok
 returns c =
     let r = c.before.before.before.before.before in
     let e = told r.before.before.before.before.before.before.before.before.before in
@@ -108,13 +108,13 @@ returns c =
     r.run.new.bounds r.run.result
     r.run.ensures
 
-returns-2 : tie.Need-returns-in-Refuse
+returns-2 : tie.Need-returns-in-Err
 returns-2 c =
     let w = c.before in
     let q = w.before in
     let a = q.args in
-    promised_refused a.store.now a.job a.table.now a.bounds.now w.in-Refuse.why c.refusal.result
-    (sym q.check_search.ensures ∙ w.in-Refuse.is) c.refusal.ensures
+    promised_refused a.store.now a.job a.table.now a.bounds.now w.in-Err.why c.refusal.result
+    (sym q.check_search.ensures ∙ w.in-Err.is) c.refusal.ensures
 
 pub search_spec : {M : Type 1} → statement M
 search_spec =

@@ -1,8 +1,7 @@
 -- By the first three groups of checks: where they pass, the last decides.
 use mathlib.Core.Path.{◌≡◌, sym, ap₂, ◌∙◌}
 use mathlib.Core.List.{[], ◌∷◌}
-use Rattle.codes.specs.declared.Check.{Check}
-use Rattle.codes.specs.Codes.{in_order}
+use Rattle.codes.specs.Codes.{Check, in_order}
 use Rattle.boxes.specs.Boxes.{check_box, check_start}
 use Rattle.model_checks.specs.Checks.{check_model}
 use Rattle.search_checks.proofs.Passed.{stray_decides, first_refuses}
@@ -53,18 +52,18 @@ module _ (c : tie.After-in_order) where
       ∙ ap₂ both c.check_model.ensures
       (two.in_order-region.ensures ∙ ap₂ both two.check_box.ensures two.check_start.ensures)
 
-returns : tie.Need-returns-in-Pass
+returns : tie.Need-returns-in-Ok
 returns c =
     let told = c.before in
     let q = told.before in
     let a = (begun q).args in
-    c.check_stray.ensures ∙ sym (stray_decides a.store.now a.job (sym (first q) ∙ told.in-Pass.is))
+    c.check_stray.ensures ∙ sym (stray_decides a.store.now a.job (sym (first q) ∙ told.in-Ok.is))
 
-returns-2 : tie.Need-returns-in-Refuse
+returns-2 : tie.Need-returns-in-Err
 returns-2 c =
     let q = c.before in
     let a = (begun q).args in
-    sym (first_refuses a.store.now a.job c.in-Refuse.r (sym (first q) ∙ c.in-Refuse.is))
+    sym (first_refuses a.store.now a.job c.in-Err.r (sym (first q) ∙ c.in-Err.is))
 
 pub check_job_spec : {M : Type 1} → statement M
 check_job_spec =

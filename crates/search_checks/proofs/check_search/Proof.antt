@@ -1,8 +1,7 @@
 -- Three checks in order, the first two as a group.
 use mathlib.Core.Path.{ap₂, ◌∙◌}
 use mathlib.Core.List.{[], ◌∷◌}
-use Rattle.codes.specs.declared.Check.{Check}
-use Rattle.codes.specs.Codes.{in_order}
+use Rattle.codes.specs.Codes.{Check, in_order}
 use Rattle.codes.proofs.Laws.{in_order_group}
 use Rattle.search_checks.specs.Checks.{check_search}
 use borrow.Author.Rules.{rules}

@@ -2,8 +2,7 @@
 use mathlib.Core.Path.{◌≡◌, sym, ap₂, ◌∙◌}
 use mathlib.Core.List.{List, [], ◌∷◌}
 use lib.ListN.{length}
-use Rattle.codes.specs.declared.Check.{Check}
-use Rattle.codes.specs.Codes.{in_order}
+use Rattle.codes.specs.Codes.{Check, in_order}
 use Rattle.codes.proofs.Laws.{after_pass, after_refusal, two_groups}
 use Rattle.scale.specs.Scale.{check_scale}
 use Rattle.boxes.specs.Shape.{check_shape}
@@ -97,18 +96,18 @@ module _ (c : tie.After-in_order-2) where
       (region.in_order-region.ensures ∙ ap₂ both start.check_box.ensures start.check_start.ensures)
       ∙ two_groups (_ ∷ _ ∷ _ ∷ _ ∷ []) (_ ∷ _ ∷ [])
 
-returns : tie.Need-returns-in-Pass
+returns : tie.Need-returns-in-Ok
 unfolding check_given
 returns c =
     let told = c.before in
     let q = told.before in
-    c.check_stray.ensures ∙ sym (after_pass (six q) (stray q) (sym (first q) ∙ told.in-Pass.is))
+    c.check_stray.ensures ∙ sym (after_pass (six q) (stray q) (sym (first q) ∙ told.in-Ok.is))
 
-returns-2 : tie.Need-returns-in-Refuse
+returns-2 : tie.Need-returns-in-Err
 unfolding check_given
 returns-2 c =
     let q = c.before in
-    sym (after_refusal (six q) (stray q ∷ []) c.in-Refuse.r (sym (first q) ∙ c.in-Refuse.is))
+    sym (after_refusal (six q) (stray q ∷ []) c.in-Err.r (sym (first q) ∙ c.in-Err.is))
 
 pub check_given_spec : {M : Type 1} → statement M
 check_given_spec =

@@ -3,9 +3,7 @@ use mathlib.Core.Path.{◌≡◌, refl, sym, ap, ap₂, ◌∙◌}
 use mathlib.Core.List.{List, [], ◌∷◌}
 use Prim.Native.Nat.{ℕ, ◌/◌, ◌≤◌}
 use lib.ListN.{length}
-use Rattle.codes.specs.declared.Check.{Check}
-use Rattle.codes.specs.declared.Check.TheVariants.{Pass}
-use Rattle.codes.specs.Codes.{in_order, unless_refused}
+use Rattle.codes.specs.Codes.{Check, pass, in_order, unless_refused}
 use Rattle.codes.proofs.Checks.{first_passed, others_passed}
 use Rattle.codes.proofs.Laws.{after_pass, after_refusal}
 use Rattle.window_checks.specs.Checks.{window_count, check_given, check_window, check_lent_for, check_windows}
@@ -50,12 +48,12 @@ module _ (c : tie.After-in_order) where
   first = c.in_order.ensures ∙ ap₂ both c.check_given-given.ensures c.check_window.ensures
 
 -- where they pass
-module _ (c : tie.In-Pass) where
+module _ (c : tie.In-Ok) where
   abbrev asked : tie.After-in_order
   asked = c.before
 
-  passed_two : in_order (two asked) ≡ Pass
-  passed_two = sym (first asked) ∙ c.in-Pass.is
+  passed_two : in_order (two asked) ≡ pass
+  passed_two = sym (first asked) ∙ c.in-Ok.is
 
   fits : Windowed (length (begun asked).args.store.now / 12) (begun asked).args.k (begun asked).args.h
   fits =
@@ -79,7 +77,7 @@ unless-short-requires c κs =
 enum-known-r : tie.Need-enum_known-r
 enum-known-r c = search rules
 
-returns : tie.Need-returns-in-Pass
+returns : tie.Need-returns-in-Ok
 unfolding check_windows
 returns c =
     let count = c.before in
@@ -90,11 +88,11 @@ returns c =
     ∙ ap (λ (check : Check). unless_refused check (window_count (length a.store.now / 12) a.k a.h))
     (sym (after_pass (two (asked told)) (lent (asked told)) (passed_two told)))
 
-returns-2 : tie.Need-returns-in-Refuse
+returns-2 : tie.Need-returns-in-Err
 unfolding check_windows
 returns-2 c =
     let q = c.before in
-    rw (after_refusal (two q) (lent q ∷ []) c.in-Refuse.r (sym (first q) ∙ c.in-Refuse.is)) refl
+    rw (after_refusal (two q) (lent q ∷ []) c.in-Err.r (sym (first q) ∙ c.in-Err.is)) refl
 
 pub count_windows_spec : {M : Type 1} → statement M
 count_windows_spec =

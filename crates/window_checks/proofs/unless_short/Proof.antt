@@ -1,8 +1,7 @@
 -- The three checks in order; where they pass, the count.
 use mathlib.Core.Path.{◌≡◌, refl, sym, ap₂, ◌∙◌}
 use mathlib.Core.List.{[], ◌∷◌}
-use Rattle.codes.specs.declared.Check.{Check}
-use Rattle.codes.specs.Codes.{in_order}
+use Rattle.codes.specs.Codes.{Check, in_order}
 use Rattle.codes.proofs.Laws.{in_order_group}
 use Rattle.window_checks.specs.Checks.{check_lent_for}
 use borrow.Author.Rules.{rules}
@@ -48,15 +47,15 @@ module _ (c : tie.After-in_order) where
       c.check_room.ensures
       ∙ in_order_group (_ ∷ _ ∷ []) (_ ∷ [])
 
-returns : tie.Need-returns-in-Pass
+returns : tie.Need-returns-in-Ok
 returns c =
     let q = c.before in
-    rw (sym (checked q) ∙ c.in-Pass.is) refl
+    rw (sym (checked q) ∙ c.in-Ok.is) refl
 
-returns-2 : tie.Need-returns-in-Refuse
+returns-2 : tie.Need-returns-in-Err
 returns-2 c =
     let q = c.before in
-    rw (sym (checked q) ∙ c.in-Refuse.is) refl
+    rw (sym (checked q) ∙ c.in-Err.is) refl
 
 pub unless_short_spec : {M : Type 1} → statement M
 unless_short_spec =

@@ -4,7 +4,7 @@ use mathlib.Core.Path.{◌≡◌}
 use Prim.Native.Nat.{◌+◌, ◌-◌, ◌*◌, ◌/◌, ◌≤◌, ◌<◌}
 use native.Mathlib.Omega.{arith}
 use lib.ListN.{length}
-use Rattle.codes.specs.declared.Check.TheVariants.{Pass}
+use Rattle.codes.specs.Codes.{pass}
 use Rattle.fields.proofs.Parts.{lent_size}
 use Rattle.job_records.specs.Laws.{IsJob}
 use Rattle.window_runs.specs.Inside.{Turn}
@@ -28,7 +28,7 @@ decreases-loop store k h count table₀ bounds₀ out₀ current₀ i₀ table b
 -- what holds at the beginning
 module _ (s : tie.Start invariant-loop decreases-loop) where
   ok : check_pass s.args.store.now s.args.job s.args.k s.args.h s.args.table.now s.args.bounds.now
-      s.args.out.now ≡ Pass
+      s.args.out.now ≡ pass
   ok = s.requires.0
 
   all : s.args.count ≡ window_count (length s.args.store.now / 12) s.args.k s.args.h

@@ -2,7 +2,7 @@
 use mathlib.Core.Path.{◌≡◌, sym, ◌∙◌}
 use lib.ListN.{length}
 use Prim.Native.Nat.{◌/◌}
-use Rattle.codes.specs.declared.Check.TheVariants.{Pass}
+use Rattle.codes.specs.Codes.{pass}
 use Rattle.window_checks.specs.Checks.{window_count}
 use Rattle.window_checks.proofs.Passed.{value_passed, refusal_refused}
 use Rattle.window_runs.specs.Windows.{check_pass}
@@ -25,7 +25,7 @@ module _ (c : tie.In-Value) where
 
   counted :
       let a = begun.args in
-      (check_pass a.store.now a.job a.k a.h a.table.now a.bounds.now a.out.now ≡ Pass)
+      (check_pass a.store.now a.job a.k a.h a.table.now a.bounds.now a.out.now ≡ pass)
       × (c.in-Value.count ≡ window_count (length a.store.now / 12) a.k a.h)
   counted =
       let a = begun.args in

@@ -4,7 +4,7 @@ use mathlib.Core.List.{List}
 use mathlib.Core.Bool.{Bool, true, false, cond}
 use Prim.Native.Nat.{ℕ, ◌≤◌}
 use lib.IntN.{ℤ}
-use Rattle.codes.specs.declared.Check.TheVariants.{Pass}
+use Rattle.codes.specs.Codes.{pass}
 use Rattle.boxes.specs.declared.Box.{Box}
 use Rattle.boxes.specs.declared.Halves.{Halves}
 use Rattle.boxes.specs.Split.{left_half, right_half, cut_answer, halves_unless_refused}
@@ -92,7 +92,7 @@ module _ (c : tie.After-test-second) where
   is_row : row.read_row-b.result ≡ last_in t s
   is_row = row.read_row-b.ensures
 
-  cuts : halved.cut-cut.result ≡ halves_unless_refused Pass (last_in t s)
+  cuts : halved.cut-cut.result ≡ halves_unless_refused pass (last_in t s)
   cuts = halved.cut-cut.ensures ∙ ap cut_answer is_row ∙ cut_passes (last_in t s) steppable.two
 
   is-left : halved.cut-cut.result.left ≡ left_half (last_in t s)
