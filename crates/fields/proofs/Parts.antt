@@ -1,30 +1,16 @@
 -- Parts of a list. Assumes nothing.
-use mathlib.Core.Bool.{Bool, true, false}
 use mathlib.Core.List.{List, [], ◌∷◌, ◌++◌, append_assoc}
-use mathlib.Core.Path.{◌≡◌, refl, sym, ◌∙◌}
+use mathlib.Core.Path.{◌≡◌, refl}
 use Prim.Native.Nat.{ℕ, zero, suc, ◌+◌, ◌-◌, ◌≤◌, ◌<◌}
-use native.Mathlib.Nat.{zero-add, add-zero}
+use native.Mathlib.Nat.{add-zero}
 use native.Mathlib.Omega.{arith}
-use borrow.Author.Tests.{lt-leb, ltb-true, ltb-false}
-use lib.Dec.{T, ltb}
-use lib.IntN.{ℤ}
-use lib.ListN.{length, take, drop, get_or, set, length-drop}
+use lib.Dec.{T, ltb, lt→ltb}
+use lib.ListN.{length, take, drop, get_or, length-drop}
 use lib.Pow.{are_bytes}
-use lib.Seq.{get_or-drop, take-suc, append_snoc, set_at, paste-suc, take_at, drop_at, length-take-le}
+use lib.Seq.{get_or-drop, take_at, drop_at, length-take-le}
 use mir.Facts.{and_yes, yes_and}
-use Rattle.fields.specs.Fields.{inside}
-
--- an element stored before what stands behind it already
-pub set_before : (p q : List ℕ) (j b : ℕ) → j < length p → set (take (suc j) p ++ q) j b ≡ take j p ++ b ∷ q
-set_before p q j b h = rw (take-suc p j 0 h, append_snoc) (set_at (take j p) (get_or p j 0) q b j (length-take-le j p (omega arith)))
-
--- what a test of the place says
-module _ (bytes : List ℕ) (o k : ℕ) {out : Bool} (tested : out ≡ ltb (length bytes) (o + k)) where
-  pub not_inside : out ≡ true → inside bytes o k ≡ false
-  not_inside e = lt-leb (o + k) (length bytes) (ltb-true (length bytes) (o + k) (sym tested ∙ e))
-
-  pub lies_inside : out ≡ false → o + k ≤ length bytes
-  lies_inside e = ltb-false (length bytes) (o + k) (sym tested ∙ e)
+use mir.Syntax.{w8}
+use mir.Val.{Fits}
 
 -- a part of k elements; and as it is lent, from a to its end
 pub part_size : (t : List ℕ) (a k : ℕ) → a + k ≤ length t → length (take k (drop a t)) ≡ k
@@ -34,11 +20,6 @@ pub lent_size : (t : List ℕ) (a k : ℕ) → a + k ≤ length t → length (ta
 lent_size t a k h =
     let e : (a + k) - a ≡ k = omega arith in
     rw e (part_size t a k h)
-
--- the next element, copied from another list
-pub element_more : (d s : List ℤ) (k : ℕ) (z : ℤ) → k < length d → k < length s
-    → set (take k s ++ drop k d) k (get_or s k z) ≡ take (suc k) s ++ drop (suc k) d
-element_more d s k z hd hs = simp zero-add at (paste-suc {A = ℤ} d 0 s k z (rw zero-add hd) hs)
 
 -- the k elements behind the first n
 pub part_at : (p q t : List ℕ) (n k : ℕ) → length p ≡ n → length q ≡ k → take k (drop n ((p ++ q) ++ t)) ≡ q
@@ -56,6 +37,11 @@ bytes_take (suc k) [] h = h
 bytes_take (suc k) (b ∷ l) h =
     let both = and_yes (ltb b 256) (are_bytes l) h in
     yes_and (ltb b 256) (are_bytes (take k l)) both.0 (bytes_take k l both.1)
+
+-- they are where each of them is
+pub bytes_each : (l : List ℕ) → ((i : ℕ) → Fits w8 (get_or l i 0)) → T (are_bytes l)
+bytes_each [] h = tt
+bytes_each (b ∷ l) h = yes_and (ltb b 256) (are_bytes l) (lt→ltb b 256 (h 0).fits) (bytes_each l (λ i. h (suc i)))
 
 -- the two bytes from o on, one by one; and four
 two : (l : List ℕ) → 2 ≤ length l → get_or l 0 0 ∷ get_or l 1 0 ∷ [] ≡ take 2 l

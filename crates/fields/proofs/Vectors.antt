@@ -8,7 +8,6 @@ use lib.Dec.{T}
 use lib.IntN.{ℤ, pos}
 use lib.ListN.{length, take, drop, get_or, length-append}
 use lib.Pow.{are_bytes}
-use lib.Seq.{get_or-take, get_or-drop}
 use mir.Facts.{Fits-of_z, to_z-of_z, of_z-to_z}
 use mir.Syntax.{w16}
 use mir.Val.{SFits, of_z, to_z}
@@ -40,7 +39,7 @@ length_vector_of [] n h = omega arith
 length_vector_of (b ∷ []) n h = absurd (omega arith)
 length_vector_of (high ∷ low ∷ bs) n h = omega (arith, length_vector_of bs (n - 1) (omega arith))
 
-coordinate_at :
+pub coordinate_at :
     (bs : List ℕ) (k : ℕ) →
     2 * k + 1 < length bs →
     get_or (vector_of bs) k (pos 0) ≡ to_z w16 (from_big_endian (get_or bs (2 * k) 0 ∷ get_or bs (2 * k + 1) 0 ∷ []))
@@ -53,23 +52,9 @@ coordinate_at (high ∷ low ∷ bs) (suc k) h =
     let odd : 2 * suc k + 1 ≡ suc (suc (2 * k + 1)) = omega arith in
     rw (odd, even) (coordinate_at bs k (omega arith))
 
--- a byte of a part
-part_byte : (bytes : List ℕ) (at o : ℕ) → o < 16 → get_or (take 16 (drop at bytes)) o 0 ≡ get_or bytes (at + o) 0
-part_byte bytes at o h = get_or-take 16 (drop at bytes) o 0 h ∙ get_or-drop at bytes o 0
-
 -- the vector at a place has eight coordinates
 pub vector_eight : (bytes : List ℕ) (at : ℕ) → at + 16 ≤ length bytes → length (vector_at bytes at) ≡ 8
 vector_eight bytes at h = length_vector_of (take 16 (drop at bytes)) 8 (part_size bytes at 16 h)
-
--- a coordinate of the vector at a place
-pub coordinate_of_lem :
-    (bytes : List ℕ) (at k : ℕ) →
-    k < 8 →
-    at + 16 ≤ length bytes →
-    get_or (vector_at bytes at) k (pos 0) ≡ to_z w16 (from_big_endian (get_or bytes (at + 2 * k) 0 ∷ get_or bytes (at + (2 * k + 1)) 0 ∷ []))
-coordinate_of_lem bytes at k h g =
-    coordinate_at (take 16 (drop at bytes)) k (omega (arith, part_size bytes at 16 g))
-    ∙ (λ i. to_z w16 (from_big_endian (part_byte bytes at (2 * k) (omega arith) i ∷ part_byte bytes at (2 * k + 1) (omega arith) i ∷ [])))
 
 -- a vector that lies in the bytes
 pub vector_inside : (bytes : List ℕ) (o : ℕ) → o + 16 ≤ length bytes → vector_in bytes o ≡ vector_at bytes o
