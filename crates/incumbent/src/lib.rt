@@ -28,28 +28,17 @@ pub struct Child {
 pub fn ahead(mark: Mark, number: u64, v: [i16; 8]) -> bool
     ensures { result ≡ ahead_of mark number v }
 {
-    if number < mark.cost {
-        return true;
-    }
-    if 0 < mark.t {
-        return false;
-    }
-    if mark.cost < number {
-        return false;
-    }
-    let best = mark.best;
-    boxes::before(v, best)
+    number < mark.cost || mark.t == 0 && number == mark.cost && boxes::before(v, mark.best)
 }
 
 // A box with what was found of its bound, and whether it is kept.
 pub fn child_of(half: Box, bound: u64, mark: Mark) -> Child
     ensures { result ≡ child_of half bound mark }
 {
-    let low = half.low;
     Child {
         half,
         bound,
-        kept: ahead(mark, bound, low),
+        kept: ahead(mark, bound, half.low),
     }
 }
 
