@@ -1,5 +1,5 @@
 -- Numbers above a mark, one after the other. Assumes nothing.
-use mathlib.Core.Path.{◌≡◌, sym, ap, ◌∙◌, subst}
+use mathlib.Core.Path.{◌≡◌, refl, sym, ap, ◌∙◌, subst}
 use mathlib.Core.Bool.{Bool, true, false, ◌&&◌}
 use mathlib.Core.List.{List}
 use mathlib.Core.Logic.{⊎_elim}
@@ -13,17 +13,25 @@ use Rattle.integers.proofs.Tests.{is_true, and_parts}
 use Rattle.eval_lanes.specs.Lanes.{lane}
 use Rattle.eval_gaps.specs.Gaps.{all_above}
 
+turned : (s t : Bool) → s && t ≡ t && s
+turned true true = refl
+turned true false = refl
+turned false true = refl
+turned false false = refl
+
 module _ (mark : Float) (ys : List Float) where
   -- one number more
   above_more : (k : ℕ) → all_above mark ys (k + 1) ≡ lt mark (lane ys k) && all_above mark ys k
   unfolding all_above
   above_more k = ap (all_above mark ys) (add-one k)
 
-  pub one_above : (k : ℕ) → lt mark (lane ys k) ≡ true → all_above mark ys (k + 1) ≡ all_above mark ys k
-  one_above k e = above_more k ∙ ap (λ (t : Bool). t && all_above mark ys k) e
+  pub none_above : true ≡ all_above mark ys 0
+  unfolding all_above
+  none_above = refl
 
-  pub one_other : (k : ℕ) → lt mark (lane ys k) ≡ false → all_above mark ys (k + 1) ≡ false
-  one_other k e = above_more k ∙ ap (λ (t : Bool). t && all_above mark ys k) e
+  pub next_above : (xs : List Float) (k : ℕ) (above : Bool) → lane xs k ≡ lane ys k → above ≡ all_above mark ys k
+      → above && lt mark (lane xs k) ≡ all_above mark ys (k + 1)
+  next_above xs k above e f = rw e (rw f (turned (all_above mark ys k) (lt mark (lane ys k)) ∙ sym (above_more k)))
 
   -- where all lie above, each does
   pub each_above : (n : ℕ) → all_above mark ys n ≡ true → (k : ℕ) → k < n → lt mark (lane ys k) ≡ true

@@ -8,23 +8,20 @@ ghost use Rattle.eval_whole.specs.Whole.{zeroth};
 ghost use Rattle.eval_lanes.specs.Lanes.{lane};
 ghost use Rattle.eval_gaps.specs.Gaps.{all_above};
 
-use eval_lanes::{Lanes, known};
+use eval_lanes::Lanes;
 
-// Each number times a factor, and whether all of them lay above a mark. Those that did not are counted, so that no jump leaves the loop.
+// Each number times a factor, and whether all of them lay above a mark, with no jump out of the loop.
+#[tactic(auto, using(crate::proofs::Above::none_above))]
 pub fn scale_above(ys: &mut Lanes, mark: f64, by: f64) -> bool
     ensures above { result ≡ all_above mark ys.old 80 }
     ensures scaled { (k : ℕ) → k < 80 → lane ys.new k ≡ mul binary64 (lane ys.old k) by }
 {
-    known(*ys);
-    let mut others: usize = 0;
-    for k in 0..80 {
-        let y = ys[k];
-        if !(mark < y) {
-            others += 1;
-        }
-        ys[k] = y * by;
+    let mut above = true;
+    for y in ys.iter_mut() {
+        above &= mark < *y;
+        *y *= by;
     }
-    others == 0
+    above
 }
 
 // A number where y lies above the mark, else 0.
@@ -40,9 +37,7 @@ pub fn keep_above(out: &mut Lanes, ys: &Lanes, mark: f64)
         → k < 80
         → lane out.new k ≡ cond (lt mark (lane ys.now k)) (lane out.old k) zeroth }
 {
-    known(*out);
-    known(*ys);
-    for k in 0..80 {
-        out[k] = kept(out[k], ys[k], mark);
+    for (k, x) in out.iter_mut().enumerate() {
+        *x = kept(*x, ys[k], mark);
     }
 }
