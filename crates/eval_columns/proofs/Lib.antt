@@ -3,3 +3,4 @@ pub mod Casts
 pub mod Decoding
 pub mod Laying
 pub mod Marks
+pub mod Parts

@@ -1,12 +1,12 @@
 -- What the loops that decode a store say of a column.
-use Rattle.std.specs.Prelude.{List, ℕ, ◌+◌, ◌*◌, ◌-◌, ◌<◌, Float}
+use Rattle.std.specs.Prelude.{List, ℕ, ◌+◌, ◌*◌, ◌<◌, Float}
 use Rattle.points.specs.Points.{signed_at}
 use Rattle.eval_lanes.specs.Lanes.{cell}
 use Rattle.eval_columns.specs.Columns.{record_in, field, Cast, Scaled}
 
--- the numbers from place o on are a field of the records from record i on, where it is `at` bytes from the record's beginning
-abbrev pub FieldOfRecords : List ℕ → ℕ → ℕ → ℕ → ℕ → Float → Float → Type 0
-FieldOfRecords store o i at k old x = Cast x (signed_at store ((i + (k - o)) * 12 + at))
+-- the numbers are a field of the records from record i on, where it is `at` bytes from the record's beginning
+abbrev pub FieldOfRecords : List ℕ → ℕ → ℕ → ℕ → Float → Float → Type 0
+FieldOfRecords store i at k old x = Cast x (signed_at store ((i + k) * 12 + at))
 
 -- the numbers are field c of the records in the slots of chunk t
 abbrev pub FieldOfSlots : List ℕ → ℕ → ℕ → ℕ → Float → Float → Type 0
