@@ -22,7 +22,7 @@ fn stray_record(r: Refusal) -> usize
 
 // The code of a refusal: its number, and above it the record's.
 pub fn refusal_code(r: Refusal) -> u32
-    ensures { result ≡ code_of (answered (Refused r)) }
+    ensures { result ≡ code_of (answered (Err r)) }
 {
     u8::from(r) as u32 + 256 * ((stray_record(r) % 16_777_216) as u32)
 }
@@ -66,14 +66,12 @@ pub fn model_of(n: u8, d: u8, scale: u8, p: u8, eps: u32) -> Model
 pub fn job_of(m: Model, t: u64, budget: u32, rows: u32, corners: &[i16], start: &[i16]) -> Job
     ensures { result ≡ job_from m t budget rows corners.now start.now }
 {
-    let domain = list_rows::read_row(corners, 0);
-    let first = c_buffers::vector_of(start);
     Job {
         model: m,
         t,
         budget,
         rows,
-        domain,
-        start: first,
+        domain: list_rows::read_row(corners, 0),
+        start: c_buffers::vector_of(start),
     }
 }
