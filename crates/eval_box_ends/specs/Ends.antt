@@ -4,7 +4,8 @@ use Rattle.std.specs.Prelude.{List, ℕ, zero, suc, Float}
 use Rattle.std.specs.Float.{binary64}
 use Rattle.std.specs.Float.Ieee.{neg, add, mul}
 use Rattle.eval_whole.specs.Whole.{larger_of, smaller_of, zeroth}
-use Rattle.eval_lanes.specs.Lanes.{cell, four, xs_at, lessened}
+use Rattle.eval_lanes.specs.Lanes.{lane, cell, xs_at, lessened}
+use Rattle.eval_box_ends.specs.declared.Span.{Span}
 
 -- emin of the numbers of a point and of a line's ends: y less d products, each the larger of two
 abbrev pub least_end : (ℕ → Float) → (ℕ → Float) → (ℕ → Float) → Float → ℕ → Float
@@ -26,5 +27,5 @@ least_in s low high d k =
     nearest (least_end low high (xs_at s k) (cell s 4 k) d) (opposite_end low high (xs_at s k) (cell s 4 k) d)
 
 -- by the ends of the line's coordinates
-abbrev pub over_line : List (List Float) → Float → Float → Float → Float → Float → Float → Float → Float → ℕ → ℕ → Float
-over_line s l1 h1 l2 h2 l3 h3 l4 h4 = least_in s (four l1 l2 l3 l4) (four h1 h2 h3 h4)
+abbrev pub over_line : List (List Float) → Span → ℕ → ℕ → Float
+over_line s b = least_in s (lane b.low) (lane b.high)
