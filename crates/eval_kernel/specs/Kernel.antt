@@ -1,6 +1,6 @@
 -- The losses of a chunk, in double precision, step by step as the machine does. proofs/Exact.antt says which whole numbers these are for
 -- the points of a store.
-use Rattle.std.specs.Prelude.{Bool, cond, List, ◌++◌, map, ◌≡◌, ℕ, zero, suc, ◌+◌, ◌*◌, ◌<◌, min, ℤ, pos, get_or, replicate, Float}
+use Rattle.std.specs.Prelude.{Bool, cond, List, [], ◌∷◌, ◌++◌, map, ◌≡◌, ℕ, zero, suc, ◌+◌, ◌*◌, ◌<◌, min, ℤ, pos, get_or, replicate, Float}
 use Rattle.std.specs.Float.{binary64}
 use Rattle.std.specs.Float.Ieee.{of_int}
 use Rattle.jobs.specs.declared.Model.{Model}
@@ -18,7 +18,10 @@ doubles v = map (of_int binary64) v ++ replicate 4 zeroth
 abbrev pub Doubles : List ℤ → List Float → Type 0
 Doubles v u = (k : ℕ) → k < 8 → Within (lane u k) (get_or v k (pos 0)) 32768
 
--- the four coordinates from place b on
+-- the four coordinates from place b on, and each by its place
+abbrev pub line_at : List Float → ℕ → List Float
+line_at u b = lane u b ∷ lane u (b + 1) ∷ lane u (b + 2) ∷ lane u (b + 3) ∷ []
+
 abbrev pub line : List Float → ℕ → ℕ → Float
 line u b = four (lane u b) (lane u (b + 1)) (lane u (b + 2)) (lane u (b + 3))
 

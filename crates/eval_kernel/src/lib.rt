@@ -6,8 +6,9 @@ ghost use Rattle.std.specs.Float.{binary64};
 ghost use Rattle.std.specs.Float.Ieee.{of_int};
 ghost use Rattle.eval_whole.specs.Whole.{Within};
 ghost use Rattle.eval_lanes.specs.Lanes.{Lessened};
-ghost use Rattle.eval_kernel.specs.Kernel.{doubles, Doubles, size_by, LeastOf, no_size, group_losses, chunk_loss};
+ghost use Rattle.eval_kernel.specs.Kernel.{doubles, Doubles, line_at, size_by, LeastOf, no_size, group_losses, chunk_loss};
 
+use eval_box_ends::Span;
 use eval_lanes::{Chunk, Lanes};
 use jobs::Model;
 
@@ -27,6 +28,7 @@ pub fn coordinates(v: [i16; 8]) -> Coordinates
     ensures whole { Doubles v result }
 {
     let mut u: Coordinates = [0.0; 12];
+    // By places: of a zip over `iter_mut` the loop's facts do not name what is written already.
     for i in 0..8 {
         u[i] = double(v[i]);
     }
@@ -37,44 +39,18 @@ pub fn coordinates(v: [i16; 8]) -> Coordinates
 fn place(j: u8, d: u8) -> usize
     ensures { result ≡ min (j * d) 8 }
 {
-    let b = (j as u16) * (d as u16);
-    if b < 8 { b as usize } else { 8 }
+    (j as usize * d as usize).min(8)
 }
 
-// Each lane becomes the smaller of itself and the size of its point under the line whose coordinates begin at place b.
-fn lessen(
-    least: &mut Lanes,
-    s: &Chunk,
-    low: &Coordinates,
-    high: &Coordinates,
-    d: usize,
-    b: usize,
-    over: bool,
-)
+// The coordinates of the line that begins at place b.
+fn line(u: &Coordinates, b: usize) -> [f64; 4]
     requires { b < 9 }
-    ensures { Lessened least.old least.new
-        (size_by over s.now low.now high.now d b) }
+    ensures { result ≡ line_at u.now b }
 {
-    if over {
-        eval_box_sizes::over_line(
-            least,
-            s,
-            d,
-            low[b],
-            high[b],
-            low[b + 1],
-            high[b + 1],
-            low[b + 2],
-            high[b + 2],
-            low[b + 3],
-            high[b + 3],
-        );
-    } else {
-        eval_sizes::at_line(least, s, d, low[b], low[b + 1], low[b + 2], low[b + 3]);
-    }
+    [u[b], u[b + 1], u[b + 2], u[b + 3]]
 }
 
-// The same under line j.
+// Each lane becomes the smaller of itself and the size of its point under line j.
 pub fn lessen_line(
     least: &mut Lanes,
     s: &Chunk,
@@ -87,7 +63,16 @@ pub fn lessen_line(
     ensures { Lessened least.old least.new
         (size_by over s.now low.now high.now d (min (j * d) 8)) }
 {
-    lessen(least, s, low, high, d as usize, place(j, d), over);
+    let b = place(j, d);
+    if over {
+        let span = Span {
+            low: line(low, b),
+            high: line(high, b),
+        };
+        eval_box_sizes::over_line(least, s, d as usize, span);
+    } else {
+        eval_sizes::at_line(least, s, d as usize, line(low, b));
+    }
 }
 
 // And under all n lines.
