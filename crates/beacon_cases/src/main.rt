@@ -8,23 +8,12 @@ use std::io;
 
 // How many bytes of the store are 1.
 fn stored(store: &[u8]) -> usize {
-    let mut n: usize = 0;
-    for i in 0..store.len() {
-        if store[i] == 1 {
-            n += 1;
-        }
-    }
-    n
+    store.iter().filter(|b| **b == 1).count()
 }
 
 // The place of the first 1 in the store, or its length where there is none.
 fn first(store: &[u8]) -> usize {
-    for i in 0..store.len() {
-        if store[i] == 1 {
-            return i;
-        }
-    }
-    store.len()
+    store.iter().position(|b| *b == 1).unwrap_or(store.len())
 }
 
 fn field(rt: &impl Print, word: &str, n: usize) -> io::Result<()> {
@@ -50,17 +39,11 @@ fn report(rt: &impl Print, store: &mut [u8], mark: usize, body: &[u8]) -> io::Re
     println!(rt)
 }
 
-// The contracts give the lengths alone: the proof of `case` needs no more.
-fn zeros() -> [u8; 50004]
+// The contract gives the length alone: the proof of `case` needs no more.
+fn bytes_of(b: u8) -> [u8; 50004]
     ensures { 50004 ≡ length result }
 {
-    [0; 50004]
-}
-
-fn ones() -> [u8; 50004]
-    ensures { 50004 ≡ length result }
-{
-    [1; 50004]
+    [b; 50004]
 }
 
 // A store and a beacon of so many bytes.
@@ -68,8 +51,8 @@ fn case(rt: &impl Print, len: usize, mark: usize, bytes: usize) -> io::Result<()
     requires len_bound { len ≤ 50004 }
     requires bytes_bound { bytes ≤ 50004 }
 {
-    let mut store = zeros();
-    let body = ones();
+    let mut store = bytes_of(0);
+    let body = bytes_of(1);
     report(rt, &mut store[..len], mark, &body[..bytes])
 }
 
