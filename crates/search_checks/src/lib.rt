@@ -6,7 +6,7 @@ ghost use Rattle.codes.specs.Codes.{pass_if};
 ghost use Rattle.codes.specs.declared.Refusal.{Refusal};
 ghost use Rattle.search_checks.specs.Checks.{check_job, check_search};
 
-use codes::{Refusal, in_order};
+use codes::Refusal;
 use jobs::Job;
 
 // Check 8, of the numbers that the table has.
@@ -32,28 +32,23 @@ pub fn check_bounds(numbers: usize, entries: usize) -> Result<(), Refusal>
 }
 
 // Checks 1 to 7. Only where checks 1 to 6 pass is the store looked through for stray fields.
+#[tactic(auto, unfolding(crate::specs::Checks::check_job, codes::specs::Codes::in_order))]
 pub fn check_job(store: &[u8], job: Job) -> Result<(), Refusal>
     ensures { result ≡ check_job store.now job }
 {
     let m = job.model;
-    let domain = job.domain;
-    let start = job.start;
-    let region = in_order(
-        boxes::check_box(m.n, m.d, domain),
-        boxes::check_start(domain, start),
-    );
-    match in_order(model_checks::check_model(store, m), region) {
-        Ok(()) => points::check_stray(store, m.d),
-        Err(r) => Err(r),
-    }
+    model_checks::check_model(store, m)?;
+    boxes::check_box(m.n, m.d, job.domain)?;
+    boxes::check_start(job.domain, job.start)?;
+    points::check_stray(store, m.d)
 }
 
 // Checks 1 to 8 and 14, with a table of so many numbers and a list of so many entries.
+#[tactic(auto, unfolding(crate::specs::Checks::check_search, codes::specs::Codes::in_order))]
 pub fn check_search(store: &[u8], job: Job, numbers: usize, entries: usize) -> Result<(), Refusal>
     ensures { result ≡ check_search store.now job numbers entries }
 {
-    let given = check_job(store, job);
-    let table = check_table(numbers);
-    let bounds = check_bounds(numbers, entries);
-    in_order(in_order(given, table), bounds)
+    check_job(store, job)?;
+    check_table(numbers)?;
+    check_bounds(numbers, entries)
 }
