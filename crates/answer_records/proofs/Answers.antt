@@ -1,20 +1,20 @@
 -- What reading and writing an answer record come to, and the round trip.
 use mathlib.Core.List.{List, [], ◌∷◌, ◌++◌, append_assoc}
 use mathlib.Core.Path.{◌≡◌, sym, ap, ◌∙◌}
-use Prim.Native.Nat.{ℕ, ◌+◌, ◌≤◌, ◌<◌}
+use Prim.Native.Nat.{ℕ, ◌+◌, ◌≤◌}
 use native.Mathlib.Omega.{arith}
-use borrow.Author.Tests.{eq-eqb, ne_eqb, le-leb, lt-leb}
+use borrow.Author.Tests.{eq-eqb, le-leb}
 use lib.Dec.{T, eqb, eqb→eq}
 use lib.ListN.{length, take, drop, get_or, length-append}
 use lib.Pow.{are_bytes}
 use lib.Seq.{take_at, drop_at, drop-drop, get_or-drop, take-add, take_all}
-use Rattle.std.specs.Prelude.{Err}
-use Rattle.codes.proofs.Checks.{passed, first_passed}
-use Rattle.codes.specs.Codes.{Check, pass, pass_if, if_passed, in_order}
-use Rattle.codes.specs.declared.Refusal.TheVariants.{Answer, Short}
+use Rattle.std.specs.Prelude.{Ok, Err}
+use Rattle.codes.proofs.Checks.{passed, first_passed, answered}
+use Rattle.codes.specs.Codes.{pass, in_order}
 use Rattle.codes.specs.declared.Refusal.{Refusal}
-use Rattle.answer_records.specs.Answers.{answer_bytes, answer_of, check_answer, check_answer_write, read_answer, zero_answer}
+use Rattle.codes.specs.declared.Refusal.TheVariants.{Answer}
 use Rattle.fields.specs.Buffers.{check_room}
+use Rattle.answer_records.specs.Answers.{answer_bytes, answer_of, check_answer, check_answer_write, read_answer}
 use Rattle.fields.specs.Fields.{big_endian, from_big_endian, vector_bytes, vector_of}
 use Rattle.answer_records.specs.Laws.{IsAnswer, AnswerRoundTrip}
 use Rattle.answer_records.specs.declared.AnswerRecord.{AnswerRecord}
@@ -22,28 +22,10 @@ use Rattle.fields.proofs.BigEndian.{written_reads_whole}
 use Rattle.fields.proofs.Parts.{four_at}
 use Rattle.fields.proofs.Vectors.{vector_long, written_reads as vector-reads, number_back, vector_back}
 
-pub read_no_length : (bytes : List ℕ) → (length bytes ≡ 40 → ⊥) → read_answer bytes ≡ record { check = Err Answer; answer = zero_answer }
-unfolding read_answer in_order
-read_no_length bytes h = simp (ne_eqb (length bytes) 40 h)
-
-pub read_refused : (bytes : List ℕ) (r : Refusal) → length bytes ≡ 40 → check_answer (answer_of bytes) ≡ Err r
-    → read_answer bytes ≡ record { check = Err r; answer = zero_answer }
-unfolding read_answer in_order
-read_refused bytes r h e = simp (eq-eqb (length bytes) 40 h, e)
-
-pub read_accepted : (bytes : List ℕ) → length bytes ≡ 40 → check_answer (answer_of bytes) ≡ pass
-    → read_answer bytes ≡ record { check = pass; answer = answer_of bytes }
-unfolding read_answer in_order
-read_accepted bytes h e = simp (eq-eqb (length bytes) 40 h, e)
-
 module _ (a : AnswerRecord) (out : List ℕ) where
   pub write_refused : (r : Refusal) → check_answer a ≡ Err r → check_answer_write a out ≡ Err r
   unfolding check_answer_write in_order
   write_refused r e = simp e
-
-  pub write_no_room : check_answer a ≡ pass → length out < 40 → check_answer_write a out ≡ Err Short
-  unfolding check_answer_write check_room in_order
-  write_no_room e h = simp (e, lt-leb 40 (length out) h)
 
   pub write_accepted : check_answer a ≡ pass → 40 ≤ length out → check_answer_write a out ≡ pass
   unfolding check_answer_write check_room in_order
@@ -105,16 +87,24 @@ module _ (bytes : List ℕ) (ok : T (are_bytes bytes)) (h : length bytes ≡ 40)
       ∙ joined
       ∙ take_all 40 bytes (omega arith)
 
-pub answer_round_trip : AnswerRoundTrip
+-- a record that check 9 lets through is read
+accepted : (bytes : List ℕ) → length bytes ≡ 40 → check_answer (answer_of bytes) ≡ pass → read_answer bytes ≡ Ok (answer_of bytes)
+unfolding read_answer in_order
+accepted bytes h e = simp (eq-eqb (length bytes) 40 h, e)
+
+-- a record that was read has 40 bytes, and stands for what was read
+whole : (bytes : List ℕ) (a : AnswerRecord) → read_answer bytes ≡ Ok a → (length bytes ≡ 40) × (answer_of bytes ≡ a)
 unfolding read_answer
+whole bytes a e =
+    let h = answered _ (answer_of bytes) a e in
+    (eqb→eq (length bytes) 40 (passed (eqb (length bytes) 40) Answer (first_passed _ (check_answer (answer_of bytes) ∷ []) h.0)), h.1)
+
+pub answer_round_trip : AnswerRoundTrip
 answer_round_trip = record {
   size = size;
   written_reads =
-      λ a ok e. read_accepted (answer_bytes a) (size a ok) (ap check_answer (reads a ok) ∙ e)
-      ∙ (λ i. record { check = pass; answer = reads a ok i });
-  read_writes = λ bytes ok e.
-      let h =
-      eqb→eq (length bytes) 40 (passed (eqb (length bytes) 40) Answer
-      (first_passed (pass_if (eqb (length bytes) 40) Answer) (check_answer (answer_of bytes) ∷ []) e)) in
-      ap (λ (k : Check). answer_bytes (if_passed k (answer_of bytes) zero_answer)) e ∙ writes bytes ok h;
+      λ a ok e. accepted (answer_bytes a) (size a ok) (ap check_answer (reads a ok) ∙ e) ∙ ap Ok (reads a ok);
+  read_writes = λ bytes ok a e.
+      let read = whole bytes a e in
+      ap answer_bytes (sym read.1) ∙ writes bytes ok read.0;
 }

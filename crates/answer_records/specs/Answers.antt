@@ -1,12 +1,12 @@
 -- The answer record.
-use Rattle.std.specs.Prelude.{Bool, true, false, ◌&&◌, List, [], ◌∷◌, ◌++◌, ℕ, leb, eqb, pos, length, replicate}
-use Rattle.codes.specs.Codes.{Check, pass_if, if_passed, in_order, within}
+use Rattle.std.specs.Prelude.{Bool, true, false, ◌&&◌, List, [], ◌∷◌, ◌++◌, ℕ, leb, eqb, length, Result}
+use Rattle.codes.specs.Codes.{Check, pass_if, if_passed, unless_refused, in_order, within}
+use Rattle.codes.specs.declared.Refusal.{Refusal}
 use Rattle.codes.specs.declared.Refusal.TheVariants.{Answer}
 use Rattle.scale.specs.Scale.{check_scale}
 use Rattle.boxes.specs.Shape.{check_shape, unused_zero}
 use Rattle.fields.specs.Buffers.{check_room}
 use Rattle.fields.specs.Fields.{big_endian, vector_bytes, byte_at, number_at, vector_at}
-use Rattle.answer_records.specs.declared.AnswerRead.{AnswerRead}
 use Rattle.answer_records.specs.declared.AnswerRecord.{AnswerRecord}
 
 -- "An answer record has 40 bytes: vector (16), C (64 bits), L (64), count (32), kind (1 solved, 2 spent, 3 full), n, d, S."
@@ -52,21 +52,6 @@ check_answer a =
 unfoldable pub check_answer_write : AnswerRecord → List ℕ → Check
 check_answer_write a out = in_order (check_answer a ∷ check_room 40 out ∷ [])
 
--- a refusal has nothing but zeros beside it
-abbrev pub zero_answer : AnswerRecord
-zero_answer = record {
-  vector = replicate 8 (pos 0);
-  cost = 0;
-  bound = 0;
-  count = 0;
-  kind = 0;
-  n = 0;
-  d = 0;
-  scale = 0;
-}
-
 -- Check 9 of a record to read: "to read, length not 40".
-unfoldable pub read_answer : List ℕ → AnswerRead
-read_answer bytes =
-    let check = in_order (pass_if (eqb (length bytes) 40) Answer ∷ check_answer (answer_of bytes) ∷ []) in
-    record { check = check; answer = if_passed check (answer_of bytes) zero_answer }
+unfoldable pub read_answer : List ℕ → Result AnswerRecord Refusal
+read_answer bytes = unless_refused (in_order (pass_if (eqb (length bytes) 40) Answer ∷ check_answer (answer_of bytes) ∷ [])) (answer_of bytes)

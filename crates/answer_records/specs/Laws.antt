@@ -1,6 +1,6 @@
 -- What holds of answer records: statements, each proved in proofs/ under the name of its record.
 use Rattle.codes.specs.Codes.{pass}
-use Rattle.std.specs.Prelude.{List, ◌≡◌, ℕ, T, length}
+use Rattle.std.specs.Prelude.{List, ◌≡◌, ℕ, T, length, Ok}
 use Rattle.std.proofs.Math.Pow.{are_bytes}
 use Rattle.std.specs.Int.{w32, w64}
 use Rattle.std.proofs.Common.{Fits}
@@ -24,6 +24,6 @@ pub record AnswerRoundTrip : Type 0 where
       (a : AnswerRecord) →
       IsAnswer a →
       check_answer a ≡ pass →
-      read_answer (answer_bytes a) ≡ record { check = pass; answer = a }
+      read_answer (answer_bytes a) ≡ Ok a
   -- a record that reads writes back to the same bytes
-  pub read_writes : (bytes : List ℕ) → T (are_bytes bytes) → (read_answer bytes).check ≡ pass → answer_bytes (read_answer bytes).answer ≡ bytes
+  pub read_writes : (bytes : List ℕ) → T (are_bytes bytes) → (a : AnswerRecord) → read_answer bytes ≡ Ok a → answer_bytes a ≡ bytes

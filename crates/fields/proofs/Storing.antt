@@ -6,7 +6,7 @@ use native.Mathlib.Omega.{arith}
 use borrow.Author.Tests.{le-leb}
 use lib.IntN.{ℤ}
 use lib.ListN.{length, take, drop, length-append, length-drop}
-use lib.Seq.{take_at, drop_at, drop-drop, sets, sets-eq}
+use lib.Seq.{take_at, drop_at, drop-drop}
 use Rattle.integers.specs.Lists.{over}
 use Rattle.fields.specs.Fields.{big_endian, vector_bytes, with_field}
 use Rattle.fields.proofs.BigEndian.{length_big_endian}
@@ -73,12 +73,10 @@ module _ {p t b : List ℕ} {n : ℕ} (s : Stored p n t b) where
       Stored (p ++ vector_bytes v) (n + 16) t b'
   vector_then v eight h e = and_then 16 (vector_bytes v) (vector_long v eight) h e
 
-  -- single bytes, stored one after the other
-  pub bytes_then : (q : List ℕ) → n + length q ≤ length t → Stored (p ++ q) (n + length q) t (sets b n q)
-  bytes_then q h = record {
-    is =
-        sets-eq q b n (omega (arith, stored_long (omega arith)))
-        ∙ append_assoc (take n b) q (drop (n + length q) b)
-        ∙ rw (← drop-drop (length q) n b, s.is) (part_more p q t n (length q) s.long);
+  -- a part that was copied
+  pub bytes_then : {ys : List ℕ} (q : List ℕ) → n + length q ≤ length t → ys ≡ q
+      → Stored (p ++ q) (n + length q) t (take n b ++ (ys ++ drop (length q) (drop n b)))
+  bytes_then q h e = record {
+    is = rw (e, s.is) (part_more p q t n (length q) s.long);
     long = omega (arith, length-append p q, s.long);
   }

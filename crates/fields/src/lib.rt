@@ -1,10 +1,26 @@
 // Big-endian fields at their places in a record's bytes: numbers and vectors. What does not lie in the bytes is neither read nor written.
 #![tactic(auto)]
 
-ghost use Rattle.std.specs.Prelude.{[], ◌∷◌, ◌≡◌, ◌+◌, ◌^◌, ◌<◌, ◌≤◌, SomeIff, length};
+ghost use Rattle.std.specs.Prelude.{[], ◌∷◌, ◌≡◌, ◌+◌, ◌^◌, ◌<◌, ◌≤◌, SomeIff, OnOk, length};
 ghost use Rattle.std.specs.Int.{w16};
 ghost use Rattle.std.proofs.Common.{to_z};
+ghost use Rattle.fields.specs.Buffers.{check_room};
 ghost use Rattle.fields.specs.Fields.{big_endian, from_big_endian, number_in, vector_bytes, vector_in, with_field};
+
+use codes::Refusal;
+
+// Check 10 of a record of so many bytes.
+#[tactic(auto, unfolding(crate::specs::Buffers::check_room))]
+pub fn check_room(size: usize, out: &[u8]) -> Result<(), Refusal>
+    ensures check { result ≡ check_room size out.now }
+    ensures room { OnOk result (size ≤ length out.now) }
+{
+    if size <= out.len() {
+        Ok(())
+    } else {
+        Err(Refusal::Short)
+    }
+}
 
 // The unsigned 16-bit number of two bytes, the higher first.
 #[tactic(auto, unfolding(crate::specs::Fields::from_big_endian))]

@@ -8,12 +8,11 @@ use lib.Dec.{T}
 use lib.ListN.{length, take, drop, length-append}
 use lib.Pow.{are_bytes}
 use lib.Seq.{take_at, take-add}
-use Rattle.codes.specs.Codes.{pass}
+use Rattle.std.specs.Prelude.{Ok}
 use Rattle.jobs.specs.declared.Job.{Job}
 use Rattle.fields.specs.Fields.{big_endian, vector_bytes, vector_of}
 use Rattle.job_records.specs.Jobs.{job_bytes, job_of, read_job}
 use Rattle.job_records.specs.Laws.{IsJob, JobRoundTrip}
-use Rattle.job_records.specs.declared.JobRead.{JobRead}
 use Rattle.fields.proofs.BigEndian.{written_reads_whole}
 use Rattle.fields.proofs.Parts.{part_at, four_at}
 use Rattle.fields.proofs.Vectors.{vector_long, written_reads as vector-reads, number_back, vector_back}
@@ -101,7 +100,7 @@ module _ (bytes : List ℕ) (ok : T (are_bytes bytes)) (long : 72 ≤ length byt
       ∙ joined
 
 -- where the bytes are enough, the job is read
-accepted : (bytes : List ℕ) → 72 ≤ length bytes → read_job bytes ≡ record { check = pass; job = job_of bytes }
+pub accepted : (bytes : List ℕ) → 72 ≤ length bytes → read_job bytes ≡ Ok (job_of bytes)
 unfolding read_job
 accepted bytes h = simp (le-leb 72 (length bytes) h)
 
@@ -110,6 +109,6 @@ job_round_trip = record {
   size = λ job ok. size job ok [];
   written_reads = λ job ok rest.
       accepted (job_bytes job ++ rest) (omega (arith, length-append (job_bytes job) rest, size job ok []))
-      ∙ (λ i. record { check = pass; job = reads job ok rest i });
-  read_writes = λ bytes ok h. ap (λ (r : JobRead). job_bytes r.job) (accepted bytes h) ∙ writes bytes ok h;
+      ∙ ap Ok (reads job ok rest);
+  read_writes = λ bytes ok h. rw (accepted bytes h) (writes bytes ok h);
 }

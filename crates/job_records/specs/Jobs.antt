@@ -1,11 +1,10 @@
 -- The job record.
-use Rattle.std.specs.Prelude.{List, [], ◌∷◌, ◌++◌, ℕ, leb, pos, length, replicate}
-use Rattle.codes.specs.Codes.{pass_if, if_passed}
+use Rattle.std.specs.Prelude.{List, [], ◌∷◌, ◌++◌, ℕ, leb, length, Result}
+use Rattle.codes.specs.Codes.{pass_if, unless_refused}
+use Rattle.codes.specs.declared.Refusal.{Refusal}
 use Rattle.codes.specs.declared.Refusal.TheVariants.{Length}
-use Rattle.boxes.specs.Split.{zero_box}
 use Rattle.jobs.specs.declared.Job.{Job}
 use Rattle.fields.specs.Fields.{big_endian, vector_bytes, byte_at, number_at, vector_at}
-use Rattle.job_records.specs.declared.JobRead.{JobRead}
 
 -- "A job record has 72 bytes: n, d, S, p (a byte each), ε (32 bits), t (64), budget (32), rows r (32), low, high, start vector."
 unfoldable pub job_bytes : Job → List ℕ
@@ -36,19 +35,6 @@ job_of bytes = record {
   start = vector_at bytes 56;
 }
 
--- a refusal has nothing but zeros beside it
-abbrev pub zero_job : Job
-zero_job = record {
-  model = record { n = 0; d = 0; scale = 0; p = 0; eps = 0 };
-  t = 0;
-  budget = 0;
-  rows = 0;
-  domain = zero_box;
-  start = replicate 8 (pos 0);
-}
-
 -- Check 1: "input of fit under 72 bytes".
-unfoldable pub read_job : List ℕ → JobRead
-read_job bytes =
-    let check = pass_if (leb 72 (length bytes)) Length in
-    record { check = check; job = if_passed check (job_of bytes) zero_job }
+unfoldable pub read_job : List ℕ → Result Job Refusal
+read_job bytes = unless_refused (pass_if (leb 72 (length bytes)) Length) (job_of bytes)

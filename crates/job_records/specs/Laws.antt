@@ -1,6 +1,5 @@
 -- What holds of job records: statements, each proved in proofs/ under the name of its record.
-use Rattle.codes.specs.Codes.{pass}
-use Rattle.std.specs.Prelude.{List, ◌++◌, ◌≡◌, ℕ, ◌≤◌, T, length, take}
+use Rattle.std.specs.Prelude.{List, ◌++◌, ◌≡◌, ℕ, ◌≤◌, T, length, take, Ok, IsOkAnd}
 use Rattle.std.proofs.Math.Pow.{are_bytes}
 use Rattle.std.specs.Int.{w32, w64}
 use Rattle.std.proofs.Common.{Fits}
@@ -23,6 +22,6 @@ pub record JobRoundTrip : Type 0 where
   -- "A job record has 72 bytes".
   pub size : (job : Job) → IsJob job → length (job_bytes job) ≡ 72
   -- a job that was written reads as itself, whatever follows it
-  pub written_reads : (job : Job) → IsJob job → (rest : List ℕ) → read_job (job_bytes job ++ rest) ≡ record { check = pass; job = job }
+  pub written_reads : (job : Job) → IsJob job → (rest : List ℕ) → read_job (job_bytes job ++ rest) ≡ Ok job
   -- a job that was read writes back to the same 72 bytes
-  pub read_writes : (bytes : List ℕ) → T (are_bytes bytes) → 72 ≤ length bytes → job_bytes (read_job bytes).job ≡ take 72 bytes
+  pub read_writes : (bytes : List ℕ) → T (are_bytes bytes) → 72 ≤ length bytes → IsOkAnd (read_job bytes) (λ job. job_bytes job ≡ take 72 bytes)

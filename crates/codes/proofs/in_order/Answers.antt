@@ -1,5 +1,5 @@
 -- By what the first check says.
-use Rattle.std.proofs.Common.{◌≡◌, refl, sym}
+use Rattle.std.proofs.Common.{refl, sym}
 use Rattle.codes.specs.Codes.{in_order}
 use Rattle.codes.proofs.Laws.{in_order_one}
 use Rattle.codes.proofs.in_order.Goals as goal
