@@ -21,7 +21,7 @@ use Rattle.list_rows.specs.Rows.{row_count}
 use Rattle.certificate.specs.Search as Search
 use Rattle.search.specs.declared.Answer.{Answer}
 use Rattle.search.specs.Search.{searched, refused, answer_unless_refused}
-use Rattle.job_records.specs.Jobs.{read_job}
+use Rattle.job_records.specs.Jobs.{job_of}
 use Rattle.sharing.specs.Sharing.{Run, SharedTable, SharedBounds}
 use Rattle.sharing.proofs.Sharing.{table_shared, bounds_shared}
 use Rattle.shares.specs.Shares.{left_before, splits_of}
@@ -161,7 +161,7 @@ module _ (count total : ℕ) (jobs stores lengths : List ℕ) (table : List ℤ)
 
   -- what job i is given, as the code has it
   pub given : (i l waiting : ℕ) (lent : List ℕ) (job : Job) → lent ≡ take 72 (drop (72 * i) jobs) → waiting ≡ count - i → l ≡ left i
-      → job ≡ under (read_job lent).job (min (read_job lent).job.budget (l / waiting)) → job ≡ under (job_at jobs i) (budget i)
+      → job ≡ under (job_of lent) (min (job_of lent).budget (l / waiting)) → job ≡ under (job_at jobs i) (budget i)
   unfolding job_at
   given i l waiting lent job part more same e = e ∙ rw (part, more, same) refl
 

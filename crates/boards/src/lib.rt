@@ -55,7 +55,8 @@ fn each_board(
         let at = 72 * i;
         let end = at + 72;
         let size = lengths[i] as usize;
-        let job = one_board::allotted(&jobs[at..end], left, (count - i) as u32);
+        let own = job_records::read_job(&jobs[at..end]).unwrap();
+        let job = one_board::allotted(own, left, (count - i) as u32);
         let answer = one_board::search_part(stores, from, size, job, table, bounds);
         answers[i] = answer;
         budgets[i] = job.budget;

@@ -37,10 +37,6 @@ pub any_budget : (stores : List ℕ) (from size : ℕ) (job : Job) (numbers entr
 unfolding check_board check_search check_job
 any_budget stores from size job numbers entries b = refl
 
--- the job of a record, as the code puts it together
-pub allot : (job : Job) (b q : ℕ) → b ≡ min job.budget q → (own : Job) → job ≡ own → under job b ≡ under own (min own.budget q)
-allot job b q share own e = ap₂ under e (share ∙ ap (λ (j : Job). min j.budget q) e)
-
 -- a part as it is lent
 pub part_lent : (stores : List ℕ) (from size : ℕ) → take ((from + size) - from) (drop from stores) ≡ store_from stores from size
 unfolding store_from

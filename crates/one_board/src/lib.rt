@@ -3,7 +3,6 @@
 
 ghost use Rattle.std.specs.Prelude.{◌≡◌, ◌/◌, min};
 ghost use Rattle.search.specs.Search.{refused};
-ghost use Rattle.job_records.specs.Jobs.{read_job};
 ghost use Rattle.one_board.specs.Board.{under, board_answer, BoardTable, BoardBounds};
 
 use codes::Refusal;
@@ -32,26 +31,13 @@ fn share(left: u32, waiting: u32) -> u32
     if waiting < 1 { 0 } else { left / waiting }
 }
 
-// The job of a record, under the smaller of its own budget and its share.
-pub fn allotted(bytes: &[u8], left: u32, waiting: u32) -> Job
-    ensures { result
-        ≡ under (read_job bytes.now).job (min (read_job bytes.now).job.budget (left / waiting)) }
+// A job under the smaller of its own budget and its share.
+pub fn allotted(job: Job, left: u32, waiting: u32) -> Job
+    ensures { result ≡ under job (min job.budget (left / waiting)) }
 {
-    let read = job_records::read_job(bytes);
-    let job = read.job;
-    let m = job.model;
-    let domain = job.domain;
-    let start = job.start;
-    let own = job.budget;
-    let most = share(left, waiting);
-    let budget = if own < most { own } else { most };
     Job {
-        model: m,
-        t: job.t,
-        budget,
-        rows: job.rows,
-        domain,
-        start,
+        budget: job.budget.min(share(left, waiting)),
+        ..job
     }
 }
 
