@@ -1,7 +1,8 @@
 -- Reading one pattern: no two numbers have one pattern, so `coordinate_of` finds the number that has p, and `on_grid` says whether there is
 -- one. Assumes nothing.
-use Rattle.std.proofs.Common.{◌≡◌, ℕ, zero, suc, ◌^◌, ◌<◌, ◌≤◌, Bool, true, false, not, T, eqb, ℤ, pos, negsuc, nat_abs, sym, refl, ap, ◌∙◌, subst, inl, inr, true≢false, le_refl, le_of_suc-le-suc, not-suc-le-zero, eq-or-lt_of_le, arith, lit<, eqb→eq, T_not, w16, SFits, eq-eqb, ne_eqb, eqb-true}
+use Rattle.std.proofs.Common.{◌≡◌, ℕ, zero, suc, ◌^◌, ◌<◌, ◌≤◌, Bool, true, false, cond, not, T, eqb, ℤ, pos, negsuc, nat_abs, sym, refl, ap, ◌∙◌, subst, inl, inr, true≢false, le_refl, le_of_suc-le-suc, not-suc-le-zero, eq-or-lt_of_le, arith, lit<, eqb→eq, T_not, w16, SFits, Some, None, eq-eqb, ne_eqb, eqb-true}
 use mathlib.Core.Bool.{false≢true}
+use Rattle.std.specs.Option.{unwrap_or}
 use native.Mathlib.Nat.{eq_of_mul-eq-mul_right}
 use lib.Signed.{mag}
 use lib.Ieee.{Float, nan, inf, fin, binary32, down, mul, of_int, of_bits, is_nan, nan_bits}
@@ -10,7 +11,7 @@ use lib.Ieee.Exact.{HasValue}
 use lib.Ieee.Bits.{nan_bits_is}
 use Rattle.integers.proofs.Tests.{by_cond}
 use Rattle.coefficients.specs.Coefficient.{pattern_of, coefficient_of}
-use Rattle.coefficients.specs.Grid.{among, coordinate_of, on_grid}
+use Rattle.coefficients.specs.Grid.{among, coordinate_of, on_grid, reading_of}
 use Rattle.coefficients.proofs.Exact.{negative, coefficient_exact, multiplied}
 
 -- ---- no two numbers have one pattern
@@ -103,3 +104,28 @@ unfolding coefficient_of
 nan_missed S h p t w f e =
     T_not (is_nan (of_bits binary32 p)) (subst (λ (q : ℕ). T (not (is_nan (of_bits binary32 q)))) e (coefficient_no_nan S h w f))
     (subst T (nan_bits_is binary32 p) t)
+
+-- ---- the same as an answer
+pub read_as : (S : ℕ) → S ≤ 15 → (p : ℕ) (w : ℤ) → SFits w16 w → pattern_of S w ≡ p → Some w ≡ reading_of S p
+unfolding reading_of
+read_as S h p w f e = let r = found S h p w f e in rw (sym r.0, sym r.1) refl
+
+pub not_read : (S p : ℕ) → ((w : ℤ) → SFits w16 w → pattern_of S w ≡ p → ⊥) → None ≡ reading_of S p
+unfolding reading_of
+not_read S p none = rw (sym (missed S p none).0) refl
+
+pub number_read : (S p : ℕ) (w : ℤ) → reading_of S p ≡ Some w → (on_grid S p ≡ true) × (coordinate_of S p ≡ w)
+unfolding reading_of
+number_read S p w e = by (on_grid S p) e
+  where
+    by : (t : Bool) → cond t (Some (coordinate_of S p)) None ≡ Some w → (t ≡ true) × (coordinate_of S p ≡ w)
+    by true e = (refl, ap (λ o. unwrap_or o w) e)
+    by false e = let z : ◌≡◌ {A = ℕ} 0 1 = cc in absurd (omega arith)
+
+pub no_number : (S p : ℕ) → reading_of S p ≡ None → on_grid S p ≡ false
+unfolding reading_of
+no_number S p e = by (on_grid S p) e
+  where
+    by : (t : Bool) → cond t (Some (coordinate_of S p)) None ≡ None → t ≡ false
+    by true e = let z : ◌≡◌ {A = ℕ} 0 1 = cc in absurd (omega arith)
+    by false e = refl

@@ -1,6 +1,6 @@
 -- The laws of specs/Laws.antt. A line goes through pattern by pattern: each on the grid is some w's, and each w's is on the grid.
 -- Assumes nothing.
-use Rattle.std.specs.Prelude.{Ok, Err}
+use Rattle.std.specs.Prelude.{Ok}
 use Rattle.std.proofs.Common.{◌≡◌, ℕ, zero, suc, ◌≤◌, true, ◌&&◌, T, List, [], ◌∷◌, map, length, get_or, drop, ℤ, pos, sym, refl, ap, ◌∙◌, lit<, w16, SFits}
 use lib.ListN.{length-map}
 use lib.Ieee.{Float, binary32, of_bits, to_bits, fits}
@@ -8,14 +8,14 @@ use lib.Ieee.Bits.{of_bits-to_bits, of_bits-fits}
 use Rattle.integers.specs.Integers.{all_zero}
 use Rattle.integers.proofs.Tests.{is_true}
 use Rattle.codes.specs.declared.Refusal.TheVariants.{Start, OffGrid}
-use Rattle.codes.specs.Codes.{Check, pass, pass_if}
-use Rattle.codes.proofs.Checks.{passed}
+use Rattle.codes.specs.Codes.{Check, pass, pass_if, unless_refused}
+use Rattle.codes.proofs.Checks.{passed, answered}
 use Rattle.scale.specs.Scale.{check_scale}
 use Rattle.boxes.specs.Shape.{check_vector}
 use Rattle.coefficients.specs.Coefficient.{pattern_of, coefficient_of}
 use Rattle.coefficients.specs.Grid.{coordinate_of, on_grid}
-use Rattle.coefficients.specs.Lines.{check_used, writing_checks, line_of, written_if, written_of, all_on_grid, all_plus_zero, check_grid}
-use Rattle.coefficients.specs.Lines.{reading_checks, coordinates_if, coordinates_of, patterns_of}
+use Rattle.coefficients.specs.Lines.{check_used, writing_checks, line_of, written_of, all_on_grid, all_plus_zero, check_grid}
+use Rattle.coefficients.specs.Lines.{reading_checks, coordinates_of, patterns_of}
 use Rattle.coefficients.specs.Laws.{ExactCoefficient, ExactReading, Four16, FourSingle, RoundTrip}
 use Rattle.coefficients.specs.declared.Line.{Line}
 use Rattle.coefficients.proofs.Exact.{coefficient_exact, coefficient_bits}
@@ -66,15 +66,6 @@ coordinates_fit S [] k = record { sfits = lit< tt }
 coordinates_fit S (p ∷ ps) zero = coordinate_fits S p
 coordinates_fit S (p ∷ ps) (suc k) = coordinates_fit S ps k
 
--- ---- the answers where every check passes
-written_check : (k : Check) (l : Line) → (written_if k l).check ≡ k
-written_check (Ok _) l = refl
-written_check (Err r) l = refl
-
-coordinates_check : (k : Check) (w : List ℤ) → (coordinates_if k w).check ≡ k
-coordinates_check (Ok _) w = refl
-coordinates_check (Err r) w = refl
-
 -- a number is known by its bits
 same_number : (x y : Float) → T (fits binary32 x) → T (fits binary32 y) → to_bits binary32 x ≡ to_bits binary32 y → x ≡ y
 same_number x y f g e = sym (of_bits-to_bits binary32 x f) ∙ ap (of_bits binary32) e ∙ of_bits-to_bits binary32 y g
@@ -95,12 +86,11 @@ line_single S w =
 
 -- ---- there and back
 module _ (d S : ℕ) where
-  written_read : (w : List ℤ) → Four16 w → (written_of d S w).check ≡ pass
-      → coordinates_of d S (patterns_of (written_of d S w).line) ≡ record { check = pass; w = w }
+  written_read : (w : List ℤ) → Four16 w → (l : Line) → written_of d S w ≡ Ok l → coordinates_of d S (patterns_of l) ≡ Ok w
   unfolding written_of writing_checks coordinates_of reading_checks check_grid
-  written_read w f e =
-      let k : writing_checks d S w ≡ pass = sym (written_check (writing_checks d S w) (line_of S w)) ∙ e in
-      let p = three_pass (check_used d) (check_scale S) (check_vector 1 d w) k in
+  written_read w f l e =
+      let k = answered (writing_checks d S w) (line_of S w) l e in
+      let p = three_pass (check_used d) (check_scale S) (check_vector 1 d w) k.0 in
       let h = scale_within S p.1 in
       let a = all_accepted S h w f.fit in
       let z =
@@ -108,19 +98,19 @@ module _ (d S : ℕ) where
       ∙ is_true (all_zero (drop d w)) (passed (all_zero (drop d w)) Start (sym (unused_check d w) ∙ p.2)) in
       let g : check_grid d S (map (pattern_of S) w) ≡ pass = λ i. pass_if (a.0 i && z i) OffGrid in
       let r : reading_checks d S (map (pattern_of S) w) ≡ pass = pass_three p.0 p.1 g in
-      ap (λ (c : Check). coordinates_of d S (patterns_of (written_if c (line_of S w)).line)) k
+      ap (λ (m : Line). coordinates_of d S (patterns_of m)) (sym k.1)
       ∙ ap (coordinates_of d S) (line_patterns S h w f)
-      ∙ (λ i. coordinates_if (r i) (a.1 i))
+      ∙ (λ i. unless_refused (r i) (a.1 i))
 
   -- the line written of what was read of ps
-  module _ (ps : List ℕ) (long : length ps ≡ 4) (e : (coordinates_of d S ps).check ≡ pass) where
-    reading_passes : reading_checks d S ps ≡ pass
+  module _ (ps : List ℕ) (long : length ps ≡ 4) (w : List ℤ) (e : coordinates_of d S ps ≡ Ok w) where
+    reading_passes : (reading_checks d S ps ≡ pass) × (map (coordinate_of S) ps ≡ w)
     unfolding coordinates_of
-    reading_passes = sym (coordinates_check (reading_checks d S ps) (map (coordinate_of S) ps)) ∙ e
+    reading_passes = answered (reading_checks d S ps) (map (coordinate_of S) ps) w e
 
     checks_pass : (check_used d ≡ pass) × (check_scale S ≡ pass) × (check_grid d S ps ≡ pass)
     unfolding reading_checks
-    checks_pass = three_pass (check_used d) (check_scale S) (check_grid d S ps) reading_passes
+    checks_pass = three_pass (check_used d) (check_scale S) (check_grid d S ps) reading_passes.0
 
     within_15 : S ≤ 15
     within_15 = scale_within S checks_pass.1
@@ -131,13 +121,13 @@ module _ (d S : ℕ) where
         let test = all_on_grid S ps && all_plus_zero (drop d ps) in
         both (all_on_grid S ps) (all_plus_zero (drop d ps)) (is_true test (passed test OffGrid checks_pass.2))
 
-    back : written_of d S (coordinates_of d S ps).w ≡ record { check = pass; line = line_of S (map (coordinate_of S) ps) }
-    unfolding written_of writing_checks coordinates_of
+    back : written_of d S w ≡ Ok (line_of S (map (coordinate_of S) ps))
+    unfolding written_of writing_checks
     back =
-        let w = map (coordinate_of S) ps in
-        let z : all_zero (drop d w) ≡ true = sym (rest_zero_read S within_15 d ps grid_passes.0) ∙ grid_passes.1 in
-        let k : writing_checks d S w ≡ pass = pass_three checks_pass.0 checks_pass.1 (unused_check d w ∙ (λ i. pass_if (z i) Start)) in
-        ap (λ (c : Check). written_of d S (coordinates_if c w).w) reading_passes ∙ ap (λ (c : Check). written_if c (line_of S w)) k
+        let v = map (coordinate_of S) ps in
+        let z : all_zero (drop d v) ≡ true = sym (rest_zero_read S within_15 d ps grid_passes.0) ∙ grid_passes.1 in
+        let k : writing_checks d S v ≡ pass = pass_three checks_pass.0 checks_pass.1 (unused_check d v ∙ (λ i. pass_if (z i) Start)) in
+        ap (written_of d S) (sym reading_passes.1) ∙ ap (λ (c : Check). unless_refused c (line_of S v)) k
 
     back_patterns : patterns_of (line_of S (map (coordinate_of S) ps)) ≡ ps
     back_patterns =
@@ -150,10 +140,9 @@ module _ (d S : ℕ) where
   round_trip =
       record {
         written_read = written_read;
-        patterns_written =
-            λ ps long e. (ap (λ a. a.check) (back ps long e), ap (λ a. patterns_of a.line) (back ps long e) ∙ back_patterns ps long e);
-        line_written = λ l f e.
-            back (patterns_of l) refl e
-            ∙ ap (λ (m : Line). written_if pass m)
-            (same_line (line_of S (map (coordinate_of S) (patterns_of l))) l (line_single S _) f (back_patterns (patterns_of l) refl e));
+        patterns_written = λ ps long w e. rw (back ps long w e) (back_patterns ps long w e);
+        line_written = λ l f w e.
+            back (patterns_of l) refl w e
+            ∙ ap Ok
+            (same_line (line_of S (map (coordinate_of S) (patterns_of l))) l (line_single S _) f (back_patterns (patterns_of l) refl w e));
       }

@@ -1,6 +1,5 @@
 -- What the definitions come to. Statements; the proofs are in proofs/Laws.antt.
-use Rattle.codes.specs.Codes.{pass}
-use Rattle.std.specs.Prelude.{◌≡◌, ℕ, ◌^◌, ◌≤◌, true, false, not, T, List, length, ℤ, pos, FitsSigned, slice_index_or, to_bits, unsigned_abs}
+use Rattle.std.specs.Prelude.{◌≡◌, ℕ, ◌^◌, ◌≤◌, true, false, not, T, List, length, ℤ, pos, FitsSigned, slice_index_or, to_bits, unsigned_abs, Ok, IsOkAnd}
 use Rattle.std.specs.Int.Signed.{non_neg}
 use Rattle.std.specs.Float.{binary32}
 use Rattle.std.specs.Float.Ieee.{fits, nan_bits}
@@ -36,9 +35,7 @@ pub record FourSingle (l : Line) : Type 0 where
 
 -- What is written is read back, and what is read is written back.
 pub record RoundTrip (d S : ℕ) : Type 0 where
-  pub written_read : (w : List ℤ) → Four16 w → (written_of d S w).check ≡ pass
-      → coordinates_of d S (patterns_of (written_of d S w).line) ≡ record { check = pass; w = w }
-  pub patterns_written : (ps : List ℕ) → length ps ≡ 4 → (coordinates_of d S ps).check ≡ pass
-      → ((written_of d S (coordinates_of d S ps).w).check ≡ pass) × (patterns_of (written_of d S (coordinates_of d S ps).w).line ≡ ps)
-  pub line_written : (l : Line) → FourSingle l → (coordinates_of d S (patterns_of l)).check ≡ pass
-      → written_of d S (coordinates_of d S (patterns_of l)).w ≡ record { check = pass; line = l }
+  pub written_read : (w : List ℤ) → Four16 w → (l : Line) → written_of d S w ≡ Ok l → coordinates_of d S (patterns_of l) ≡ Ok w
+  pub patterns_written : (ps : List ℕ) → length ps ≡ 4 → (w : List ℤ) → coordinates_of d S ps ≡ Ok w
+      → IsOkAnd (written_of d S w) (λ l. patterns_of l ≡ ps)
+  pub line_written : (l : Line) → FourSingle l → (w : List ℤ) → coordinates_of d S (patterns_of l) ≡ Ok w → written_of d S w ≡ Ok l

@@ -1,16 +1,14 @@
 -- "a line is handed over as four single-precision coefficients together": written and read back, each with its checks.
-use Rattle.std.specs.Prelude.{ℕ, Bool, true, ◌&&◌, List, [], ◌∷◌, map, drop, replicate, ℤ, pos, ◌==◌, from_bits, slice_index_or, to_bits, Ok, Err}
+use Rattle.std.specs.Prelude.{ℕ, Bool, true, ◌&&◌, List, [], ◌∷◌, map, drop, ℤ, pos, ◌==◌, slice_index_or, to_bits, Result}
 use Rattle.std.specs.Float.{binary32}
 use Rattle.codes.specs.declared.Refusal.{Refusal}
 use Rattle.codes.specs.declared.Refusal.TheVariants.{Shape, OffGrid}
-use Rattle.codes.specs.Codes.{Check, pass, pass_if, in_order, within}
+use Rattle.codes.specs.Codes.{Check, pass_if, in_order, unless_refused, within}
 use Rattle.scale.specs.Scale.{check_scale}
 use Rattle.boxes.specs.Shape.{check_vector}
 use Rattle.coefficients.specs.Coefficient.{coefficient_of}
 use Rattle.coefficients.specs.Grid.{coordinate_of, on_grid}
 use Rattle.coefficients.specs.declared.Line.{Line}
-use Rattle.coefficients.specs.declared.Written.{Written}
-use Rattle.coefficients.specs.declared.Coordinates.{Coordinates}
 
 -- "Check 2 looks at d alone there": d is 1 to 4.
 unfoldable pub check_used : ℕ → Check
@@ -30,21 +28,9 @@ line_of S w =
       c4 = coefficient_of S (slice_index_or w 3 (pos 0));
     }
 
--- Refused: four +0.
-abbrev pub four_zeros : Line
-four_zeros = record { c1 = from_bits binary32 0; c2 = from_bits binary32 0; c3 = from_bits binary32 0; c4 = from_bits binary32 0 }
-
-abbrev pub not_written : Refusal → Written
-not_written r = record { check = Err r; line = four_zeros }
-
--- The line if the checks pass.
-abbrev pub written_if : Check → Line → Written
-written_if (Ok _) l = record { check = pass; line = l }
-written_if (Err r) l = not_written r
-
 -- "Writing takes d, S and one line's four coordinates".
-unfoldable pub written_of : ℕ → ℕ → List ℤ → Written
-written_of d S w = written_if (writing_checks d S w) (line_of S w)
+unfoldable pub written_of : ℕ → ℕ → List ℤ → Result Line Refusal
+written_of d S w = unless_refused (writing_checks d S w) (line_of S w)
 
 -- Each is some w's.
 unfoldable pub all_on_grid : ℕ → List ℕ → Bool
@@ -64,18 +50,9 @@ check_grid d S ps = pass_if (all_on_grid S ps && all_plus_zero (drop d ps)) OffG
 unfoldable pub reading_checks : ℕ → ℕ → List ℕ → Check
 reading_checks d S ps = in_order (check_used d ∷ check_scale S ∷ check_grid d S ps ∷ [])
 
--- Refused: zeros.
-abbrev pub not_read : Refusal → Coordinates
-not_read r = record { check = Err r; w = replicate 4 (pos 0) }
-
--- The coordinates if the checks pass.
-abbrev pub coordinates_if : Check → List ℤ → Coordinates
-coordinates_if (Ok _) w = record { check = pass; w = w }
-coordinates_if (Err r) w = not_read r
-
 -- "reading takes d, S and four patterns and gives the coordinates".
-unfoldable pub coordinates_of : ℕ → ℕ → List ℕ → Coordinates
-coordinates_of d S ps = coordinates_if (reading_checks d S ps) (map (coordinate_of S) ps)
+unfoldable pub coordinates_of : ℕ → ℕ → List ℕ → Result (List ℤ) Refusal
+coordinates_of d S ps = unless_refused (reading_checks d S ps) (map (coordinate_of S) ps)
 
 -- The four patterns of a line. Among numbers there is one NaN, here with the pattern 0x7FC00000; no w has a NaN's pattern.
 unfoldable pub patterns_of : Line → List ℕ
