@@ -1,4 +1,4 @@
--- The checks in the groups in which the code makes them, and what a call that passes them has. Assumes nothing.
+-- The checks of a search behind others, and what a call that passes all of them has. Assumes nothing.
 use mathlib.Core.Path.{◌≡◌, refl, sym, ap, ap₂, ◌∙◌}
 use mathlib.Core.List.{List, [], ◌∷◌, ◌++◌}
 use Prim.Native.Nat.{ℕ, ◌/◌, ◌≤◌}
@@ -22,14 +22,6 @@ use Rattle.model_checks.specs.Checks.{check_model, check_threshold}
 use Rattle.search_checks.specs.Checks.{check_job, check_search}
 use Rattle.search_checks.proofs.Passed.{runs_accepted}
 use Rattle.peel_checks.specs.Checks.{model_checks, lent_checks, check_peel}
-
--- seven checks in the groups of `check_given`
-pub in_groups : (a b c d e f g : Check) →
-    in_order (in_order (in_order (a ∷ b ∷ []) ∷ in_order (c ∷ d ∷ []) ∷ []) ∷ in_order (in_order (e ∷ f ∷ []) ∷ g ∷ []) ∷ [])
-    ≡ in_order (a ∷ b ∷ c ∷ d ∷ e ∷ f ∷ g ∷ [])
-in_groups a b c d e f g =
-    ap₂ (λ (x y : Check). in_order (x ∷ y ∷ [])) (in_order_pairs a b c d) (in_order_group (e ∷ f ∷ []) (g ∷ []))
-    ∙ two_groups (a ∷ b ∷ c ∷ d ∷ []) (e ∷ f ∷ g ∷ [])
 
 -- behind 1 to 4 the checks of a search are the others
 search_behind : (model box start stray table bounds : Check) → model ≡ pass →

@@ -1,4 +1,4 @@
--- The checks of a search, in the groups in which the code makes them, and what a job that passes has. Assumes nothing.
+-- What a job that passes the checks of a search has. Assumes nothing.
 use mathlib.Core.Path.{◌≡◌, sym}
 use mathlib.Core.List.{List, [], ◌∷◌}
 use Prim.Native.Nat.{ℕ, ◌/◌, ◌≤◌}
@@ -15,22 +15,6 @@ use Rattle.points.specs.Points.{points_of, check_stray}
 use Rattle.model_checks.specs.Checks.{check_model}
 use Rattle.search_checks.specs.Checks.{check_job, check_search}
 
--- four checks, the first three of them in two groups
-last_decides : (a b c d : Check) → in_order (a ∷ in_order (b ∷ c ∷ []) ∷ []) ≡ pass → in_order (a ∷ b ∷ c ∷ d ∷ []) ≡ d
-unfolding in_order
-last_decides (Ok _) (Ok _) (Ok _) d h = in_order_one d
-last_decides (Ok _) (Ok _) (Err r) d h = refused_not_passed r h
-last_decides (Ok _) (Err r) c d h = refused_not_passed r h
-last_decides (Err r) b c d h = refused_not_passed r h
-
-first_refuse : (a b c d : Check) (r : Refusal) → in_order (a ∷ in_order (b ∷ c ∷ []) ∷ []) ≡ Err r
-    → in_order (a ∷ b ∷ c ∷ d ∷ []) ≡ Err r
-unfolding in_order
-first_refuse (Ok _) (Ok _) (Ok _) d r h = refused_not_passed r (sym h)
-first_refuse (Ok _) (Ok _) (Err q) d r h = h
-first_refuse (Ok _) (Err q) c d r h = h
-first_refuse (Err q) b c d r h = h
-
 module _ (store : List ℕ) (job : Job) where
   abbrev model : Check
   model = check_model store job.model
@@ -43,14 +27,6 @@ module _ (store : List ℕ) (job : Job) where
 
   abbrev stray : Check
   stray = check_stray job.model.d (points_of store)
-
-  pub stray_decides : in_order (model ∷ in_order (box ∷ start ∷ []) ∷ []) ≡ pass → check_job store job ≡ stray
-  unfolding check_job
-  stray_decides = last_decides model box start stray
-
-  pub first_refuses : (r : Refusal) → in_order (model ∷ in_order (box ∷ start ∷ []) ∷ []) ≡ Err r → check_job store job ≡ Err r
-  unfolding check_job
-  first_refuses = first_refuse model box start stray
 
   -- what a job that passes has
   pub record Runs : Type 0 where

@@ -1,7 +1,7 @@
 -- Windows that lie in a store, by their count; what check 17 tells. Assumes nothing.
 use mathlib.Core.Path.{◌≡◌}
 use mathlib.Core.Bool.{◌&&◌}
-use Prim.Native.Nat.{ℕ, ◌-◌, ◌≤◌}
+use Prim.Native.Nat.{ℕ, ◌-◌, ◌/◌, ◌≤◌}
 use native.Mathlib.Nat.{le-div_iff_mul-le, div-le_self}
 use native.Mathlib.Omega.{arith}
 use lib.Dec.{leb, leb→le}
@@ -21,6 +21,9 @@ inside records k h i some few = (
 )
 
 -- there are few of them
+pub quotient_few : (n h : ℕ) → n / h ≤ n
+quotient_few n h = div-le_self n h
+
 pub count_few : (records k h : ℕ) → records ≤ 4096 → window_count records k h ≤ 4097
 unfolding window_count
 count_few records k h few = omega (arith, div-le_self (records - k) h)

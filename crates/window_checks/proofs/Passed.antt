@@ -20,7 +20,7 @@ use Rattle.jobs.specs.declared.Job.{Job}
 use Rattle.points.specs.Points.{points_of, check_store, check_stray}
 use Rattle.loss.specs.Loss.{check_loss_for}
 use Rattle.window_checks.specs.Checks.{window_count, check_given, check_window, check_lent_for, check_windows}
-use Rattle.window_checks.proofs.Counting.{Windowed, windowed, inside}
+use Rattle.window_checks.proofs.Counting.{Windowed, windowed, inside, count_few}
 
 -- checks that all pass
 pub each_passed : (cs : List Check) → in_order cs ≡ pass → All (λ c. c ≡ pass) cs
@@ -64,6 +64,22 @@ module _ (store : List ℕ) (job : Job) (k : ℕ) (ok : check_given store job k 
 
   pub start_given : check_start job.domain job.start ≡ pass
   start_given = all_head (all_tail (all_tail (all_tail (all_tail (all_tail given_all)))))
+
+-- there are few windows where the checks that come first pass
+pub record Counted (records k h : ℕ) : Type 0 where
+  pub taken : Windowed records k h
+  pub records_few : records ≤ 4096
+  pub windows_few : window_count records k h ≤ 4097
+
+pub counted : (store : List ℕ) (job : Job) (k h : ℕ) → check_given store job k ≡ pass →
+    check_window (length store / 12) k h ≡ pass → Counted (length store / 12) k h
+counted store job k h given window =
+    let few = records_few store job k given in
+    record {
+      taken = windowed (length store / 12) k h window;
+      records_few = few;
+      windows_few = count_few (length store / 12) k h few;
+    }
 
 -- all of them
 module _ (store : List ℕ) (job : Job) (k h numbers entries room : ℕ) (ok : check_windows store job k h numbers entries room ≡ pass) where
