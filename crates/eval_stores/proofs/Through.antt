@@ -1,15 +1,15 @@
 -- Chunks of a store, one after the other. Assumes nothing.
-use mathlib.Core.Path.{◌≡◌, refl, sym, ◌∙◌, subst}
-use mathlib.Core.List.{List, []}
+use mathlib.Core.Path.{◌≡◌, refl, sym, ap, ◌∙◌, subst}
+use mathlib.Core.List.{List, [], ◌++◌}
 use mathlib.Core.Logic.{◌⊎◌, inl, inr, ⊎_elim}
-use Prim.Native.Nat.{ℕ, ◌+◌, ◌≤◌, ◌<◌}
+use Prim.Native.Nat.{ℕ, ◌+◌, ◌-◌, ◌≤◌, ◌<◌}
 use native.Mathlib.Nat.{eq-or-lt_of_le}
 use native.Mathlib.Omega.{arith}
-use lib.ListN.{length, get_or, set, length-set}
-use lib.Seq.{get_or-set_same, get_or-set_other}
+use lib.ListN.{length, get_or, set, take, drop, length-set, length-take, get_or-append}
+use lib.Seq.{get_or-set_same, get_or-set_other, get_or-append_right, get_or-take, get_or-drop}
 use lib.Ieee.{Float}
 use Rattle.integers.proofs.Tests.{le_or_lt}
-use Rattle.eval_columns.specs.Columns.{ChunkOf}
+use Rattle.eval_columns.specs.Columns.{ChunkOf, decoded_chunks, DecodedInto}
 
 same_or_not : (a b : ℕ) → (a ≡ b) ⊎ (a ≡ b → ⊥)
 same_or_not a b =
@@ -29,7 +29,7 @@ module _ (store : List ℕ) (d power : ℕ) (old : List (List (List Float))) whe
   pub none_through : Through 0 old
   none_through = record { long = refl; here = λ t l. absurd (omega arith); columns = λ t c l h. refl; rest = λ t l. refl }
 
-  pub one_through : {n : ℕ} {lanes : List (List (List Float))} (s : List (List Float)) → n < length old → ChunkOf store n d power s
+  pub one_through : {n : ℕ} {lanes : List (List (List Float))} (s : List (List Float)) → n < length lanes → ChunkOf store n d power s
       → ((c : ℕ) → d ≤ c → c < 4 → get_or s c [] ≡ get_or (get_or lanes n []) c []) → Through n lanes → Through (n + 1) (set lanes n s)
   one_through {n} {lanes} s h new same g =
       record {
@@ -53,3 +53,30 @@ module _ (store : List ℕ) (d power : ℕ) (old : List (List (List Float))) whe
           (subst (P n) (sym (get_or-set_same lanes n s [] (omega arith))) here))
           (λ (q : t ≡ n → ⊥). subst (P t) (sym (get_or-set_other lanes n t s [] q)) (other q))
           (same_or_not t n)
+
+-- the first chunks decoded, and the others as they were
+pub all_through : {store : List ℕ} {d power n i : ℕ} (old : List (List (List Float))) (s : List (List (List Float)))
+    → n ≡ decoded_chunks store old → n ≤ i → Through store d power (take n old) i s → DecodedInto store d power old (s ++ drop n old)
+all_through {store} {d} {power} {n} {i} old s e full g =
+    record {
+      here = λ t l. subst (ChunkOf store t d power) (sym (front t (omega arith))) (g.here t (omega arith));
+      columns = λ t c l m.
+          ⊎_elim
+          (λ (h : n ≤ t). ap (λ (u : List (List Float)). get_or u c []) (back t h))
+          (λ (h : t < n). ap (λ (u : List (List Float)). get_or u c []) (front t h) ∙ g.columns t c l m
+          ∙ ap (λ (u : List (List Float)). get_or u c []) (get_or-take n old t [] h))
+          (le_or_lt n t);
+      rest = λ t l. back t (omega arith);
+    }
+  where
+    long : length s ≡ n
+    long = let h = g.long in omega (arith, length-take n old)
+
+    front : (t : ℕ) → t < n → get_or (s ++ drop n old) t [] ≡ get_or s t []
+    front t h = get_or-append s (drop n old) [] t (omega (arith, long))
+
+    back : (t : ℕ) → n ≤ t → get_or (s ++ drop n old) t [] ≡ get_or old t []
+    back t h =
+        let f : n + (t - n) ≡ t = omega arith in
+        get_or-append_right s (drop n old) t [] (omega (arith, long)) ∙ ap (λ (z : ℕ). get_or (drop n old) (t - z) []) long
+        ∙ get_or-drop n old (t - n) [] ∙ ap (λ (z : ℕ). get_or old z []) f

@@ -10,7 +10,8 @@ use eval_lanes::Chunk;
 pub fn decode(lanes: &mut [Chunk], store: &[u8], d: u8, power: u16)
     ensures { DecodedInto store.now d power lanes.old lanes.new }
 {
-    for t in 0..chunk_count(store.len(), lanes.len()) {
-        decode_chunk(&mut lanes[t], store, t as u8, d, power);
+    let n = chunk_count(store.len(), lanes.len());
+    for (t, chunk) in lanes[..n].iter_mut().enumerate() {
+        decode_chunk(chunk, store, t as u8, d, power);
     }
 }
