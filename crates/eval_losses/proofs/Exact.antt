@@ -1,7 +1,7 @@
 -- Losses and their sums are those of the definitions, exactly: twenty losses of at most 16,777,215² are below 2^53. Assumes nothing.
-use mathlib.Core.Path.{◌≡◌, refl, ap, ap₂, subst}
+use mathlib.Core.Path.{◌≡◌, refl, ap, ap₂, ◌∙◌, subst}
 use mathlib.Core.Bool.{Bool, true, false, cond}
-use mathlib.Core.List.{[], ◌∷◌}
+use mathlib.Core.List.{List, [], ◌∷◌}
 use Prim.Native.Nat.{ℕ, zero, suc, ◌+◌, ◌*◌, ◌≤◌, ◌<◌, min}
 use native.Mathlib.Nat.{mul-le-mul, add-zero, add-suc}
 use native.Mathlib.Omega.{arith}
@@ -9,6 +9,7 @@ use lib.Dec.{ltb}
 use lib.IntN.{pos}
 use lib.ListN.{get_or}
 use lib.Ieee.{Float, binary64, add, of_int}
+use Rattle.std.specs.List.{sum}
 use Rattle.loss.specs.Loss.{loss_of}
 use Rattle.loss.proofs.Laws.{min_square, loss_le}
 use Rattle.integers.specs.Sums.{sum_of}
@@ -140,3 +141,11 @@ pub groups_added : (z : ℕ → Float)
     → get_or (group_sums z) 0 0 + get_or (group_sums z) 1 0 + (get_or (group_sums z) 2 0 + get_or (group_sums z) 3 0) ≡ chunk_sum z
 unfolding group_sums chunk_sum
 groups_added z = refl
+
+pub groups_summed : (z : ℕ → Float) (sums : List ℕ) → sums ≡ group_sums z → sum sums ≡ chunk_sum z
+unfolding group_sums chunk_sum
+groups_summed z sums e = ap sum e ∙ omega arith
+
+pub chunk_small : (z : ℕ → Float) → chunk_sum z < 36028797018963968
+unfolding chunk_sum
+chunk_small z = omega (arith, group_small z 0, group_small z 20, group_small z 40, group_small z 60)

@@ -8,7 +8,7 @@ ghost use Rattle.eval_whole.specs.Whole.{smaller_of, zeroth, oneth};
 ghost use Rattle.eval_lanes.specs.Lanes.{lane};
 ghost use Rattle.eval_losses.specs.Losses.{loss_in, group_sum, group_sums, chunk_sum};
 
-use eval_lanes::{Lanes, known};
+use eval_lanes::Lanes;
 use eval_whole::{count, smaller};
 
 fn over(eps: f64, size: f64) -> f64
@@ -25,6 +25,7 @@ fn cut_square(eps: f64, size: f64) -> f64
     cut * cut
 }
 
+#[tactic(auto, unfolding(crate::specs::Losses::loss_in))]
 fn loss(p: u8, eps: f64, size: f64) -> f64
     ensures { result ≡ loss_in p eps size }
 {
@@ -41,25 +42,23 @@ fn loss(p: u8, eps: f64, size: f64) -> f64
 pub fn lose(sizes: &mut Lanes, p: u8, eps: u32)
     ensures { (k : ℕ) → k < 80 → lane sizes.new k ≡ loss_in p (of_int binary64 (pos eps)) (lane sizes.old k) }
 {
-    known(*sizes);
     let cut = eps as f64;
-    for i in 0..80 {
-        sizes[i] = loss(p, cut, sizes[i]);
+    for size in sizes.iter_mut() {
+        *size = loss(p, cut, *size);
     }
 }
 
-// The sum of the group of twenty from place o on: two sums side by side, which the compiler keeps in one register.
+// The sum of the group of twenty from place o on, by pairs: two sums side by side, which the compiler keeps in one register.
+#[tactic(auto, using(eval_whole::proofs::Counting::count_small))]
 fn group_sum(losses: &Lanes, o: usize) -> u64
     requires { o ≤ 60 }
     ensures { result ≡ group_sum (lane losses.now) o }
 {
     let mut even = 0.0;
     let mut odd = 0.0;
-    let mut i: usize = 0;
-    while i < 10 {
-        even = even + losses[o + i * 2];
-        odd = odd + losses[o + 1 + i * 2];
-        i += 1;
+    for [a, b] in losses[o..o + 20].as_chunks::<2>().0 {
+        even += *a;
+        odd += *b;
     }
     count(even) + count(odd)
 }
@@ -85,7 +84,5 @@ pub fn total(sizes: &mut Lanes, p: u8, eps: u32) -> u64
 {
     lose(sizes, p, eps);
     let sums = group_sums(sizes);
-    let first = sums[0] + sums[1];
-    let last = sums[2] + sums[3];
-    first + last
+    sums.iter().sum()
 }
