@@ -1,5 +1,5 @@
 -- The checks of a search behind others, and what a call that passes all of them has. Assumes nothing.
-use mathlib.Core.Path.{◌≡◌, refl, sym, ap, ap₂, ◌∙◌}
+use mathlib.Core.Path.{◌≡◌, refl, sym, ap, ◌∙◌}
 use mathlib.Core.List.{List, [], ◌∷◌, ◌++◌}
 use Prim.Native.Nat.{ℕ, ◌/◌, ◌≤◌}
 use lib.Dec.{T, leb, eqb, leb→le, eqb→eq}
@@ -9,7 +9,7 @@ use Rattle.std.specs.Prelude.{Ok, Err}
 use Rattle.codes.specs.declared.Refusal.{Refusal}
 use Rattle.codes.specs.Codes.{Check, pass, pass_if, within, in_order}
 use Rattle.codes.proofs.Checks.{passed, passes, first_passed, others_passed, refused_not_passed}
-use Rattle.codes.proofs.Laws.{in_order_group, in_order_pairs, two_groups, others_decide, after_refusal}
+use Rattle.codes.proofs.Laws.{in_order_group, others_decide, after_refusal}
 use Rattle.integers.proofs.Tests.{and_parts}
 use Rattle.scale.specs.Scale.{check_scale}
 use Rattle.boxes.specs.Shape.{check_shape, check_vector, unused_zero}

@@ -1,13 +1,11 @@
 -- What a job that passes the checks of a search has. Assumes nothing.
-use mathlib.Core.Path.{◌≡◌, sym}
+use mathlib.Core.Path.{◌≡◌}
 use mathlib.Core.List.{List, [], ◌∷◌}
 use Prim.Native.Nat.{ℕ, ◌/◌, ◌≤◌}
 use lib.Dec.{leb, leb→le}
-use Rattle.std.specs.Prelude.{Ok, Err}
 use Rattle.codes.specs.declared.Refusal.{Refusal}
 use Rattle.codes.specs.Codes.{Check, pass, pass_if, in_order}
-use Rattle.codes.proofs.Checks.{refused_not_passed, passed, first_passed, others_passed}
-use Rattle.codes.proofs.Laws.{in_order_one}
+use Rattle.codes.proofs.Checks.{passed, first_passed, others_passed}
 use Rattle.boxes.specs.Boxes.{InBox, check_box, check_start}
 use Rattle.boxes.proofs.Checks.{start_passed}
 use Rattle.jobs.specs.declared.Job.{Job}
