@@ -6,12 +6,10 @@ use native.Mathlib.Numerals.{add-one}
 use native.Mathlib.Omega.{arith}
 use lib.IntN.{ℤ, pos}
 use lib.ListN.{length, get_or, set, take, drop, drop_of_length-le}
-use mir.Syntax.{w16}
-use mir.Val.{SFits, to_z, of_z}
-use mir.Facts.{to_z-of_z}
+use Rattle.std.specs.Int.{int_min, int_max}
+use Rattle.std.proofs.lemmas.Int.{ints}
 use lib.Seq.{paste, paste-suc, drop-paste, get_or-drop, take_all}
 use Rattle.integers.specs.Integers.{min_z, max_z}
-use Rattle.integers.proofs.Order.{min_either, max_either}
 use Rattle.range_search.specs.RangeSearch.{least, greatest}
 use Rattle.range_search.proofs.Found.{length_least, length_greatest}
 
@@ -60,36 +58,39 @@ module _ (ls ns : List ℤ) (same : length ns ≡ length ls) where
       let past : length ls ≤ 0 + k = omega arith in
       rw (drop_of_length-le ls past) (append-nil (take k ns) ∙ take_all k ns (omega arith))
 
+-- the library's smaller and larger of two numbers
+min_is : (a b : ℤ) → int_min a b ≡ min_z a b
+unfolding min_z
+min_is a b = grind (arith, ints)
+
+max_is : (a b : ℤ) → int_max a b ≡ max_z a b
+unfolding max_z
+max_is a b = grind (arith, ints)
+
 -- one turn: the number at k is read, and the smaller or the larger of it and the vector's is stored
-module _ (ls v : List ℤ) (k : ℕ) (inside : k < length ls) (inside-v : k < length v) (fv : SFits w16 (get_or v k (pos 0))) where
+module _ (ls v : List ℤ) (k : ℕ) (inside : k < length ls) (inside-v : k < length v) where
   abbrev pub low_with : ℕ → List ℤ
   low_with j = first_of ls (least ls v) (length_least ls v) j
 
   abbrev pub high_with : ℕ → List ℤ
   high_with j = first_of ls (greatest ls v) (length_greatest ls v) j
 
-  pub lower_turn :
-      (low : List ℤ) (z : ℤ) → low ≡ low_with k → SFits w16 (get_or low k (pos 0)) →
-      z ≡ min_z (get_or low k (pos 0)) (get_or v k (pos 0)) →
-      set low k (to_z w16 (of_z w16 z)) ≡ low_with (k + 1)
-  lower_turn low z is fl e =
-      let fits : SFits w16 z = rw e (min_either (SFits w16) (get_or low k (pos 0)) (get_or v k (pos 0)) fl fv) in
+  pub lower_turn : (low : List ℤ) → low ≡ low_with k → set low k (int_min (get_or low k (pos 0)) (get_or v k (pos 0))) ≡ low_with (k + 1)
+  lower_turn low is =
+      let x = get_or v k (pos 0) in
       let here : get_or low k (pos 0) ≡ get_or ls k (pos 0) =
       ap (λ (l : List ℤ). get_or l k (pos 0)) is ∙ next_same ls (least ls v) (length_least ls v) k (omega arith) in
-      let value : z ≡ get_or (least ls v) k (pos 0) =
-      e ∙ ap (λ (x : ℤ). min_z x (get_or v k (pos 0))) here ∙ sym (least_get_d ls v k inside inside-v) in
-      ap (set low k) (to_z-of_z fits) ∙ ap (λ (l : List ℤ). set l k z) is
-      ∙ first_more ls (least ls v) (length_least ls v) k z inside value
+      let value : int_min (get_or low k (pos 0)) x ≡ get_or (least ls v) k (pos 0) =
+      min_is (get_or low k (pos 0)) x ∙ ap (λ (z : ℤ). min_z z x) here ∙ sym (least_get_d ls v k inside inside-v) in
+      ap (λ (l : List ℤ). set l k (int_min (get_or low k (pos 0)) x)) is
+      ∙ first_more ls (least ls v) (length_least ls v) k _ inside value
 
-  pub higher_turn :
-      (high : List ℤ) (z : ℤ) → high ≡ high_with k → SFits w16 (get_or high k (pos 0)) →
-      z ≡ max_z (get_or high k (pos 0)) (get_or v k (pos 0)) →
-      set high k (to_z w16 (of_z w16 z)) ≡ high_with (k + 1)
-  higher_turn high z is fh e =
-      let fits : SFits w16 z = rw e (max_either (SFits w16) (get_or high k (pos 0)) (get_or v k (pos 0)) fh fv) in
+  pub higher_turn : (high : List ℤ) → high ≡ high_with k → set high k (int_max (get_or high k (pos 0)) (get_or v k (pos 0))) ≡ high_with (k + 1)
+  higher_turn high is =
+      let x = get_or v k (pos 0) in
       let here : get_or high k (pos 0) ≡ get_or ls k (pos 0) =
       ap (λ (l : List ℤ). get_or l k (pos 0)) is ∙ next_same ls (greatest ls v) (length_greatest ls v) k (omega arith) in
-      let value : z ≡ get_or (greatest ls v) k (pos 0) =
-      e ∙ ap (λ (x : ℤ). max_z x (get_or v k (pos 0))) here ∙ sym (greatest_get_d ls v k inside inside-v) in
-      ap (set high k) (to_z-of_z fits) ∙ ap (λ (l : List ℤ). set l k z) is
-      ∙ first_more ls (greatest ls v) (length_greatest ls v) k z inside value
+      let value : int_max (get_or high k (pos 0)) x ≡ get_or (greatest ls v) k (pos 0) =
+      max_is (get_or high k (pos 0)) x ∙ ap (λ (z : ℤ). max_z z x) here ∙ sym (greatest_get_d ls v k inside inside-v) in
+      ap (λ (l : List ℤ). set l k (int_max (get_or high k (pos 0)) x)) is
+      ∙ first_more ls (greatest ls v) (length_greatest ls v) k _ inside value
