@@ -5,11 +5,15 @@ use Prim.Native.Nat.{ℕ, suc, ◌+◌, ◌/◌, ◌≤◌, ◌<◌}
 use native.Mathlib.Numerals.{add-one}
 use native.Mathlib.Omega.{arith}
 use lib.ListN.{length, take, drop, set, length-map, length-set, take-append-drop}
-use lib.Seq.{take-suc-set, drop-set-lt, drop-drop}
+use lib.Seq.{take-suc-set, drop-set-lt, drop-drop, take_all}
 use Rattle.integers.specs.Lists.{over}
 use Rattle.points.specs.declared.Point.{Point}
 use Rattle.points.specs.Points.{point_at, first_points, points_of}
 use Rattle.points.proofs.Laws.{points_more, points_length}
+
+pub points_number : (s : List ℕ) → length (points_of s) ≡ length s / 12
+unfolding points_of
+points_number s = points_length s (length s / 12)
 
 module _ (f : Point → ℕ) (s : List ℕ) (old : List ℕ) where
   pub record Filled (i : ℕ) (out : List ℕ) : Type 0 where
@@ -48,3 +52,11 @@ module _ (f : Point → ℕ) (s : List ℕ) (old : List ℕ) where
       let m : i ≡ length s / 12 = omega (arith, g.few) in
       sym (take-append-drop i out)
       ∙ ap₂ ◌++◌ (g.front ∙ ap (λ (k : ℕ). map f (first_points s k)) m) (g.rest ∙ ap (λ (k : ℕ). drop k old) (sym n))
+
+  -- where nothing stands behind them
+  pub whole_filled : {i : ℕ} {out : List ℕ} → length s / 12 ≤ i → length old ≡ length s / 12 → Filled i out → out ≡ map f (points_of s)
+  unfolding points_of
+  whole_filled {i} {out} h long g =
+      let m : i ≡ length s / 12 = omega (arith, g.few) in
+      let all : length out ≤ i = omega (arith, g.long) in
+      sym (take_all i out all) ∙ g.front ∙ ap (λ (k : ℕ). map f (first_points s k)) m

@@ -1,3 +1,4 @@
 pub mod Labelling
 pub mod Filling
 pub mod Passed
+pub mod Finding

@@ -18,27 +18,22 @@ fn write_labels(store: &[u8], m: Model, v: &[i16; 8], out: &mut [u8])
 {
     let power = scale::power(m.scale);
     let count = store.len() / 12;
-    let mut i: usize = 0;
-    while i < count {
-        out[i] = nearest::label_at(store, i, m, v, power);
-        i += 1;
+    for (i, label) in out[..count].iter_mut().enumerate() {
+        *label = nearest::label_at(store, i, m, v, power);
     }
 }
 
 // One label a point into the front of a lent buffer.
+#[tactic(auto, using(crate::proofs::Filling::points_number, model_checks::proofs::Passed::ready, model_checks::proofs::Passed::threshold_model), unfolding(crate::specs::Labels::labels_answer, crate::specs::Labels::labelled, crate::specs::Labels::check_labels, codes::specs::Codes::in_order))]
 pub fn labels(store: &[u8], m: Model, v: [i16; 8], out: &mut [u8]) -> Result<u64, Refusal>
     ensures answer { result ≡ labels_answer store.now m v out.old }
     ensures buffer { out.new ≡ labelled store.now m v out.old }
 {
-    match model_checks::check_threshold(store, m, v) {
-        Ok(()) => {
-            let count = store.len() / 12;
-            if out.len() < count {
-                return Err(Refusal::Short);
-            }
-            write_labels(store, m, &v, out);
-            Ok(count as u64)
-        }
-        Err(r) => Err(r),
+    model_checks::check_threshold(store, m, v)?;
+    let count = store.len() / 12;
+    if out.len() < count {
+        return Err(Refusal::Short);
     }
+    write_labels(store, m, &v, out);
+    Ok(count as u64)
 }

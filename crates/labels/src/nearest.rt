@@ -8,25 +8,12 @@ ghost use Rattle.labels.specs.Labels.{first_least, fitting, sample_label, label}
 use jobs::Model;
 use points::{Point, Record};
 
-// x1 to x4, from 0.
-fn x_at(q: Point, k: usize) -> i16
-    requires { k < 4 }
-    ensures { result ≡ at (xs q) k }
-{
-    match k {
-        0 => q.x1,
-        1 => q.x2,
-        2 => q.x3,
-        _ => q.x4,
-    }
-}
-
 // y × 2^S.
 fn scaled(y: i16, power: u16) -> i64
     ensures product { result ≡ y *ℤ pos power }
     ensures small { nat_abs result ≤ 2147483648 }
 {
-    (y as i64) * (power as i64)
+    i64::from(y) * i64::from(power)
 }
 
 // One product taken off.
@@ -35,7 +22,7 @@ fn without(e: i64, w: i16, x: i16) -> i64
     ensures value { result ≡ e -ℤ w *ℤ x }
     ensures small { nat_abs result ≤ nat_abs e + 1073741824 }
 {
-    e - (w as i64) * (x as i64)
+    e - i64::from(w) * i64::from(x)
 }
 
 // e of a point and the line whose coordinates begin at place b.
@@ -43,17 +30,16 @@ fn residual(q: Point, v: &[i16; 8], b: usize, d: usize, power: u16) -> i64
     requires { (b + d ≤ 8) × (d ≤ 4) }
     ensures { result ≡ q.y *ℤ pos power -ℤ dot v.now b (xs q) d }
 {
+    let x = [q.x1, q.x2, q.x3, q.x4];
     let mut e = scaled(q.y, power);
-    let mut k: usize = 0;
-    while k < d {
-        e = without(e, v[b + k], x_at(q, k));
-        k += 1;
+    for k in 0..d {
+        e = without(e, v[b + k], x[k]);
     }
     e
 }
 
 // A line and its |e|, and how many of the lines fit.
-#[derive(Clone, Copy)]
+#[derive(Clone, Copy, Debug, PartialEq, Eq)]
 pub struct Nearest {
     pub line: usize,
     pub size: u64,
@@ -64,7 +50,7 @@ pub struct Nearest {
 fn counted(size: u64, eps: u64) -> usize
     ensures { result ≡ cond (leb size eps) 1 0 }
 {
-    if size <= eps { 1 } else { 0 }
+    usize::from(size <= eps)
 }
 
 // The nearest of n lines, the first among equals, and how many of them are within ε.
@@ -74,18 +60,16 @@ fn nearest_line(q: Point, v: &[i16; 8], n: usize, d: usize, power: u16, eps: u64
     ensures size { result.size ≡ least (λ j. size_of q v.now (j * d) d power) n }
     ensures fitting { result.fitting ≡ fitting (λ j. size_of q v.now (j * d) d power) eps n }
 {
-    let mut line: usize = 0;
+    let mut line = 0;
     let mut size = loss::size(residual(q, v, 0, d, power));
     let mut fitting = counted(size, eps);
-    let mut j: usize = 1;
-    while j < n {
+    for j in 1..n {
         let other = loss::size(residual(q, v, j * d, d, power));
         fitting += counted(other, eps);
         if other < size {
             size = other;
             line = j;
         }
-        j += 1;
     }
     Nearest {
         line,
@@ -100,11 +84,11 @@ fn label_of(q: Point, m: Model, v: &[i16; 8], power: u16) -> u8
     requires { (m.n * m.d ≤ 8) × (1 ≤ m.n) × (m.n ≤ 4) × (m.d ≤ 4) × (power ≡ 2 ^ m.scale) }
     ensures { result ≡ sample_label m v.now q }
 {
-    let near = nearest_line(q, v, m.n as usize, m.d as usize, power, m.eps as u64);
+    let eps = u64::from(m.eps);
+    let near = nearest_line(q, v, usize::from(m.n), usize::from(m.d), power, eps);
     if 2 <= near.fitting {
-        return 5;
-    }
-    if near.size <= m.eps as u64 {
+        5
+    } else if near.size <= eps {
         (near.line + 1) as u8
     } else {
         0
@@ -112,13 +96,14 @@ fn label_of(q: Point, m: Model, v: &[i16; 8], power: u16) -> u8
 }
 
 // The label of record i: 6 of a gap.
+#[tactic(auto, unfolding(points::specs::Points::point_answer, points::specs::Points::sample_or_gap, points::specs::Points::skipped, crate::specs::Labels::label))]
 pub fn label_at(store: &[u8], i: usize, m: Model, v: &[i16; 8], power: u16) -> u8
     requires { Ready (length store.now) m × (i < length store.now / 12) × (power ≡ 2 ^ m.scale) }
     ensures { result ≡ label m v.now (point_at store.now i) }
 {
     match points::read_point(store, i) {
-        Record::Sample(q) => label_of(q, m, v, power),
-        Record::Gap(_) => 6,
-        Record::Missing => 0,
+        Some(Record::Sample(q)) => label_of(q, m, v, power),
+        Some(Record::Gap(_)) => 6,
+        None => 0,
     }
 }
