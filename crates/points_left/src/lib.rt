@@ -11,14 +11,14 @@ ghost use Rattle.points_left.specs.Inside.{put};
 use points::Record;
 
 // 6 of a gap, 0 of a sample.
+#[tactic(auto, unfolding(points::specs::Points::point_answer, points::specs::Points::sample_or_gap, crate::specs::Left::first_label))]
 fn first_label(store: &[u8], i: usize) -> u8
     requires { i < length store.now / 12 }
     ensures { result ≡ first_label (point_at store.now i) }
 {
     match points::read_point(store, i) {
-        Record::Sample(_) => 0,
-        Record::Gap(_) => 6,
-        Record::Missing => 0,
+        Some(Record::Gap(_)) => 6,
+        _ => 0,
     }
 }
 
@@ -26,7 +26,7 @@ fn first_label(store: &[u8], i: usize) -> u8
 fn counted(label: u8) -> usize
     ensures { result ≡ cond (eqb label 0) 1 0 }
 {
-    if label == 0 { 1 } else { 0 }
+    usize::from(label == 0)
 }
 
 // The labels before the first round, and how many points are left then. Nothing is written where there is no room for all labels.
@@ -42,13 +42,11 @@ pub fn set_aside(store: &[u8], labels: &mut [u8]) -> usize
     if labels.len() < count {
         return 0;
     }
-    let mut left: usize = 0;
-    let mut i: usize = 0;
-    while i < count {
+    let mut left = 0;
+    for i in 0..count {
         let label = first_label(store, i);
         labels[i] = label;
         left += counted(label);
-        i += 1;
     }
     left
 }
@@ -80,12 +78,9 @@ pub fn gather(store: &[u8], labels: &[u8], out: &mut [u8]) -> usize
     if out.len() < store.len() {
         return 0;
     }
-    let count = numbers::smaller(store.len() / 12, labels.len());
-    let mut n: usize = 0;
-    let mut i: usize = 0;
-    while i < count {
+    let mut n = 0;
+    for i in 0..(store.len() / 12).min(labels.len()) {
         n += put_left(labels[i], out, n, store, i * 12);
-        i += 1;
     }
     n
 }
@@ -94,7 +89,7 @@ pub fn gather(store: &[u8], labels: &[u8], out: &mut [u8]) -> usize
 fn relabel(label: u8, mark: u8, number: u8) -> u8
     ensures { result ≡ relabel number label mark }
 {
-    if (label == 0) & (mark == 1) {
+    if label == 0 && mark == 1 {
         number
     } else {
         label
@@ -105,7 +100,7 @@ fn relabel(label: u8, mark: u8, number: u8) -> u8
 fn removed_one(label: u8, mark: u8) -> usize
     ensures { result ≡ cond (eqb label 0 && eqb mark 1) 1 0 }
 {
-    if (label == 0) & (mark == 1) { 1 } else { 0 }
+    usize::from(label == 0 && mark == 1)
 }
 
 // The labels after a round with a number, by a mark for each point: how many points it removes.
@@ -113,15 +108,12 @@ pub fn mark(labels: &mut [u8], marks: &[u8], number: u8) -> usize
     ensures removed { result ≡ relabels labels.old marks.now }
     ensures labels { labels.new ≡ relabelled number labels.old marks.now }
 {
-    let count = numbers::smaller(labels.len(), marks.len());
-    let mut removed: usize = 0;
-    let mut i: usize = 0;
-    while i < count {
+    let mut removed = 0;
+    for i in 0..labels.len().min(marks.len()) {
         let label = labels[i];
         let mark = marks[i];
         labels[i] = relabel(label, mark, number);
         removed += removed_one(label, mark);
-        i += 1;
     }
     removed
 }
