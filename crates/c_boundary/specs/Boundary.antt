@@ -1,10 +1,10 @@
 -- What every call of the C interface has in common: a model and a job from numbers and buffers, the code that is returned, and lent memory
 -- afterwards.
-use Rattle.std.specs.Prelude.{Bool, true, false, List, ℕ, ◌+◌, ◌*◌, ◌%◌, ℤ, Ok, Err}
+use Rattle.std.specs.Prelude.{Bool, true, false, List, ℕ, ◌+◌, ◌*◌, ◌%◌, ℤ, Result, Ok, Err}
 use Rattle.codes.specs.declared.Refusal.{Refusal}
 use Rattle.codes.specs.declared.Refusal.TheVariants.{Length, Shape, Scale, Loss, Box, Start, Stray, Table, Answer, Short, Beacon, OffGrid}
 use Rattle.codes.specs.declared.Refusal.TheVariants.{Rounds, Bounds, Order, Clash, Window, Jobs}
-use Rattle.codes.specs.Codes.{Check, Outcome, number_of, unless_refused}
+use Rattle.codes.specs.Codes.{Check, Outcome, pass, number_of, unless_refused}
 use Rattle.jobs.specs.declared.Job.{Job}
 use Rattle.jobs.specs.declared.Model.{Model}
 use Rattle.list_rows.specs.Rows.{row_at}
@@ -32,6 +32,11 @@ if_lengths false o = wrong_length
 -- A call that answers no number: its check alone tells what it comes to, and the 0 is stored nowhere.
 abbrev pub check_call : Bool → Check → Call
 check_call lengths check = if_lengths lengths (unless_refused check 0)
+
+-- The check of a call that answers something else: whether it refuses.
+abbrev pub check_of : {A : Type 0} → Result A Refusal → Check
+check_of (Ok x) = pass
+check_of (Err r) = Err r
 
 -- "every refusal but 7 returns the number alone"; 7 "returns that record's number too".
 abbrev pub stray_record : Refusal → ℕ
@@ -66,6 +71,12 @@ abbrev pub if_accepted : {A : Type 0} → Call → A → A → A
 if_accepted wrong_length given held = held
 if_accepted (answered (Ok v)) given held = given
 if_accepted (answered (Err r)) given held = held
+
+-- What lent memory holds after a call that reads something: what is made of that, or what it held.
+abbrev pub read_after : {A B : Type 0} → Bool → Result A Refusal → (A → B) → B → B
+read_after true (Ok x) made held = made x
+read_after true (Err r) made held = held
+read_after false read made held = held
 
 -- What the lent number holds after a call: the value, or what it held.
 abbrev pub value_after : Call → ℕ → ℕ

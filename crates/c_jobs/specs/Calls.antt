@@ -5,7 +5,7 @@ use Rattle.jobs.specs.declared.Model.{Model}
 use Rattle.list_rows.specs.Rows.{with_row}
 use Rattle.fields.specs.Buffers.{check_room, written}
 use Rattle.job_records.specs.Jobs.{job_bytes, read_job}
-use Rattle.c_boundary.specs.Boundary.{Call, check_call, if_accepted, job_from}
+use Rattle.c_boundary.specs.Boundary.{Call, check_call, check_of, read_after, job_from}
 
 -- the numbers of a job in the record's order: "n, d, S, p (a byte each), ε (32 bits), t (64), budget (32), rows r (32)"
 abbrev pub job_numbers : Job → List ℕ
@@ -19,16 +19,17 @@ job_lengths numbers corners start = eqb numbers 8 && eqb corners 16 && eqb start
 -- reading a job record, and the three lent buffers afterwards
 module _ (bytes numbers : List ℕ) (corners start : List ℤ) where
   abbrev pub read_job_call : Call
-  read_job_call = check_call (job_lengths (length numbers) (length corners) (length start)) (read_job bytes).check
+  read_job_call = check_call (job_lengths (length numbers) (length corners) (length start)) (check_of (read_job bytes))
 
   abbrev pub job_numbers_after : List ℕ
-  job_numbers_after = if_accepted read_job_call (job_numbers (read_job bytes).job) numbers
+  job_numbers_after = read_after (job_lengths (length numbers) (length corners) (length start)) (read_job bytes) job_numbers numbers
 
   abbrev pub corners_after : List ℤ
-  corners_after = if_accepted read_job_call (with_row corners 0 (read_job bytes).job.domain) corners
+  corners_after =
+      read_after (job_lengths (length numbers) (length corners) (length start)) (read_job bytes) (λ job. with_row corners 0 job.domain) corners
 
   abbrev pub start_after : List ℤ
-  start_after = if_accepted read_job_call (read_job bytes).job.start start
+  start_after = read_after (job_lengths (length numbers) (length corners) (length start)) (read_job bytes) (λ job. job.start) start
 
 -- a box and a vector
 abbrev pub region_lengths : ℕ → ℕ → Bool

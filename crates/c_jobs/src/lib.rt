@@ -15,13 +15,13 @@ use jobs::Job;
 fn job_lengths_right(numbers: usize, corners: usize, start: usize) -> bool
     ensures { result ≡ job_lengths numbers corners start }
 {
-    (numbers == 8) & (corners == 16) & (start == 8)
+    numbers == 8 && corners == 16 && start == 8
 }
 
 fn region_lengths_right(corners: usize, start: usize) -> bool
     ensures { result ≡ region_lengths corners start }
 {
-    (corners == 16) & (start == 8)
+    corners == 16 && start == 8
 }
 
 // A job into its three buffers.
@@ -32,8 +32,6 @@ fn lay_job(j: Job, numbers: &mut [u64], corners: &mut [i16], start: &mut [i16])
     ensures long { length j.start ≡ 8 }
 {
     let m = j.model;
-    let domain = j.domain;
-    let first = j.start;
     let told = [
         m.n as u64,
         m.d as u64,
@@ -44,12 +42,13 @@ fn lay_job(j: Job, numbers: &mut [u64], corners: &mut [i16], start: &mut [i16])
         j.budget as u64,
         j.rows as u64,
     ];
-    fill_coordinates(start, &first);
-    list_rows::write_row(corners, 0, domain);
+    fill_coordinates(start, &j.start);
+    list_rows::write_row(corners, 0, j.domain);
     fill_numbers(numbers, &told);
 }
 
 // Reads the job record in the first 72 bytes.
+#[tactic(auto, using(crate::proofs::Lengths::job_lengths_lem, c_buffers::proofs::Buffers::filled_whole))]
 pub fn read_job(bytes: &[u8], numbers: &mut [u64], corners: &mut [i16], start: &mut [i16]) -> u32
     ensures code { result
         ≡ code_of (read_job_call bytes.now numbers.old corners.old start.old) }
@@ -63,11 +62,8 @@ pub fn read_job(bytes: &[u8], numbers: &mut [u64], corners: &mut [i16], start: &
     if !job_lengths_right(numbers.len(), corners.len(), start.len()) {
         return WRONG_LENGTH;
     }
-    let read = job_records::read_job(bytes);
-    let check = read.check;
-    let job = read.job;
-    match check {
-        Ok(()) => {
+    match job_records::read_job(bytes) {
+        Ok(job) => {
             lay_job(job, numbers, corners, start);
             0
         }

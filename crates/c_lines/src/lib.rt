@@ -11,10 +11,11 @@ use c_buffers::{coordinates_of, fill_coordinates, fill_patterns, patterns_of};
 fn lengths_right(coordinates: usize, patterns: usize) -> bool
     ensures { result ≡ line_lengths coordinates patterns }
 {
-    (coordinates == 4) & (patterns == 4)
+    coordinates == 4 && patterns == 4
 }
 
 // Writes a line: the patterns of its four coefficients.
+#[tactic(auto, using(crate::proofs::Lengths::line_lengths_lem, c_buffers::proofs::Buffers::exactly_all, c_buffers::proofs::Buffers::filled_whole))]
 pub fn write_line(d: u8, scale: u8, coordinates: &[i16], patterns: &mut [u32]) -> u32
     ensures code { result ≡ code_of (write_line_call d scale coordinates.now patterns.old) }
     ensures patterns { patterns.new ≡ patterns_after d scale coordinates.now patterns.old }
@@ -22,13 +23,9 @@ pub fn write_line(d: u8, scale: u8, coordinates: &[i16], patterns: &mut [u32]) -
     if !lengths_right(coordinates.len(), patterns.len()) {
         return WRONG_LENGTH;
     }
-    let line = coefficients::write_line(d, scale, coordinates_of(coordinates));
-    let check = line.check;
-    let four = line.line;
-    match check {
-        Ok(()) => {
-            let bits = coefficients::patterns(four);
-            fill_patterns(patterns, &bits);
+    match coefficients::write_line(d, scale, coordinates_of(coordinates)) {
+        Ok(line) => {
+            fill_patterns(patterns, &coefficients::patterns(line));
             0
         }
         Err(r) => refusal_code(r),
@@ -36,6 +33,7 @@ pub fn write_line(d: u8, scale: u8, coordinates: &[i16], patterns: &mut [u32]) -
 }
 
 // Reads a line from the patterns of its four coefficients.
+#[tactic(auto, using(crate::proofs::Lengths::line_lengths_lem, c_buffers::proofs::Buffers::exactly_all, c_buffers::proofs::Buffers::filled_whole))]
 pub fn read_line(d: u8, scale: u8, patterns: &[u32], coordinates: &mut [i16]) -> u32
     ensures code { result ≡ code_of (read_line_call d scale coordinates.old patterns.now) }
     ensures coordinates { coordinates.new ≡ coordinates_after d scale coordinates.old patterns.now }
@@ -43,11 +41,8 @@ pub fn read_line(d: u8, scale: u8, patterns: &[u32], coordinates: &mut [i16]) ->
     if !lengths_right(coordinates.len(), patterns.len()) {
         return WRONG_LENGTH;
     }
-    let line = coefficients::read_patterns(d, scale, patterns_of(patterns));
-    let check = line.check;
-    let w = line.w;
-    match check {
-        Ok(()) => {
+    match coefficients::read_patterns(d, scale, patterns_of(patterns)) {
+        Ok(w) => {
             fill_coordinates(coordinates, &w);
             0
         }
