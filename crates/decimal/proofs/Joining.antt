@@ -46,3 +46,25 @@ joined_others (w ∷ ws) zero some few = absurd (omega arith)
 joined_others (w ∷ ws) (suc j) some few =
     let before : suc j - 1 ≡ j = omega arith in
     rw before refl
+
+-- one coordinate more: the first one, and each other one behind a comma
+pub joined_first :
+    (v : List ℤ) (k : ℕ) →
+    k ≤ 0 →
+    k < length v →
+    joined (take (k + 1) v) ≡ joined (take k v) ++ signed (get_or v k (pos 0))
+joined_first v zero none inside =
+    rw (joined_none v)
+    (joined_others v 1 (omega arith) (omega arith) ∙ rw (others_none v) (append-nil (signed (get_or v 0 (pos 0)))))
+joined_first v (suc j) none inside = absurd (omega arith)
+
+pub joined_next :
+    (v : List ℤ) (k : ℕ) →
+    0 < k →
+    k < length v →
+    joined (take (k + 1) v) ≡ joined (take k v) ++ (ascii "," ++ signed (get_or v k (pos 0)))
+joined_next v k some inside =
+    let first = signed (get_or v 0 (pos 0)) in
+    joined_others v (k + 1) (omega arith) (omega arith)
+    ∙ ap (λ (l : List ℕ). first ++ l) (others_more v k some inside)
+    ∙ rw (joined_others v k (omega arith) (omega arith)) (sym (append_assoc first (others v k) (ascii "," ++ signed (get_or v k (pos 0)))))

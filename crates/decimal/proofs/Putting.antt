@@ -4,12 +4,12 @@ use mathlib.Core.Path.{◌≡◌, refl, sym, ap, ◌∙◌}
 use borrow.Author.Tests.{le-leb, lt-leb}
 use Prim.Native.Nat.{ℕ, ◌+◌, ◌-◌, ◌≤◌, ◌<◌}
 use native.Mathlib.Nat.{add-zero}
-use native.Mathlib.Numerals.{add-one}
 use native.Mathlib.Omega.{arith}
-use lib.ListN.{length, take, drop, set, length-append, length-set, take-append-drop}
-use lib.Seq.{drop-drop, drop-set-lt, take-suc-set}
+use lib.ListN.{length, take, drop, length-append, length-drop, take-append-drop}
+use lib.Seq.{drop-drop, length-take-le}
+use borrow.Rule.Slice.PartMut.{put_mid}
+use Rattle.std.proofs.lemmas.Slice.{take-put_mid, drop-put_mid}
 use Rattle.decimal.specs.Put.{Put, PutIfRoom}
-use Rattle.decimal.specs.Text.{byte}
 
 -- lists that are the same from one place on are so from each later place on
 later : (a b : List ℕ) (n k : ℕ) → n ≤ k → drop n a ≡ drop n b → drop k a ≡ drop k b
@@ -21,13 +21,27 @@ later a b n k h e =
 pub put_nothing : (b : List ℕ) (at : ℕ) → Put b at [] at b
 put_nothing b at = record { place = sym (add-zero at); front = sym (append-nil (take at b)); rest = refl; long = refl }
 
-pub put_one : (l : List ℕ) (at b : ℕ) → at < length l → Put l at (byte b) (at + 1) (set l at b)
-put_one l at b h =
+-- a part that was overwritten by a text of its length
+pub put_part :
+    (b t : List ℕ) (at k : ℕ) →
+    k ≡ length t →
+    at + length t ≤ length b →
+    Put b at t (at + length t) (put_mid at k b t)
+put_part b t at k e room =
+    let behind : at + k ≡ at + length t = omega arith in
     record {
       place = refl;
-      front = rw add-one (take-suc-set l at b h);
-      rest = drop-set-lt (at + 1) l at b (omega arith);
-      long = length-set l at b;
+      front = take-put_mid at k b t (at + length t) refl (omega arith);
+      rest = drop-put_mid at k b t (at + length t) (omega arith) (omega arith) (omega arith);
+      long =
+          omega (
+            arith,
+            length-append (take at b) (t ++ drop k (drop at b)),
+            length-append t (drop k (drop at b)),
+            length-take-le at b (omega arith),
+            length-drop k (drop at b),
+            length-drop at b,
+          );
     }
 
 pub put_more : {b m a s t : List ℕ} {at n k : ℕ} → Put b at s n m → Put m n t k a → Put b at (s ++ t) k a

@@ -1,5 +1,5 @@
-// Text at a place of a buffer: words, numbers in decimal, and coordinates joined by commas. Each function keeps everything else and
-// answers the place behind what it wrote. Where there might be no room it writes nothing and answers the place that it was given.
+// Text that is put into a lent buffer: words, numbers in decimal, and coordinates joined by commas. Everything else in the buffer is kept.
+// Where there might be no room nothing is put.
 #![tactic(auto)]
 
 ghost use Rattle.std.specs.Prelude.{◌++◌, ◌≡◌, ◌+◌, ◌-◌, ◌≤◌, ◌<◌, length, take};
@@ -7,95 +7,98 @@ ghost use Rattle.decimal.specs.Put.{Put, PutIfRoom};
 ghost use Rattle.decimal.specs.Text.{byte, decimal, joined};
 ghost use Rattle.decimal.specs.Text.{signed as Text·signed};
 
-// How many bytes there are from a place on.
-fn room(long: usize, at: usize) -> usize
-    ensures { result ≡ long - at }
-{
-    if at < long { long - at } else { 0 }
+// A lent buffer, and the place behind the text that was put into it.
+#[derive(Debug, Drop)]
+pub struct Writer<'a> {
+    pub buffer: &'a mut [u8],
+    pub at: usize,
 }
 
-fn put_byte(out: &mut [u8], at: usize, b: u8) -> usize
-    requires { at < length out.old }
-    ensures { Put out.old at (byte b) result out.new }
-{
-    out[at] = b;
-    at + 1
-}
+impl Writer<'_> {
+    // How many bytes there are from the place on.
+    fn room(&self) -> usize
+        ensures { result ≡ length self.now.buffer.now - self.now.at }
+    {
+        self.buffer.len().saturating_sub(self.at)
+    }
 
-pub fn put_bytes(out: &mut [u8], at: usize, word: &[u8]) -> usize
-    ensures { PutIfRoom (length word.now) out.old at word.now result out.new }
-{
-    if room(out.len(), at) < word.len() {
-        return at;
+    fn put_byte(&mut self, b: u8)
+        requires { self.old.at < length self.old.buffer.now }
+        ensures same_buffer { self.new.buffer.ghost_name ≡ self.old.buffer.ghost_name }
+        ensures put { Put self.old.buffer.now self.old.at (byte b) self.new.at self.new.buffer.now }
+    {
+        self.buffer[self.at] = b;
+        self.at += 1;
     }
-    for k in 0..word.len() {
-        out[at + k] = word[k];
-    }
-    at + word.len()
-}
 
-// The digits of n: those of n / 10 first, so that none is written twice or counted before.
-#[tactic(auto, using(crate::proofs::Decimal::decimal_one, crate::proofs::Decimal::decimal_more, crate::proofs::Putting::put_more))]
-fn put_decimal(out: &mut [u8], at: usize, n: u64) -> usize
-    requires { at + length (decimal n) ≤ length out.old }
-    ensures { Put out.old at (decimal n) result out.new }
-{
-    if n < 10 {
-        return put_byte(out, at, 48 + n as u8);
-    }
-    let next = put_decimal(out, at, n / 10);
-    put_byte(out, next, 48 + (n % 10) as u8)
-}
-
-// A number behind its name. A number has 20 digits at most.
-pub fn put_field(out: &mut [u8], at: usize, name: &[u8], n: u64) -> usize
-    ensures put { PutIfRoom (length name.now + 20) out.old at (name.now ++ decimal n) result out.new }
-    ensures short { result ≤ at + (length name.now + 20) }
-{
-    let free = room(out.len(), at);
-    if free < 20 {
-        return at;
-    }
-    if free - 20 < name.len() {
-        return at;
-    }
-    let next = put_bytes(out, at, name);
-    put_decimal(out, next, n)
-}
-
-// A coordinate, with its sign if it is negative: 6 bytes at most.
-fn put_signed(out: &mut [u8], at: usize, w: i16) -> usize
-    requires { at + 6 ≤ length out.old }
-    ensures put { Put out.old at (Text·signed w) result out.new }
-    ensures short { result ≤ at + 6 }
-{
-    let size = loss::size(w as i64);
-    if w < 0 {
-        let next = put_byte(out, at, b'-');
-        put_decimal(out, next, size)
-    } else {
-        put_decimal(out, at, size)
-    }
-}
-
-// The first coordinates of a vector, joined by commas: 56 bytes at most.
-pub fn put_joined(out: &mut [u8], at: usize, v: [i16; 8], used: usize) -> usize
-    ensures put { PutIfRoom 56 out.old at (joined (take used v)) result out.new }
-    ensures short { result ≤ at + 56 }
-{
-    if room(out.len(), at) < 56 {
-        return at;
-    }
-    if used == 0 {
-        return at;
-    }
-    let mut next = put_signed(out, at, v[0]);
-    for k in 1..8 {
-        if used <= k {
-            return next;
+    #[tactic(auto, using(crate::proofs::Putting::put_nothing, crate::proofs::Putting::put_part, crate::proofs::Putting::not_put, crate::proofs::Putting::is_put))]
+    pub fn put_bytes(&mut self, word: &[u8])
+        ensures same_buffer { self.new.buffer.ghost_name ≡ self.old.buffer.ghost_name }
+        ensures put { PutIfRoom (length word.now) self.old.buffer.now self.old.at word.now self.new.at self.new.buffer.now }
+    {
+        if word.is_empty() || self.room() < word.len() {
+            return;
         }
-        let behind = put_byte(out, next, b',');
-        next = put_signed(out, behind, v[k]);
+        let end = self.at + word.len();
+        self.buffer[self.at..end].copy_from_slice(word);
+        self.at = end;
     }
-    next
+
+    // The digits of n: those of n / 10 first, so that none is written twice or counted before.
+    #[tactic(auto, using(crate::proofs::Decimal::decimal_one, crate::proofs::Decimal::decimal_more, crate::proofs::Putting::put_more))]
+    fn put_decimal(&mut self, n: u64)
+        requires { self.old.at + length (decimal n) ≤ length self.old.buffer.now }
+        ensures same_buffer { self.new.buffer.ghost_name ≡ self.old.buffer.ghost_name }
+        ensures put { Put self.old.buffer.now self.old.at (decimal n) self.new.at self.new.buffer.now }
+    {
+        if n < 10 {
+            self.put_byte(b'0' + n as u8);
+        } else {
+            self.put_decimal(n / 10);
+            self.put_byte(b'0' + (n % 10) as u8);
+        }
+    }
+
+    // A number behind its name. A number has 20 digits at most.
+    pub fn put_field(&mut self, name: &[u8], n: u64)
+        ensures same_buffer { self.new.buffer.ghost_name ≡ self.old.buffer.ghost_name }
+        ensures put { PutIfRoom (length name.now + 20) self.old.buffer.now self.old.at (name.now ++ decimal n) self.new.at self.new.buffer.now }
+        ensures short { self.new.at ≤ self.old.at + (length name.now + 20) }
+    {
+        if self.room() < name.len() + 20 {
+            return;
+        }
+        self.put_bytes(name);
+        self.put_decimal(n);
+    }
+
+    // A coordinate, with its sign if it is negative: 6 bytes at most.
+    fn put_signed(&mut self, w: i16)
+        requires { self.old.at + 6 ≤ length self.old.buffer.now }
+        ensures same_buffer { self.new.buffer.ghost_name ≡ self.old.buffer.ghost_name }
+        ensures put { Put self.old.buffer.now self.old.at (Text·signed w) self.new.at self.new.buffer.now }
+        ensures short { self.new.at ≤ self.old.at + 6 }
+    {
+        if w < 0 {
+            self.put_byte(b'-');
+        }
+        self.put_decimal(u64::from(w.unsigned_abs()));
+    }
+
+    // The first coordinates of a vector, joined by commas: 56 bytes at most.
+    pub fn put_joined(&mut self, v: [i16; 8], used: usize)
+        ensures same_buffer { self.new.buffer.ghost_name ≡ self.old.buffer.ghost_name }
+        ensures put { PutIfRoom 56 self.old.buffer.now self.old.at (joined (take used v)) self.new.at self.new.buffer.now }
+        ensures short { self.new.at ≤ self.old.at + 56 }
+    {
+        if self.room() < 56 {
+            return;
+        }
+        for (k, w) in v[..used.min(8)].iter().enumerate() {
+            if 0 < k {
+                self.put_byte(b',');
+            }
+            self.put_signed(*w);
+        }
+    }
 }

@@ -1,5 +1,5 @@
 -- The measure is n, which n / 10 is below.
-use Rattle.decimal.proofs.+put_decimal.Given as goal
+use Rattle.decimal.proofs.Writer.+put_decimal.Given as goal
 
 abbrev pub decreases-put_decimal : goal.decreases-put_decimal
 decreases-put_decimal l = l.n
