@@ -12,8 +12,7 @@ use Rattle.integers.proofs.Tests.{le_or_lt}
 use Rattle.eval_lanes.specs.Lanes.{lane}
 use Rattle.jobs.specs.declared.Model.{Model}
 use Rattle.eval_columns.specs.Columns.{ChunkOf}
-use Rattle.eval_kernel.specs.Kernel.{LeastOf, no_sizes, chunk_size}
-use Rattle.eval_kernel.proofs.Starting.{from_none}
+use Rattle.eval_kernel.specs.Kernel.{chunk_size}
 
 -- of n chunks the first t have the sizes that f gives
 pub record Sized (n : ℕ) (f : ℕ → ℕ → Float) (kept : List (List Float)) (t : ℕ) : Type 0 where
@@ -75,9 +74,8 @@ module _ (store : List ℕ) (m : Model) (over : Bool) (from to : List Float) whe
     abbrev sizes_of : List (List Float) → ℕ → Float
     sizes_of x = chunk_size over x from to m
 
-    pub one_kept : (r : List Float) → t < 54 → ChunkOf store t m.d (2 ^ m.scale) s
-        → LeastOf over s from to m.d m.n (get_or (set kept t no_sizes) t []) r
-        → KeptSizes store m over from to (set (set kept t no_sizes) t r) (t + 1)
+    pub one_kept : (r : List Float) → t < 54 → ChunkOf store t m.d (2 ^ m.scale) s → ((k : ℕ) → k < 80 → lane r k ≡ sizes_of s k)
+        → KeptSizes store m over from to (set kept t r) (t + 1)
     one_kept r inside is found =
         let so_far =
         same_sized _ kept t before.sized (λ i. sizes_of (get_or all i []))
@@ -93,8 +91,5 @@ module _ (store : List ℕ) (m : Model) (over : Bool) (from to : List Float) whe
               (λ (g : i < t). rw (old i g) (before.chunk i g))
               (le_or_lt t i);
           sized =
-              one_sized _ _ t (still_sized _ kept t so_far no_sizes) r inside
-              (λ k l.
-              from_none over s from to m _ r (get_or-set_same kept t no_sizes [] (omega (arith, before.sized.long))) found k l
-              ∙ ap (λ (x : List (List Float)). sizes_of x k) (sym new));
+              one_sized _ kept t so_far r inside (λ k l. found k l ∙ ap (λ (x : List (List Float)). sizes_of x k) (sym new));
         }

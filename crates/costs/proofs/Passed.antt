@@ -5,6 +5,7 @@ use mathlib.Core.Logic.{⊎_elim}
 use mathlib.Core.List.{List, []}
 use Prim.Native.Nat.{ℕ, ◌%◌, ◌^◌, ◌≤◌, ◌<◌}
 use native.Mathlib.Omega.{arith}
+use lib.IntN.{ℤ}
 use lib.ListN.{length, get_or}
 use lib.Ieee.{Float}
 use Rattle.codes.specs.Codes.{pass}
@@ -18,10 +19,17 @@ use Rattle.residuals.specs.Inside.{Ready}
 use Rattle.residuals.proofs.Sizes.{power_of}
 use Rattle.residuals.proofs.Sums.{total_most}
 use Rattle.eval_columns.specs.Columns.{ChunkOf, DecodedInto}
-use Rattle.model_checks.specs.Checks.{check_model}
-use Rattle.model_checks.proofs.Passed.{ready}
+use Rattle.boxes.specs.declared.Box.{Box}
+use Rattle.model_checks.specs.Checks.{check_model, check_cost, check_bound}
+use Rattle.model_checks.proofs.Passed.{ready, cost_model, bound_model}
 use Rattle.costs.specs.Calls.{DecodedFor}
 use Rattle.costs.specs.Laws.{CostLimit}
+
+pub cost_ready : (store : List ℕ) (m : Model) (v : List ℤ) → check_cost store m v ≡ pass → Ready (length store) m
+cost_ready store m v e = ready store m (cost_model store m v e)
+
+pub bound_ready : (store : List ℕ) (m : Model) (B : Box) → check_bound store m B ≡ pass → Ready (length store) m
+bound_ready store m B e = ready store m (bound_model store m B e)
 
 -- Room for 54 chunks is enough for an accepted store: all of it is decoded.
 pub decoded_ready : (store : List ℕ) (m : Model) → Ready (length store) m → {power : ℕ} {old new : List (List (List Float))}

@@ -4,39 +4,63 @@ ghost use Rattle.std.specs.Float.{binary64};
 ghost use Rattle.std.specs.Float.Ieee.{of_int};
 ghost use Rattle.points.specs.Points.{points_of};
 ghost use Rattle.ranks.specs.Largest.{nth_largest};
-ghost use Rattle.residuals.specs.Inside.{Ready};
 ghost use Rattle.eval_lanes.specs.Lanes.{lane};
-ghost use Rattle.eval_columns.specs.Columns.{decoded_chunks};
-ghost use Rattle.eval_kernel.specs.Kernel.{no_sizes, chunk_size};
+ghost use Rattle.eval_kernel.specs.Kernel.{doubles, Doubles, no_sizes, chunk_size};
 ghost use Rattle.eval_selection.specs.Selection.{exceeding_in, selected};
 ghost use Rattle.costs.specs.Calls.{exceeding_by};
 ghost use Rattle.costs.specs.Inside.{least_sizes, RankIn};
 
 use crate::NO_CAP;
-use eval_kernel::{Coordinates, NO_SIZE, no_size};
+use crate::task::Task;
+use eval_kernel::{Coordinates, NO_SIZE, coordinates, no_size};
 use eval_lanes::{Chunk, Lanes};
 use eval_selection::LIMIT;
 use jobs::Model;
-use numbers::least;
 
-// The least sizes of a chunk's points, found in lanes that hold a number that no size reaches: they are filled with it, or are already.
-fn chunk_sizes(
-    sizes: &mut Lanes,
-    s: &Chunk,
-    from: &Coordinates,
-    to: &Coordinates,
-    m: Model,
+// What is asked of each chunk: the sizes under the vector `from`, or over the box from `from` to `to`.
+#[derive(Clone, Copy)]
+struct Asked {
+    model: Model,
+    from: Coordinates,
+    to: Coordinates,
     over: bool,
-    fill: bool,
-)
+}
+
+impl Asked {
+    // By a task: its coordinates in double precision, found once for each evaluation.
+    fn by(task: &Task) -> Asked
+        ensures same { (result.model ≡ task.now.model) × (result.over ≡ task.now.over) }
+        ensures from { (result.from ≡ doubles task.now.low) × Doubles task.now.low result.from }
+        ensures to { (result.to ≡ doubles task.now.high) × Doubles task.now.high result.to }
+    {
+        Asked {
+            model: task.model,
+            from: coordinates(task.low),
+            to: coordinates(task.high),
+            over: task.over,
+        }
+    }
+}
+
+// The least sizes of a chunk's points, found in lanes that hold a number that no size reaches: they are filled with it, or are already. To
+// fill lanes twice took an evaluation of 256 points a tenth of its time more.
+fn chunk_sizes(sizes: &mut Lanes, s: &Chunk, asked: &Asked, fill: bool)
     requires { fill ≡ false → sizes.old ≡ no_sizes }
     ensures { (k : ℕ) → k < 80 → lane sizes.new k
-        ≡ chunk_size over s.now from.now to.now m k }
+        ≡ chunk_size asked.now.over s.now asked.now.from asked.now.to asked.now.model k }
 {
     if fill {
         *sizes = [no_size(); 80];
     }
-    eval_kernel::lessen_all(sizes, s, from, to, m.n, m.d, over);
+    eval_kernel::lessen_all(
+        sizes,
+        s,
+        &asked.from,
+        &asked.to,
+        asked.model.n,
+        asked.model.d,
+        asked.over,
+    );
 }
 
 // How many of a chunk reach a cap; none is looked at if no size reaches it.
@@ -50,166 +74,88 @@ fn reaching(sizes: &Lanes, cap: u64) -> u64
     eval_selection::reaching(sizes, cap)
 }
 
-// Of the sizes in so many chunks, up to a cap: no more are made once more than q reach it.
-fn kept_rank(
-    sizes: &mut [Lanes],
-    fill: bool,
-    lanes: &[Chunk],
-    count: usize,
-    from: &Coordinates,
-    to: &Coordinates,
-    m: Model,
-    over: bool,
-    cap: u64,
-) -> u64
-    requires { (count ≤ length sizes.old) × (count ≤ length lanes.now) × (count ≤ 54)
-        × (fill ≡ false → (i : ℕ) → i < count → get_or sizes.old i [] ≡ no_sizes) }
-    ensures { result ≡ selected (exceeding_by over lanes.now from.now to.now m count) m.eps
-        (min cap 4503599627370496) }
+// Of the sizes in all chunks, up to a cap: no more are made once more than q reach it.
+fn kept_rank(sizes: &mut [Lanes], fill: bool, lanes: &[Chunk], asked: &Asked, cap: u64) -> u64
+    requires { (length lanes.now ≤ length sizes.old) × (length lanes.now ≤ 54)
+        × (fill ≡ false → (i : ℕ) → i < length lanes.now → get_or sizes.old i [] ≡ no_sizes) }
+    ensures { result ≡ selected (exceeding_by asked.now.over lanes.now asked.now.from asked.now.to asked.now.model
+        (length lanes.now)) asked.now.model.eps (min cap 4503599627370496) }
 {
+    let q = asked.model.eps;
     let mut reached: u64 = 0;
-    let mut t: usize = 0;
-    while t < count {
-        chunk_sizes(&mut sizes[t], &lanes[t], from, to, m, over, fill);
-        reached = reached + reaching(&sizes[t], cap);
-        if (m.eps as u64) < reached {
-            return least(cap, LIMIT);
+    for t in 0..lanes.len() {
+        chunk_sizes(&mut sizes[t], &lanes[t], asked, fill);
+        reached += reaching(&sizes[t], cap);
+        if (q as u64) < reached {
+            return cap.min(LIMIT);
         }
-        t += 1;
     }
-    eval_selection::nth_largest(&sizes[..count], m.eps, cap, reached)
+    eval_selection::nth_largest(&sizes[..lanes.len()], q, cap, reached)
 }
 
-// Of at most eight chunks: the array is filled at each call, whatever is used of it.
-fn short_rank(
-    lanes: &[Chunk],
-    count: usize,
-    from: &Coordinates,
-    to: &Coordinates,
-    m: Model,
-    over: bool,
-    cap: u64,
-) -> u64
-    requires { (count ≤ 8) × (count ≤ length lanes.now) }
-    ensures { result ≡ selected (exceeding_by over lanes.now from.now to.now m count) m.eps
-        (min cap 4503599627370496) }
+// Of at most N chunks: the array is filled at each call, whatever is used of it. Not in its caller, whose stack few chunks and every sum
+// would then take.
+#[inline(never)]
+fn filled_rank<const N: usize>(lanes: &[Chunk], asked: &Asked, cap: u64) -> u64
+    requires { (length lanes.now ≤ N) × (N ≤ 54) }
+    ensures { result ≡ selected (exceeding_by asked.now.over lanes.now asked.now.from asked.now.to asked.now.model
+        (length lanes.now)) asked.now.model.eps (min cap 4503599627370496) }
 {
     let none: Lanes = [no_size(); 80];
-    let mut sizes: [Lanes; 8] = [none; 8];
-    kept_rank(&mut sizes, false, lanes, count, from, to, m, over, cap)
+    let mut sizes: [Lanes; N] = [none; N];
+    kept_rank(&mut sizes, false, lanes, asked, cap)
 }
 
-// Of any number. The array is set to zeros, and a chunk filled when its turn comes: none behind the one where the cap is reached. The
-// compiler lays the two arrays over each other, since each is that of a function of its own.
-fn long_rank(
-    lanes: &[Chunk],
-    count: usize,
-    from: &Coordinates,
-    to: &Coordinates,
-    m: Model,
-    over: bool,
-    cap: u64,
-) -> u64
-    requires { (count ≤ 54) × (count ≤ length lanes.now) }
-    ensures { result ≡ selected (exceeding_by over lanes.now from.now to.now m count) m.eps
-        (min cap 4503599627370496) }
+// Of any number. The array is set to zeros, and a chunk filled when its turn comes: none behind the one where the cap is reached.
+#[inline(never)]
+fn long_rank(lanes: &[Chunk], asked: &Asked, cap: u64) -> u64
+    requires { length lanes.now ≤ 54 }
+    ensures { result ≡ selected (exceeding_by asked.now.over lanes.now asked.now.from asked.now.to asked.now.model
+        (length lanes.now)) asked.now.model.eps (min cap 4503599627370496) }
 {
     let zeros: Lanes = [0.0; 80];
     let mut sizes: [Lanes; 54] = [zeros; 54];
-    kept_rank(&mut sizes, true, lanes, count, from, to, m, over, cap)
+    kept_rank(&mut sizes, true, lanes, asked, cap)
+}
+
+// By how many chunks there are, each number with an array that fits it.
+fn some_rank(lanes: &[Chunk], asked: &Asked, cap: u64) -> u64
+    requires { length lanes.now ≤ 54 }
+    ensures { result ≡ selected (exceeding_by asked.now.over lanes.now asked.now.from asked.now.to asked.now.model
+        (length lanes.now)) asked.now.model.eps (min cap 4503599627370496) }
+{
+    match lanes.len() {
+        0..=4 => filled_rank::<4>(lanes, asked, cap),
+        5..=8 => filled_rank::<8>(lanes, asked, cap),
+        _ => long_rank(lanes, asked, cap),
+    }
 }
 
 // Over the lanes of a store that was decoded before.
-fn many_rank(
-    store: &[u8],
-    lanes: &[Chunk],
-    m: Model,
-    low: [i16; 8],
-    high: [i16; 8],
-    over: bool,
-    cap: u64,
-) -> u64
-    requires { Ready (length store.now) m }
-    ensures { RankIn over store.now lanes.now m low high cap result }
+pub fn lanes_rank(task: &Task, lanes: &[Chunk], cap: u64) -> u64
+    ensures { RankIn task.now.over task.now.store.now lanes.now task.now.model task.now.low task.now.high cap result }
 {
-    let from = eval_kernel::coordinates(low);
-    let to = eval_kernel::coordinates(high);
-    let count = eval_columns::chunk_count(store.len(), lanes.len());
-    if count < 9 {
-        return short_rank(lanes, count, &from, &to, m, over, cap);
-    }
-    long_rank(lanes, count, &from, &to, m, over, cap)
-}
-
-// The same of at most four chunks, in an array of their own.
-fn few_rank(
-    store: &[u8],
-    lanes: &[Chunk],
-    m: Model,
-    low: [i16; 8],
-    high: [i16; 8],
-    over: bool,
-    cap: u64,
-) -> u64
-    requires { Ready (length store.now) m × (decoded_chunks store.now lanes.now ≤ 4) }
-    ensures { RankIn over store.now lanes.now m low high cap result }
-{
-    let from = eval_kernel::coordinates(low);
-    let to = eval_kernel::coordinates(high);
-    let count = eval_columns::chunk_count(store.len(), lanes.len());
-    let none: Lanes = [no_size(); 80];
-    let mut sizes: [Lanes; 4] = [none; 4];
-    kept_rank(&mut sizes, false, lanes, count, &from, &to, m, over, cap)
-}
-
-// By how many chunks there are. Each rank is called twice: the compiler puts a function with one call into its caller, and few chunks, and
-// every sum, would then take the stack of all sizes.
-pub fn lanes_rank(
-    store: &[u8],
-    lanes: &[Chunk],
-    m: Model,
-    low: [i16; 8],
-    high: [i16; 8],
-    over: bool,
-    cap: u64,
-) -> u64
-    requires { Ready (length store.now) m }
-    ensures { RankIn over store.now lanes.now m low high cap result }
-{
-    if eval_columns::chunk_count(store.len(), lanes.len()) < 5 {
-        if over {
-            return few_rank(store, lanes, m, low, high, true, cap);
-        }
-        return few_rank(store, lanes, m, low, high, false, cap);
-    }
-    if over {
-        return many_rank(store, lanes, m, low, high, true, cap);
-    }
-    many_rank(store, lanes, m, low, high, false, cap)
+    let count = eval_columns::chunk_count(task.store.len(), lanes.len());
+    some_rank(&lanes[..count], &Asked::by(task), cap)
 }
 
 // Of the whole store, each chunk decoded into one that is used again.
-pub fn rank(store: &[u8], m: Model, low: [i16; 8], high: [i16; 8], over: bool) -> u64
-    requires { Ready (length store.now) m }
-    ensures { result ≡ nth_largest m.eps (least_sizes over m low high (points_of store.now)) }
+#[inline(never)]
+pub fn rank(task: &Task) -> u64
+    ensures { result ≡ nth_largest task.now.model.eps (least_sizes task.now.over task.now.model task.now.low task.now.high (points_of task.now.store.now)) }
 {
+    let m = task.model;
     let power = scale::power(m.scale);
-    let from = eval_kernel::coordinates(low);
-    let to = eval_kernel::coordinates(high);
+    let asked = Asked::by(task);
     // Not 0, so that the compiler lays the chunk at a multiple of 16 bytes.
     let column: Lanes = [1.0; 80];
     let mut chunk: Chunk = [column; 5];
-    let most = NO_SIZE as f64;
-    let none: Lanes = [most; 80];
     let zeros: Lanes = [0.0; 80];
     let mut sizes: [Lanes; 54] = [zeros; 54];
-    let count = eval_columns::chunk_count(store.len(), 54);
-    let mut t: usize = 0;
-    while t < count {
-        eval_columns::decode_chunk(&mut chunk, store, t as u8, m.d, power);
-        sizes[t] = none;
-        eval_kernel::lessen_all(&mut sizes[t], &chunk, &from, &to, m.n, m.d, over);
-        t += 1;
+    let count = eval_columns::chunk_count(task.store.len(), 54);
+    for t in 0..count {
+        eval_columns::decode_chunk(&mut chunk, task.store, t as u8, m.d, power);
+        chunk_sizes(&mut sizes[t], &chunk, &asked, true);
     }
     eval_selection::nth_largest(&sizes[..count], m.eps, NO_CAP, 0)
 }

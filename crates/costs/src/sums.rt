@@ -1,59 +1,44 @@
 // The sum of a store's losses, chunk after chunk.
-ghost use Rattle.std.specs.Prelude.{◌≡◌, length};
+ghost use Rattle.std.specs.Prelude.{◌≡◌};
 ghost use Rattle.points.specs.Points.{points_of};
 ghost use Rattle.residuals.specs.Cost.{total_loss};
-ghost use Rattle.residuals.specs.Inside.{Ready};
 ghost use Rattle.costs.specs.Inside.{sizes_by, SumIn};
 
+use crate::task::Task;
+use eval_kernel::coordinates;
 use eval_lanes::{Chunk, Lanes};
-use jobs::Model;
 
 // Of the whole store, each chunk decoded into one that is used again.
-pub fn sum(store: &[u8], m: Model, low: [i16; 8], high: [i16; 8], over: bool) -> u64
-    requires { Ready (length store.now) m }
-    ensures { result ≡ total_loss m (sizes_by over m low high) (points_of store.now) }
+pub fn sum(task: &Task) -> u64
+    ensures { result ≡ total_loss task.now.model (sizes_by task.now.over task.now.model task.now.low task.now.high) (points_of task.now.store.now) }
 {
+    let m = task.model;
     let power = scale::power(m.scale);
-    let from = eval_kernel::coordinates(low);
-    let to = eval_kernel::coordinates(high);
+    let from = coordinates(task.low);
+    let to = coordinates(task.high);
     // Not 0, so that the compiler lays the chunk at a multiple of 16 bytes.
     let column: Lanes = [1.0; 80];
     let mut chunk: Chunk = [column; 5];
-    let count = eval_columns::chunk_count(store.len(), 54);
     let mut total: u64 = 0;
-    let mut t: usize = 0;
-    while t < count {
-        eval_columns::decode_chunk(&mut chunk, store, t as u8, m.d, power);
-        total = total + eval_kernel::chunk_loss(&chunk, &from, &to, m, over);
-        t += 1;
+    for t in 0..eval_columns::chunk_count(task.store.len(), 54) {
+        eval_columns::decode_chunk(&mut chunk, task.store, t as u8, m.d, power);
+        total += eval_kernel::chunk_loss(&chunk, &from, &to, m, task.over);
     }
     total
 }
 
 // Over the lanes of a store that was decoded before, up to a cap that is looked at once a chunk.
-pub fn lanes_up_to(
-    store: &[u8],
-    lanes: &[Chunk],
-    m: Model,
-    low: [i16; 8],
-    high: [i16; 8],
-    over: bool,
-    cap: u64,
-) -> u64
-    requires { Ready (length store.now) m }
-    ensures { SumIn over store.now lanes.now m low high cap result }
+pub fn lanes_up_to(task: &Task, lanes: &[Chunk], cap: u64) -> u64
+    ensures { SumIn task.now.over task.now.store.now lanes.now task.now.model task.now.low task.now.high cap result }
 {
-    let from = eval_kernel::coordinates(low);
-    let to = eval_kernel::coordinates(high);
-    let count = eval_columns::chunk_count(store.len(), lanes.len());
+    let from = coordinates(task.low);
+    let to = coordinates(task.high);
     let mut total: u64 = 0;
-    let mut t: usize = 0;
-    while t < count {
+    for t in 0..eval_columns::chunk_count(task.store.len(), lanes.len()) {
         if cap <= total {
             return cap;
         }
-        total = total + eval_kernel::chunk_loss(&lanes[t], &from, &to, m, over);
-        t += 1;
+        total += eval_kernel::chunk_loss(&lanes[t], &from, &to, task.model, task.over);
     }
-    numbers::least(total, cap)
+    total.min(cap)
 }
