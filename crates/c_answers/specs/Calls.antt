@@ -4,7 +4,7 @@ use Rattle.answer_records.specs.declared.AnswerRecord.{AnswerRecord}
 use Rattle.fields.specs.Buffers.{written}
 use Rattle.answer_records.specs.Answers.{answer_bytes, check_answer_write, read_answer}
 use Rattle.c_buffers.specs.Buffers.{vector_from}
-use Rattle.c_boundary.specs.Boundary.{Call, check_call, if_accepted}
+use Rattle.c_boundary.specs.Boundary.{Call, check_call, check_of, read_after}
 
 -- the numbers of an answer in the record's order: "C (64 bits), L (64), count (32), kind (1 solved, 2 spent, 3 full), n, d, S"
 abbrev pub answer_numbers : AnswerRecord → List ℕ
@@ -22,13 +22,13 @@ answer_lengths vector numbers = eqb vector 8 && eqb numbers 7
 -- reading an answer record, and the two lent buffers afterwards
 module _ (bytes : List ℕ) (vector : List ℤ) (numbers : List ℕ) where
   abbrev pub read_answer_call : Call
-  read_answer_call = check_call (answer_lengths (length vector) (length numbers)) (read_answer bytes).check
+  read_answer_call = check_call (answer_lengths (length vector) (length numbers)) (check_of (read_answer bytes))
 
   abbrev pub answer_vector_after : List ℤ
-  answer_vector_after = if_accepted read_answer_call (read_answer bytes).answer.vector vector
+  answer_vector_after = read_after (answer_lengths (length vector) (length numbers)) (read_answer bytes) (λ a. a.vector) vector
 
   abbrev pub answer_numbers_after : List ℕ
-  answer_numbers_after = if_accepted read_answer_call (answer_numbers (read_answer bytes).answer) numbers
+  answer_numbers_after = read_after (answer_lengths (length vector) (length numbers)) (read_answer bytes) answer_numbers numbers
 
 -- writing an answer record, and the lent bytes afterwards
 module _ (vector : List ℤ) (cost bound count kind n d scale : ℕ) (bytes : List ℕ) where

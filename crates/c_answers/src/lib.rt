@@ -14,7 +14,7 @@ use c_buffers::{fill_coordinates, fill_numbers, vector_of};
 fn lengths_right(vector: usize, numbers: usize) -> bool
     ensures { result ≡ answer_lengths vector numbers }
 {
-    (vector == 8) & (numbers == 7)
+    vector == 8 && numbers == 7
 }
 
 // An answer into its two buffers.
@@ -23,7 +23,6 @@ fn lay_answer(a: AnswerRecord, vector: &mut [i16], numbers: &mut [u64])
     ensures numbers { numbers.new ≡ filled numbers.old (answer_numbers a) }
     ensures long { length a.vector ≡ 8 }
 {
-    let found = a.vector;
     let told = [
         a.cost,
         a.bound,
@@ -33,11 +32,12 @@ fn lay_answer(a: AnswerRecord, vector: &mut [i16], numbers: &mut [u64])
         a.d as u64,
         a.scale as u64,
     ];
-    fill_coordinates(vector, &found);
+    fill_coordinates(vector, &a.vector);
     fill_numbers(numbers, &told);
 }
 
 // Reads an answer record of 40 bytes.
+#[tactic(auto, using(crate::proofs::Lengths::answer_lengths_lem, c_buffers::proofs::Buffers::filled_whole))]
 pub fn read_answer(bytes: &[u8], vector: &mut [i16], numbers: &mut [u64]) -> u32
     ensures code { result ≡ code_of (read_answer_call bytes.now vector.old numbers.old) }
     ensures vector { vector.new ≡ answer_vector_after bytes.now vector.old numbers.old }
@@ -46,11 +46,8 @@ pub fn read_answer(bytes: &[u8], vector: &mut [i16], numbers: &mut [u64]) -> u32
     if !lengths_right(vector.len(), numbers.len()) {
         return WRONG_LENGTH;
     }
-    let read = answer_records::read_answer(bytes);
-    let check = read.check;
-    let answer = read.answer;
-    match check {
-        Ok(()) => {
+    match answer_records::read_answer(bytes) {
+        Ok(answer) => {
             lay_answer(answer, vector, numbers);
             0
         }
@@ -78,9 +75,8 @@ pub fn write_answer(
     if vector.len() != 8 {
         return WRONG_LENGTH;
     }
-    let found = vector_of(vector);
     let answer = AnswerRecord {
-        vector: found,
+        vector: vector_of(vector),
         cost,
         bound,
         count,

@@ -7,7 +7,7 @@ use Prim.Native.Nat.{ℕ, ◌%◌, ◌≤◌, ◌<◌}
 use native.Mathlib.Omega.{arith}
 use lib.Dec.{eqb, eqb→eq}
 use lib.ListN.{length}
-use Rattle.std.specs.Prelude.{Ok, Err}
+use Rattle.std.specs.Prelude.{Ok, Err, OnOk}
 use Rattle.integers.proofs.Tests.{and_parts}
 use Rattle.codes.specs.declared.Refusal.{Refusal}
 use Rattle.codes.specs.declared.Refusal.TheVariants.{Length, Order}
@@ -40,10 +40,23 @@ either_whole bytes e = by (eqb bytes 0) refl e
         let b = eqb (bytes % 12) 0 in
         eqb→eq (bytes % 12) 0 (and_parts a b (passed (a && b) Length h)).1
 
+-- and so has one that check 1 accepts
+pub either_passed : (bytes : ℕ) (c : Check) → (bytes ≡ 0 → ⊥) → c ≡ check_store bytes → OnOk c (bytes % 12 ≡ 0)
+unfolding check_store
+either_passed bytes (Ok _) some e =
+    let a = within 1 bytes 49152 in
+    let b = eqb (bytes % 12) 0 in
+    eqb→eq (bytes % 12) 0 (and_parts a b (passed (a && b) Length (sym e))).1
+either_passed bytes (Err r) some e = tt
+
 module _ (first second : List ℕ) where
   -- check 1 of each
   abbrev pub lengths : Check
   lengths = in_order (check_either (length first) ∷ check_either (length second) ∷ [])
+
+  pub lengths_pass : check_either (length first) ≡ pass → check_either (length second) ≡ pass → lengths ≡ pass
+  unfolding in_order
+  lengths_pass p q = rw (p, q) refl
 
   pub lengths_refused : (r : Refusal) → lengths ≡ Err r → union_answer first second ≡ Err r
   unfolding union_answer check_both

@@ -1,15 +1,17 @@
 -- Laws of the records of a store, each 12 bytes: the first of those that are left, and a store put together of records. Assumes nothing.
-use mathlib.Core.Path.{◌≡◌, refl, ap, ◌∙◌}
+use mathlib.Core.Path.{◌≡◌, refl, sym, ap, ◌∙◌}
 use mathlib.Core.List.{List, [], ◌∷◌, flatten}
 use Prim.Native.Nat.{ℕ, zero, suc, ◌+◌, ◌*◌, ◌/◌, ◌≤◌, ◌<◌}
 use native.Mathlib.Nat.{add-zero}
 use native.Mathlib.Omega.{arith}
-use lib.ListN.{length, take, drop, length-append, length-drop}
+use lib.ListN.{length, take, drop, get_or, length-append, length-drop}
 use lib.Seq.{length-take-le, take_at, drop_at, drop-drop, take-take}
 use Rattle.integers.specs.Lists.{All, none, also}
+use Rattle.fields.specs.Fields.{from_big_endian}
+use Rattle.fields.proofs.BigEndian.{pair_at}
 use Rattle.points.specs.Points.{unsigned_at, signed_at, record_at}
 use Rattle.frames.specs.Walk.{from}
-use Rattle.frames.specs.Frames.{first_records, records_of}
+use Rattle.frames.specs.Frames.{first_records, records_of, frame_of}
 
 -- a record has 12 bytes
 abbrev pub Long : List ℕ → Type 0
@@ -72,3 +74,11 @@ unfolding signed_at
 record_point s o =
     let f : (k : ℕ) → k + 2 ≤ 12 → unsigned_at (take 12 (drop o s)) k ≡ unsigned_at s (o + k) = record_field s o in
     rw (f 0 (omega arith), f 2 (omega arith), f 4 (omega arith), f 6 (omega arith), f 8 (omega arith), f 10 (omega arith), add-zero)
+
+-- the two bytes of a record's last field
+pub frame_read : (s : List ℕ) (i : ℕ) → i + 12 ≤ length s
+    → from_big_endian (get_or s (i + 10) 0 ∷ get_or s (i + 11) 0 ∷ []) ≡ frame_of (take 12 (drop i s))
+unfolding frame_of unsigned_at
+frame_read s i h =
+    let e : i + 10 + 1 ≡ i + 11 = omega arith in
+    rw e at (pair_at s (i + 10) (omega arith)) ∙ sym (record_field s i 10 (omega arith))

@@ -11,7 +11,7 @@ use lib.Seq.{take_at, drop_at, drop-drop}
 use Rattle.integers.proofs.Lists.{all_head}
 use Rattle.integers.proofs.Tests.{le_or_lt}
 use Rattle.frames.specs.Walk.{from, stride}
-use Rattle.frames.specs.Frames.{clashes, union, merged}
+use Rattle.frames.specs.Frames.{records_of, clashes, union, merged}
 use Rattle.frames.proofs.Records.{records_long, records_next, records_end}
 use Rattle.frames.proofs.Rising.{Rises}
 use Rattle.frames.proofs.Union.{union_all}
@@ -175,3 +175,11 @@ module _ (one two : List ℕ) (whole-one : length one % 12 ≡ 0) (whole-two : l
       pub step : (f s : ℕ) → f ≡ stride (from one i) (from two j) → s ≡ stride (from two j) (from one i) → Step one two i j n f s
       unfolding A B
       step f s e k = rw (e, k) strode
+
+-- the walk that counts: the clashes of both stores are those of what is left
+pub record Counting (first second : List ℕ) (i j n : ℕ) : Type 0 where
+  pub walked : Walked first second i j n
+  pub few : n ≤ i + j
+  pub first_rises : Rises (from first i)
+  pub second_rises : Rises (from second j)
+  pub clashes_left : clashes (records_of first) (records_of second) ≡ clashes (from first i) (from second j)

@@ -7,7 +7,8 @@ ghost use Rattle.frames.specs.Inside.{Sound};
 use crate::stride;
 use codes::Refusal;
 
-// Check 16, and how many bytes the union has. Both stores go on at once only past records of one frame.
+// Check 16, and how many bytes the union has. Both stores go on at once only past records of one frame. The walk steps in two stores, by
+// 0 or 12 bytes in each, so no `for` over one of them is plainer.
 pub fn count(first: &[u8], second: &[u8]) -> Result<u64, Refusal>
     requires { Sound first.now × Sound second.now }
     ensures { result
@@ -21,10 +22,8 @@ pub fn count(first: &[u8], second: &[u8]) -> Result<u64, Refusal>
     while i + j < both {
         let f = stride(first, i, second, j);
         let s = stride(second, j, first, i);
-        if f == s {
-            if !check::same(&first[i..i + f], &second[j..j + s]) {
-                return Err(Refusal::Clash);
-            }
+        if f == s && first[i..i + f] != second[j..j + s] {
+            return Err(Refusal::Clash);
         }
         i += f;
         j += s;

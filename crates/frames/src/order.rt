@@ -3,6 +3,7 @@ ghost use Rattle.std.specs.Prelude.{◌≡◌, ◌+◌, ◌%◌, ◌≤◌, leng
 ghost use Rattle.frames.specs.Frames.{frame_of, frames_of, rising};
 
 // The frame number of the record at byte i.
+#[tactic(auto, using(crate::proofs::Records::frame_read))]
 pub fn frame(store: &[u8], i: usize) -> u16
     requires { i + 12 ≤ length store.now }
     ensures { result ≡ frame_of (take 12 (drop i store.now)) }
@@ -15,14 +16,12 @@ pub fn rising(store: &[u8]) -> bool
     requires { length store.now % 12 ≡ 0 }
     ensures { result ≡ rising (frames_of store.now) }
 {
-    let mut i = 0;
-    while i + 12 < store.len() {
-        let here = frame(store, i);
-        let next = frame(store, i + 12);
+    for k in 1..store.len() / 12 {
+        let here = frame(store, 12 * k - 12);
+        let next = frame(store, 12 * k);
         if next <= here {
             return false;
         }
-        i += 12;
     }
     true
 }

@@ -12,7 +12,9 @@ use Rattle.fields.specs.Buffers.{check_room}
 use Rattle.points.specs.declared.Point.{Point}
 use Rattle.points.specs.Points.{record_at, point_at, first_points, points_of, check_store}
 use Rattle.frames.specs.Frames.{first_records, records_of, rising, clashes, union, merged}
-use Rattle.frames.specs.Frames.{check_either, check_order, check_clash, check_union, check_both}
+use Rattle.frames.specs.Frames.{check_either, check_order, check_clash, check_union, check_both, union_answer}
+use Rattle.std.specs.Prelude.{Ok}
+use Rattle.frames.proofs.Checks.{told_value}
 use Rattle.frames.proofs.Passed.{both_rise, no_clashes, few}
 use Rattle.frames.proofs.Records.{records_flatten, record_point}
 use Rattle.frames.proofs.Rising.{rises, rises_true}
@@ -20,6 +22,12 @@ use Rattle.frames.proofs.Union.{union_long, merged_length}
 use Rattle.merge.specs.Laws.{Merged, AllMerged, EmptyMerged, RecordPoints}
 use Rattle.merge.specs.Merge.{check_merge, merge_answer, output_after}
 use Rattle.merge.proofs.Union.{union_rises, union_found, agree, union_first, union_second}
+
+-- both stores passed, and the bytes are those of the union
+pub counted : (first second : List ℕ) (bytes : ℕ) → union_answer first second ≡ Ok bytes
+    → (check_both first second ≡ pass) × (bytes ≡ length (merged first second))
+unfolding union_answer
+counted first second bytes e = told_value (check_both first second) (length (merged first second)) bytes e
 
 module _ (first second : List ℕ) (e : check_both first second ≡ pass) where
   its_records : records_of (merged first second) ≡ union (records_of first) (records_of second)
