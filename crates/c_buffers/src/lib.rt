@@ -33,7 +33,7 @@ pub fn patterns_of(bits: &[u32]) -> [u32; 4]
 }
 
 // Fills a buffer of just as many elements.
-fn fill<T: Copy>(out: &mut [T], from: &[T])
+pub fn fill<T: Copy>(out: &mut [T], from: &[T])
     ensures { out.new ≡ filled out.old from.now }
 {
     if out.len() == from.len() {

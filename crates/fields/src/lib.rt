@@ -111,7 +111,7 @@ pub fn put_number(bytes: &mut [u8], at: usize, k: usize, x: u64)
 pub fn put_vector(bytes: &mut [u8], at: usize, v: [i16; 8])
     ensures { bytes.new ≡ with_field (vector_bytes v) at bytes.old }
 {
-    if let Some(_) = behind(bytes.len(), at, 16) {
+    if behind(bytes.len(), at, 16).is_some() {
         for (k, w) in v.iter().enumerate() {
             put_number(bytes, at + 2 * k, 2, u64::from(w.cast_unsigned()));
         }

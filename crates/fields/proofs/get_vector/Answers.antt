@@ -5,6 +5,7 @@ use Rattle.std.proofs.lemmas.Grind.{common_steps}
 use Rattle.std.proofs.lemmas.List.{length-set, same_lists}
 use mir.Facts.{to_z-of_z}
 use mir.Syntax.{w16}
+use mir.Val.{of_z, to_z}
 use Rattle.fields.specs.Fields.{vector_at, vector_of}
 use Rattle.fields.proofs.Parts.{part_size}
 use Rattle.fields.proofs.Vectors.{coordinate_at, vector_inside, vector_eight}
@@ -27,7 +28,7 @@ loop-k-preserved c =
     let size : c.in-Some.end - at ≡ 16 = omega (arith, c.in-Some.ensures.1) in
     let part = take (c.in-Some.end - at) (drop at bytes) in
     let long : length part ≡ 16 = ap (λ (k : ℕ). length (take k (drop at bytes))) size ∙ part_size bytes at 16 c.in-Some.ensures.0 in
-    let read = to_z-of_z {w = w16} (record { sfits = c.signed16.type_inv }) in
+    let read : to_z w16 (of_z w16 c.signed16.result) ≡ c.signed16.result = to_z-of_z {w = w16} (record { sfits = c.signed16.type_inv }) in
     let here = sym (coordinate_at part c.loop-k.k (omega arith)) in (
       omega (arith, length-set {A = ℤ}),
       λ j small. one_more c.loop-k.w-items (vector_of part) c.loop-k.k j _ (omega arith) (read ∙ c.signed16.ensures ∙ here) h.1 small,

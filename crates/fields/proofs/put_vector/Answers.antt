@@ -43,14 +43,14 @@ coordinate-stored v p t b n k inside s =
 pub loop-k-init : goal.loop-k-init
 unfolding vector_bytes
 loop-k-init c =
-    let place = c.in-Some.ensures.0 in
+    let place : c.args.at + 16 ≤ length c.args.bytes.now = search rules in
     begun c.args.bytes.now c.args.at (omega arith)
 
 pub loop-k-preserved : goal.loop-k-preserved
 loop-k-preserved c =
     let k = c.loop-k.k in
     let a = c.args in
-    let place = c.in-Some.ensures.0 in
+    let place : c.args.at + 16 ≤ length c.args.bytes.now = search rules in
     let bits : c.cast_unsigned.result ≡ of_z w16 (get_or a.v k (pos 0)) = search rules in
     let x : c.from.result ≡ of_z w16 (get_or a.v k (pos 0)) = c.from.ensures ∙ bits in
     let stored = number_then c.loop-k.invariant 2 (of_z w16 (get_or a.v k (pos 0))) (omega arith) (rw x at c.put_number.ensures) in
@@ -61,7 +61,7 @@ unfolding with_field
 returns-after-loop-k c =
     let a = c.args in
     let t = a.bytes.now in
-    let place = c.in-Some.ensures.0 in
+    let place : c.args.at + 16 ≤ length c.args.bytes.now = search rules in
     let full : c.loop-k.k ≡ 8 = omega arith in
     let eight : length a.v ≡ 8 = search rules in
     let placed = rw (full, take_all 8 a.v (omega arith)) at c.loop-k.invariant.is in
