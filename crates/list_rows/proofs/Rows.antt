@@ -7,8 +7,9 @@ use Prim.Native.Nat.{ℕ, zero, suc, ◌+◌, ◌*◌, ◌-◌, ◌≤◌, ◌<�
 use native.Mathlib.Numerals.{add-one}
 use native.Mathlib.Omega.{arith}
 use lib.IntN.{ℤ}
+use borrow.Rule.Slice.PartMut.{put_mid}
 use lib.ListN.{length, get_or, take, drop, length-append, length-drop, take-append-drop, get_or-append}
-use lib.Seq.{take_all, take_at, take-add, take-append-le, drop-append-le, drop_at, drop-drop, length-take-le, get_or_at}
+use lib.Seq.{take_all, take_at, take-add, take-append-le, drop-append-le, paste, drop_at, drop-drop, length-take-le, get_or_at}
 use Rattle.integers.proofs.Tests.{le_or_lt}
 use Rattle.boxes.specs.declared.Box.{Box}
 use Rattle.boxes.specs.Split.{zero_box}
@@ -55,17 +56,18 @@ rest_later t u j k h e =
     rw (← d, ← drop-drop (k - j) j u, ← drop-drop (k - j) j t, e)
 
 -- a row's own part of the table that is lent and comes back as a box
-pub row_written : (t : List ℤ) (i : ℕ) (b : Box) → i < row_count t →
-    take (16 * i) t ++ ((b.low ++ b.high) ++ drop (16 * i + 16 - 16 * i) (drop (16 * i) t)) ≡ with_row t i b
+pub row_written :
+    (t : List ℤ) (i : ℕ) (b : Box) (row : List ℤ) → i < row_count t → row ≡ b.low ++ b.high →
+    put_mid (16 * i) (16 * i + 16 - 16 * i) t row ≡ with_row t i b
 unfolding with_row
-row_written t i b there =
+row_written t i b row there is =
     let sixteen_numbers : 16 * i + 16 - 16 * i ≡ 16 = omega arith in
-    rw (lt-ltb i (row_count t) there, sixteen_numbers, drop-drop 16 (16 * i) t)
+    rw (is, lt-ltb i (row_count t) there, sixteen_numbers, drop-drop 16 (16 * i) t)
     (sym (append_assoc (take (16 * i) t) (b.low ++ b.high) (drop (16 * i + 16) t)))
 
 -- The table with the box b in row i.
 module _ (t : List ℤ) (i : ℕ) (b : Box) where
-  with_missing : row_count t ≤ i → with_row t i b ≡ t
+  pub with_missing : row_count t ≤ i → with_row t i b ≡ t
   unfolding with_row
   with_missing h = rw (le-ltb _ _ h)
 
@@ -232,6 +234,10 @@ module _ (t : List ℤ) (i n : ℕ) (one : i < n) (there : n ≤ row_count t) wh
   without_there =
       rw (lt-ltb i n one, le-leb n (row_count t) there)
       (ap (λ (k : ℕ). take (16 * i) t ++ take moved (drop (16 * i + 16) t) ++ drop k t) ends)
+
+  -- the rows behind it that are copied to one row earlier
+  pub row_taken : paste t (16 * i) (drop (16 * i + 16) t) (16 * n - (16 * i + 16)) ≡ without_row t i n
+  row_taken = let rows : 16 * n - (16 * i + 16) ≡ moved = omega arith in rw rows without_there
 
   pub without_long : length (without_row t i n) ≡ length t
   without_long = rw (← without_there) (down_long t (16 * i) 16 moved room)

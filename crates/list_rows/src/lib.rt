@@ -1,8 +1,7 @@
 // The rows of a search's table, a lent slice of signed 16-bit numbers: each box is its own 16-number part, low then high.
 #![tactic(auto)]
 
-ghost use Rattle.std.specs.Prelude.{◌≡◌, ◌++◌, ◌+◌, ◌-◌, ◌≤◌, ◌<◌, length, take, drop};
-ghost use Rattle.std.proofs.Math.Seq.{paste};
+ghost use Rattle.std.specs.Prelude.{◌≡◌, ◌++◌, ◌+◌, ◌≤◌, ◌<◌, length, take, drop};
 ghost use Rattle.list_rows.specs.Rows.{row_count, row_at, with_row, with_moved, without_row};
 
 use boxes::Box;
@@ -12,16 +11,13 @@ fn vector_at(table: &[i16], at: usize) -> [i16; 8]
     requires { at + 8 ≤ length table.now }
     ensures { result ≡ take 8 (drop at table.now) }
 {
-    let mut v = [0i16; 8];
-    let mut k = 0;
-    while k < 8 {
-        v[k] = table[at + k];
-        k += 1;
-    }
+    let mut v = [0; 8];
+    v.copy_from_slice(&table[at..at + 8]);
     v
 }
 
 // The box in row i, which the table has.
+#[tactic(auto, unfolding(crate::specs::Rows::row_at))]
 fn box_at(table: &[i16], i: usize) -> Box
     requires { i < row_count table.now }
     ensures { result ≡ row_at table.now i }
@@ -33,13 +29,14 @@ fn box_at(table: &[i16], i: usize) -> Box
 }
 
 // The box in row i; where the table has no such row, all zeros.
+#[tactic(auto, unfolding(crate::specs::Rows::row_at))]
 pub fn read_row(table: &[i16], i: usize) -> Box
     ensures { result ≡ row_at table.now i }
 {
     if i < table.len() / 16 {
         box_at(table, i)
     } else {
-        let zero = [0i16; 8];
+        let zero = [0; 8];
         Box {
             low: zero,
             high: zero,
@@ -48,21 +45,17 @@ pub fn read_row(table: &[i16], i: usize) -> Box
 }
 
 // Fills a row that is lent: eight numbers of the low vector, and eight of the high one behind them.
+#[tactic(auto, using(crate::proofs::Parts::row_laid))]
 fn put_box(row: &mut [i16], b: Box)
     requires { length row.old ≡ 16 }
     ensures { row.new ≡ b.low ++ b.high }
 {
-    let low = b.low;
-    let high = b.high;
-    let mut k = 0;
-    while k < 8 {
-        row[k] = low[k];
-        row[k + 8] = high[k];
-        k += 1;
-    }
+    row[..8].copy_from_slice(&b.low);
+    row[8..].copy_from_slice(&b.high);
 }
 
 // Writes a box as row i; where the table has no such row, nothing changes.
+#[tactic(auto, using(crate::proofs::Rows::row_written), unfolding(crate::specs::Rows::with_row))]
 pub fn write_row(table: &mut [i16], i: usize, b: Box)
     ensures { table.new ≡ with_row table.old i b }
 {
@@ -72,38 +65,24 @@ pub fn write_row(table: &mut [i16], i: usize, b: Box)
 }
 
 // Writes the box in row i as the earlier row `to` too. Where the table has no row i, or `to` is not before it, nothing changes.
+#[tactic(auto, unfolding(crate::specs::Rows::with_moved))]
 pub fn move_row(table: &mut [i16], i: usize, to: usize)
     ensures { table.new ≡ with_moved table.old i to }
 {
-    if to < i {
-        if i < table.len() / 16 {
-            let b = box_at(table, i);
-            put_box(&mut table[16 * to..16 * to + 16], b);
-        }
-    }
-}
-
-// Moves the numbers of rows that are lent by one row: those of the first go, and those of the last stay where they were too.
-fn slide(part: &mut [i16])
-    requires { 16 ≤ length part.old }
-    ensures { part.new ≡ paste part.old 0 (drop 16 part.old) (length part.old - 16) }
-{
-    let end = part.len() - 16;
-    let mut k = 0;
-    while k < end {
-        part[k] = part[k + 16];
-        k += 1;
+    if to < i && i < table.len() / 16 {
+        let b = box_at(table, i);
+        write_row(table, to, b);
     }
 }
 
 // Takes row i out of the first n: those behind it move by one row, and the last of them stays where it was too. Where the table has no n
 // rows, or i is none of them, nothing changes.
+#[tactic(auto, using(crate::proofs::Rows::row_taken), unfolding(crate::specs::Rows::without_row))]
 pub fn take_row(table: &mut [i16], i: usize, n: usize)
     ensures { table.new ≡ without_row table.old i n }
 {
-    if i < n {
-        if n <= table.len() / 16 {
-            slide(&mut table[16 * i..16 * n]);
-        }
+    if i < n && n <= table.len() / 16 {
+        let next = 16 * i + 16;
+        table.copy_within(next..16 * n, 16 * i);
     }
 }
