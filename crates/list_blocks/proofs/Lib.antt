@@ -1,3 +1,3 @@
 pub mod Places
 pub mod Found
-pub mod Blocks
+pub mod Smallest

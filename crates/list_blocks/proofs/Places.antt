@@ -1,17 +1,19 @@
 -- The places of a block, the block of a place, and what the first smallest of a block says of the list. Assumes nothing.
-use mathlib.Core.Path.{◌≡◌, refl, ap, ◌∙◌}
+use mathlib.Core.Path.{◌≡◌, refl, sym, ap, ◌∙◌}
 use mathlib.Core.List.{List}
 use mathlib.Core.Logic.{◌≢◌, ◌⊎◌, ⊎_elim, inl, inr}
 use Prim.Native.Nat.{ℕ, suc, ◌+◌, ◌-◌, ◌*◌, ◌/◌, ◌≤◌, ◌<◌, min}
 use native.Mathlib.Nat.{suc-mul, mul-le-mul_right, div-mul-le_self, lt-div-mul-add, div-lt_iff_lt-mul}
 use native.Mathlib.Numerals.{add-one}
 use native.Mathlib.Omega.{arith}
-use lib.ListN.{length, take, drop, set, length-drop}
-use lib.Seq.{length-take-le, get_or-take, get_or-drop, drop-set-lt, take-set-le, drop-set-add}
+use lib.ListN.{length, take, drop, set, length-drop, length-set}
+use lib.Seq.{set_out, length-take-le, get_or-take, get_or-drop, drop-set-lt, take-set-le, drop-set-add}
 use Rattle.integers.proofs.Tests.{le_or_lt}
 use Rattle.list_first_smallest.specs.declared.Lowest.{Lowest}
 use Rattle.list_first_smallest.specs.FirstSmallest.{entry_at, FirstLeast, LowestOf}
-use Rattle.list_blocks.specs.Blocks.{width_of, block_start, block_of, gone, InBlock}
+use Rattle.list_blocks.specs.declared.Blocks.{Blocks}
+use Rattle.list_blocks.specs.declared.Spot.{Spot}
+use Rattle.list_blocks.specs.Blocks.{width_of, block_start, block_of, gone, InBlock, TakenAway}
 
 -- where a block ends
 pub block_end : (n j : ℕ) → block_start n (suc j) ≡ min (j * width_of n + width_of n) n
@@ -143,4 +145,18 @@ empty_block d n j there late =
     record {
       from = omega arith;
       within = rw here (record { empty = λ e. refl; place = λ h. absurd (omega arith); lowest = λ h. absurd (omega arith) });
+    }
+
+-- so where a block is not there, nothing changes but the number
+pub none_mended :
+    (d : List ℕ) (n : ℕ) (b : Blocks) (spot : Spot) (e : List ℕ) → n ≤ length d → e ≡ set d spot.at gone → 64 ≤ spot.block →
+    length b.leasts ≡ 64 → length b.places ≡ 64 → TakenAway d n b spot e b
+none_mended d n b spot e there taken late long long_places =
+    record {
+      entries = taken;
+      found = record { at = block_start n spot.block; bound = gone };
+      first = empty_block e n spot.block (omega (arith, ap length taken, length-set d spot.at gone)) late;
+      count = refl;
+      leasts = sym (set_out b.leasts spot.block gone (omega arith));
+      places = sym (set_out b.places spot.block (block_start n spot.block) (omega arith));
     }

@@ -3,6 +3,7 @@
 use Rattle.std.specs.Prelude.{◌≡◌, List, ℕ, suc, ◌+◌, ◌-◌, ◌*◌, ◌/◌, ◌≤◌, ◌<◌, min, length, set, take, drop}
 use Rattle.list_first_smallest.specs.declared.Lowest.{Lowest}
 use Rattle.list_first_smallest.specs.FirstSmallest.{entry_at, LowestOf}
+use Rattle.list_blocks.specs.declared.Blocks.{Blocks}
 use Rattle.list_blocks.specs.declared.Spot.{Spot}
 
 -- what stands in the place of a number that was taken out, the largest of 64 bits
@@ -25,30 +26,31 @@ pub record InBlock (d : List ℕ) (n j at x : ℕ) : Type 0 where
   pub from : block_start n j ≤ at
   pub within : LowestOf (block_of d n j) (length (block_of d n j)) gone (record { at = at - block_start n j; bound = x })
 
--- the first n numbers are `count` blocks, and l and p hold the first smallest number of each and its place
-pub record Blocked (d : List ℕ) (n count : ℕ) (l p : List ℕ) : Type 0 where
-  pub few : count ≤ 64
-  pub all : n ≤ count * width_of n
-  pub some : (j : ℕ) → j < count → j * width_of n < n
-  pub long : length l ≡ 64
-  pub long_places : length p ≡ 64
-  pub firsts : (j : ℕ) → j < count → InBlock d n j (entry_at p j) (entry_at l j)
+-- the first n numbers are the blocks of b, which holds the first smallest number of each and its place
+pub record Blocked (d : List ℕ) (n : ℕ) (b : Blocks) : Type 0 where
+  pub few : b.count ≤ 64
+  pub all : n ≤ b.count * width_of n
+  pub some : (j : ℕ) → j < b.count → j * width_of n < n
+  pub long : length b.leasts ≡ 64
+  pub long_places : length b.places ≡ 64
+  pub firsts : (j : ℕ) → j < b.count → InBlock d n j (entry_at b.places j) (entry_at b.leasts j)
 
--- l and p are those, and were l₀ and p₀; behind the blocks they are as they were
-pub record LeastsFound (d : List ℕ) (n : ℕ) (l₀ p₀ : List ℕ) (count : ℕ) (l p : List ℕ) : Type 0 where
-  pub blocked : Blocked d n count l p
-  pub rest : drop count l ≡ drop count l₀
-  pub rest_places : drop count p ≡ drop count p₀
+-- b is those, and was b₀; behind the blocks it is as it was
+pub record LeastsFound (d : List ℕ) (n : ℕ) (b₀ b : Blocks) : Type 0 where
+  pub blocked : Blocked d n b
+  pub rest : drop b.count b.leasts ≡ drop b.count b₀.leasts
+  pub rest_places : drop b.count b.places ≡ drop b.count b₀.places
 
--- r is the first smallest of the first `count` numbers of l, with the place that p has beside it
-pub record SpotOf (l p : List ℕ) (count : ℕ) (r : Spot) : Type 0 where
-  pub least : LowestOf l count gone (record { at = r.block; bound = r.bound })
-  pub place : r.at ≡ entry_at p r.block
+-- r is the first smallest of the leasts of the blocks of b, with the place that b has beside it
+pub record SpotOf (b : Blocks) (r : Spot) : Type 0 where
+  pub least : LowestOf b.leasts (min b.count 64) gone (record { at = r.block; bound = r.bound })
+  pub place : r.at ≡ entry_at b.places r.block
 
--- A number is taken out of d, and the first smallest of its block is found again: e, l and p were d, l₀ and p₀.
-pub record TakenAway (d : List ℕ) (n : ℕ) (l₀ p₀ : List ℕ) (spot : Spot) (e l p : List ℕ) : Type 0 where
+-- A number is taken out of d, and the first smallest of its block is found again: e and b were d and b₀.
+pub record TakenAway (d : List ℕ) (n : ℕ) (b₀ : Blocks) (spot : Spot) (e : List ℕ) (b : Blocks) : Type 0 where
   pub entries : e ≡ set d spot.at gone
   pub found : Lowest
   pub first : InBlock e n spot.block found.at found.bound
-  pub leasts : l ≡ set l₀ spot.block found.bound
-  pub places : p ≡ set p₀ spot.block found.at
+  pub count : b.count ≡ b₀.count
+  pub leasts : b.leasts ≡ set b₀.leasts spot.block found.bound
+  pub places : b.places ≡ set b₀.places spot.block found.at
