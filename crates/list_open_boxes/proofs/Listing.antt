@@ -3,25 +3,29 @@ use mathlib.Core.Path.{◌≡◌, refl, sym, ap, ◌∙◌}
 use mathlib.Core.Bool.{Bool, true, false, cond, ◌&&◌}
 use mathlib.Core.List.{List, [], ◌∷◌, ◌++◌, append-nil}
 use mathlib.Core.Logic.{⊎_elim}
-use Prim.Native.Nat.{ℕ, zero, suc, ◌+◌, ◌-◌, ◌*◌, ◌≤◌, ◌<◌, max}
+use Prim.Native.Nat.{ℕ, zero, suc, ◌+◌, ◌-◌, ◌*◌, ◌≤◌, ◌<◌, min, max}
 use native.Mathlib.Nat.{le_refl}
 use native.Mathlib.Numerals.{add-one}
 use native.Mathlib.Omega.{arith}
 use lib.Dec.{ltb}
 use lib.IntN.{ℤ}
 use lib.ListN.{length, set, take, drop, length-append, length-set, length-take}
-use lib.Seq.{length-take-le, take-suc, take-suc-set, drop-set-lt, get_or-drop, get_or-take}
+use lib.Seq.{paste, take_all, length-take-le, take-suc, take-suc-set, drop-set-lt, get_or-drop, get_or-take}
 use borrow.Author.Tests.{lt-ltb, le-ltb}
 use Rattle.integers.proofs.Tests.{le_or_lt}
 use Rattle.boxes.specs.declared.Box.{Box}
 use Rattle.list_rows.specs.Rows.{row_count, row_at, rows_of, with_row, without_row}
-use Rattle.list_rows.proofs.Rows.{Whole, rest_later, rows_length, row_whole, row_of_rest, length_with, rest_with, rows_with}
+use Rattle.list_rows.proofs.Rows.{Whole, row_own, rest_later, rows_length, row_whole, row_of_rest, length_with, rest_with, rows_with}
 use Rattle.list_rows.proofs.Rows.{without_long, without_rest, without_before, without_behind}
 use Rattle.list_rows.proofs.Parts.{down, down_long, down_rest, down_before, down_moved}
 use Rattle.incumbent.specs.declared.Child.{Child}
 use Rattle.list_open_boxes.specs.OpenBoxes.{fits, if_kept, others_than, picked, room_in, Held}
 use Rattle.list_first_smallest.specs.FirstSmallest.{entry_at}
-use Rattle.list_open_boxes.proofs.Picking.{one_at_most, picked_all, picked_more, picked_moved, taken_one}
+use Rattle.list_open_boxes.proofs.Picking.{other, one_at_most, picked_all, picked_more, picked_moved, taken_one}
+
+-- a box that moves to its own row
+pub row_stays : (t : List ℤ) (i to : ℕ) → to ≤ i → i ≤ to → i < row_count t → t ≡ with_row t to (row_at t i)
+row_stays t i to few least there = let same : to ≡ i = omega arith in rw same (sym (row_own t i there))
 
 -- all rows, and all entries, up to a place
 pub all_rows : (t : List ℤ) (n : ℕ) → picked (row_at t) (λ k. true) n ≡ rows_of t n
@@ -63,9 +67,20 @@ module _ (t : List ℤ) (d : List ℕ) where
   all_held q n few all =
       rw (picked_all (row_at t) q n all, picked_all (entry_at d) q n all, all_rows t n, all_entries d n few) (own_held n few)
 
-  pub none_held : Held t d 0 [] [] 0 t d
-  unfolding rows_of
-  none_held = own_held 0 (omega arith)
+  -- where none was passed
+  pub none_held : (q : ℕ → Bool) → Held t d 0 (picked (row_at t) q 0) (picked (entry_at d) q 0) 0 t d
+  unfolding rows_of picked
+  none_held q = own_held 0 (omega arith)
+
+  -- as it was, before the first of others is written behind the first n
+  pub first_held :
+      (n : ℕ) → n ≤ room_in t d → (f : ℕ → Box) (g : ℕ → ℕ) (q : ℕ → Bool) →
+      Held t d n (take (room_in t d) (rows_of t n ++ picked f q 0)) (take (room_in t d) (take n d ++ picked g q 0)) n t d
+  unfolding picked
+  first_held n few f g q =
+      let all = take_all (room_in t d) (rows_of t n) (omega (arith, rows_length t n)) in
+      let all_entries = take_all (room_in t d) (take n d) (omega (arith, length-take n d)) in
+      rw (append-nil (rows_of t n), append-nil (take n d), all, all_entries) (own_held n (omega arith))
 
   -- what is written behind the first n of what was written before, as much as there is room for
   pub behind_held :
@@ -223,3 +238,20 @@ module _ (t : List ℤ) (d : List ℕ) where
           rest = without_rest t at n one rows;
           rest_entries = rest_later d e (at + (n - 1 - at)) n (omega arith) (down_rest d at 1 (n - 1 - at) (omega arith));
         }
+
+  -- of the first n, as many as there is room for: a row that is none of them
+  module _ (at n m : ℕ) (meant : m ≡ min n (room_in t d)) where
+    abbrev few : ℕ
+    few = min n (room_in t d)
+
+    pub others_held : m ≤ at → Held t d few (picked (row_at t) (others_than at) few) (picked (entry_at d) (others_than at) few) m t d
+    others_held past =
+        rw (← meant) (all_held (others_than at) m (omega arith) (λ k h. other at k (λ e. absurd (omega arith))))
+
+    -- and one that is, once the rows and the entries behind it are copied to the place before
+    pub one_out :
+        (u : List ℤ) (e : List ℕ) → at < m → u ≡ without_row t at m → e ≡ paste d at (drop (at + 1) d) (m - (at + 1)) →
+        Held t d few (picked (row_at t) (others_than at) few) (picked (entry_at d) (others_than at) few) (m - 1) u e
+    one_out u e one is_rows is_entries =
+        let moved : m - (at + 1) ≡ m - 1 - at = omega arith in
+        rw (← meant, is_rows, is_entries, moved) (taken_held at m one (omega arith) (omega arith))

@@ -49,6 +49,10 @@ pub picked_more : {A : Type 0} (f : ℕ → A) (q : ℕ → Bool) (n : ℕ) → 
 unfolding picked
 picked_more f q n = rw add-one
 
+pub number_none : (q : ℕ → Bool) → number q 0 ≡ 0
+unfolding number
+number_none q = refl
+
 pub number_more : (q : ℕ → Bool) (n : ℕ) → number q (n + 1) ≡ number q n + cond (q n) 1 0
 unfolding number
 number_more q n = rw add-one

@@ -1,17 +1,30 @@
 // The list of open boxes in lent memory: the boxes are the first rows of the table, and their bounds the first entries of a list beside it.
 #![tactic(auto)]
 
-ghost use Rattle.std.specs.Prelude.{◌≡◌, cond, ◌++◌, ◌+◌, ◌-◌, ◌≤◌, ◌<◌, min, length, get_or, set, take, drop};
-ghost use Rattle.std.proofs.Math.Seq.{paste};
+ghost use Rattle.std.specs.Prelude.{◌≡◌, cond, ◌++◌, ◌+◌, ◌≤◌, ◌<◌, min, length, get_or, set, take};
 ghost use Rattle.certificate.specs.Search.{ahead};
 ghost use Rattle.list_first_smallest.specs.FirstSmallest.{entry_at};
 ghost use Rattle.list_rows.specs.Rows.{row_count, row_at, rows_of, with_row};
 ghost use Rattle.list_open_boxes.specs.OpenBoxes.{Held, Settled, fits, kept_at, number, others_than, picked, room_in};
 
 use incumbent::{Child, Mark, ahead};
-use numbers::smaller;
+
+// How many boxes a table and the bounds beside it have room for.
+fn room(table: &[i16], bounds: &[u64]) -> usize
+    ensures { result ≡ room_in table.now bounds.now }
+{
+    (table.len() / 16).min(bounds.len())
+}
+
+// How many boxes are meant by the first n: as many as there is room for.
+fn listed(table: &[i16], bounds: &[u64], n: usize) -> usize
+    ensures { result ≡ min n (room_in table.now bounds.now) }
+{
+    n.min(room(table, bounds))
+}
 
 // Whether the box in row i, with this bound, is kept. Its low vector is read only where the bound does not decide.
+#[tactic(auto, unfolding(certificate::specs::Search::ahead))]
 fn keeps(table: &[i16], i: usize, bound: u64, mark: Mark) -> bool
     ensures { result ≡ ahead mark.t mark.cost mark.best bound (row_at table.now i).low }
 {
@@ -27,23 +40,23 @@ fn keeps(table: &[i16], i: usize, bound: u64, mark: Mark) -> bool
 }
 
 // How many of the first n boxes are kept.
+#[tactic(auto, using(crate::proofs::Picking::number_none, crate::proofs::Picking::number_more, crate::proofs::Picking::number_few))]
 pub fn keeping(table: &[i16], bounds: &[u64], n: usize, mark: Mark) -> usize
     ensures { result
         ≡ number (kept_at table.now bounds.now mark) (min n (room_in table.now bounds.now)) }
 {
-    let listed = smaller(n, smaller(table.len() / 16, bounds.len()));
+    let count = listed(table, bounds, n);
     let mut kept = 0;
-    let mut i = 0;
-    while i < listed {
+    for i in 0..count {
         if keeps(table, i, bounds[i], mark) {
             kept += 1;
         }
-        i += 1;
     }
     kept
 }
 
 // Moves a box and its bound from one row to another, no later one.
+#[tactic(auto, using(list_rows::proofs::Rows::moved_there, crate::proofs::Listing::row_stays))]
 fn move_box(table: &mut [i16], bounds: &mut [u64], i: usize, to: usize)
     requires { (to ≤ i) × (i < row_count table.old) × (i < length bounds.old) }
     ensures table { table.new ≡ with_row table.old to (row_at table.old i) }
@@ -64,46 +77,30 @@ fn sort_out(table: &mut [i16], bounds: &mut [u64], n: usize, mark: Mark) -> usiz
         result table.new bounds.new }
 {
     let mut stay = 0;
-    let mut i = 0;
-    while i < n {
+    for i in 0..n {
         if keeps(table, i, bounds[i], mark) {
             move_box(table, bounds, i, stay);
             stay += 1;
         }
-        i += 1;
     }
     stay
 }
 
-// Moves entries that are lent by one place: the first goes, and the last stays where it was too.
-fn slide_entries(part: &mut [u64])
-    requires { 1 ≤ length part.old }
-    ensures { part.new ≡ paste part.old 0 (drop 1 part.old) (length part.old - 1) }
-{
-    let end = part.len() - 1;
-    let mut k = 0;
-    while k < end {
-        part[k] = part[k + 1];
-        k += 1;
-    }
-}
-
 // Takes the box in row `at` out of the first n: those behind it move by one row, and nothing before it is read. Of n boxes as many are
 // meant as there is room for.
-#[tactic(auto, using(list_rows::proofs::Parts::lent_long))]
 pub fn take_out(table: &mut [i16], bounds: &mut [u64], n: usize, at: usize) -> usize
     ensures { Held table.old bounds.old (min n (room_in table.old bounds.old))
         (picked (row_at table.old) (others_than at) (min n (room_in table.old bounds.old)))
         (picked (entry_at bounds.old) (others_than at) (min n (room_in table.old bounds.old)))
         result table.new bounds.new }
 {
-    let listed = smaller(n, smaller(table.len() / 16, bounds.len()));
-    if listed <= at {
-        return listed;
+    let count = listed(table, bounds, n);
+    if count <= at {
+        return count;
     }
-    list_rows::take_row(table, at, listed);
-    slide_entries(&mut bounds[at..listed]);
-    listed - 1
+    list_rows::take_row(table, at, count);
+    bounds.copy_within(at + 1..count, at);
+    count - 1
 }
 
 // Writes a box that is kept and its bound behind the first n. Where there is no room, nothing changes.
@@ -116,16 +113,13 @@ pub fn put(table: &mut [i16], bounds: &mut [u64], n: usize, child: Child) -> usi
         ≡ cond (fits table.old bounds.old n child)
         (set bounds.old n child.bound) bounds.old }
 {
-    let room = smaller(table.len() / 16, bounds.len());
-    if child.kept {
-        if n < room {
-            let half = child.half;
-            list_rows::write_row(table, n, half);
-            bounds[n] = child.bound;
-            return n + 1;
-        }
+    if child.kept && n < room(table, bounds) {
+        list_rows::write_row(table, n, child.half);
+        bounds[n] = child.bound;
+        n + 1
+    } else {
+        n
     }
-    n
 }
 
 // Writes those of the first m late boxes that are kept behind the first n, as many as there is room for.
@@ -149,13 +143,11 @@ fn append(
         result table.new bounds.new }
 {
     let mut end = n;
-    let mut i = 0;
-    while i < m {
+    for i in 0..m {
         let half = list_rows::read_row(late, i);
         let bound = beside[i];
         let kept = keeps(late, i, bound, mark);
         end = put(table, bounds, end, Child { half, bound, kept });
-        i += 1;
     }
     end
 }
@@ -175,8 +167,8 @@ pub fn settle(
         late.now beside.now (min m (room_in late.now beside.now))
         mark result table.new bounds.new }
 {
-    let listed = smaller(n, smaller(table.len() / 16, bounds.len()));
-    let more = smaller(m, smaller(late.len() / 16, beside.len()));
-    let stay = sort_out(table, bounds, listed, mark);
+    let count = listed(table, bounds, n);
+    let more = listed(late, beside, m);
+    let stay = sort_out(table, bounds, count, mark);
     append(table, bounds, stay, late, beside, more, mark)
 }
