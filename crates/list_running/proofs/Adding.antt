@@ -19,6 +19,7 @@ use Rattle.list_first_smallest.specs.declared.Lowest.{Lowest}
 use Rattle.list_first_smallest.specs.FirstSmallest.{entry_at, FirstLeast, LowestOf}
 use Rattle.list_blocks.specs.Blocks.{gone}
 use Rattle.list_open_boxes.specs.OpenBoxes.{room_in}
+use Rattle.list_blocks.specs.declared.Blocks.{Blocks}
 use Rattle.list_running.specs.declared.Listing.{Listing}
 use Rattle.list_running.specs.Listing.{open_rows, nearer, with_late, Listed}
 
@@ -89,12 +90,12 @@ module _ (f : List ℕ) (m x : ℕ) (there : m < length f) where
           }
 
 module _
-    (bound : Box → ℕ) (t : List ℤ) (d l p : List ℕ) (v : List ℤ) (f : List ℕ) (g : Listing) (list : List Box)
-    (h : Listed bound t d l p v f g list) (b : Box) (x : ℕ) (w : Whole b) (room : g.late < room_in v f)
+    (bound : Box → ℕ) (t : List ℤ) (d : List ℕ) (l : Blocks) (v : List ℤ) (f : List ℕ) (g : Listing) (list : List Box)
+    (h : Listed bound t d l v f g list) (b : Box) (x : ℕ) (w : Whole b) (room : g.late < room_in v f)
   where
     pub added :
         (kept : Bool) → (kept ≡ true → x ≡ bound b) → (kept ≡ true → x < gone) →
-        Listed bound t d l p (cond kept (with_row v g.late b) v) (cond kept (set f g.late x) f) (cond kept (with_late g x) g)
+        Listed bound t d l (cond kept (with_row v g.late b) v) (cond kept (set f g.late x) f) (cond kept (with_late g x) g)
         (list ++ cond kept (b ∷ []) [])
     added false exact small = rw (append-nil list) h
     added true exact small =

@@ -26,21 +26,23 @@ use Rattle.list_open_boxes.proofs.Choosing.{chosen_lowest, chosen_first, chosen_
 use Rattle.certificate.specs.Search.{lower_bound, first_smallest, box_at, without}
 use Rattle.certificate.proofs.Lists.{all-at}
 use Rattle.list_running.specs.declared.Found.{Found}
+use Rattle.list_running.specs.declared.Found.TheVariants.{Row, Late}
+use Rattle.list_blocks.specs.declared.Blocks.{Blocks}
 use Rattle.list_running.specs.declared.Listing.{Listing}
-use Rattle.list_running.specs.Listing.{open_at, open_rows, box_in, left_of, FoundBy, Listed, Chosen}
-use Rattle.list_blocks.proofs.Blocks.{spot_none, spot_first}
+use Rattle.list_running.specs.Listing.{is_late, spot_in, open_at, open_rows, box_in, left_of, FoundBy, Listed, Chosen}
+use Rattle.list_blocks.proofs.Smallest.{spot_none, spot_first}
 use Rattle.list_running.proofs.Entries.{entry_is, one_answer, open_others}
 
 -- L, and the box that has it
 pub record Lowest-of
-    (bound : Box → ℕ) (t : List ℤ) (d l p : List ℕ) (v : List ℤ) (g : Listing) (list : List Box) (c : ℕ) (r : Found) : Type 0
+    (bound : Box → ℕ) (t : List ℤ) (d : List ℕ) (l : Blocks) (v : List ℤ) (g : Listing) (list : List Box) (c : ℕ) (r : Found) : Type 0
   where
-    pub lowest : r.spot.bound ≡ lower_bound bound c list
-    pub chosen : 1 ≤ length list → Chosen bound t d l p v g list r
+    pub lowest : (spot_in r).bound ≡ lower_bound bound c list
+    pub chosen : 1 ≤ length list → Chosen bound t d l v g list r
 
 module _
-    (bound : Box → ℕ) (t : List ℤ) (d l p : List ℕ) (v : List ℤ) (f : List ℕ) (g : Listing) (list : List Box)
-    (h : Listed bound t d l p v f g list)
+    (bound : Box → ℕ) (t : List ℤ) (d : List ℕ) (l : Blocks) (v : List ℤ) (f : List ℕ) (g : Listing) (list : List Box)
+    (h : Listed bound t d l v f g list)
   where
     abbrev rows : List Box
     rows = open_rows t d g.rows
@@ -49,21 +51,21 @@ module _
     late = rows_of v g.late
 
     abbrev near_found : Found
-    near_found = record { late = true; spot = record { at = g.near.at; block = 0; bound = g.near.bound } }
+    near_found = Late g.near
 
     abbrev far_found : Spot → Found
-    far_found far = record { late = false; spot = far }
+    far_found far = Row far
 
     -- a box between two parts of the list
     module _ (xs ys : List Box) (b : Box) (parts : list ≡ xs ++ (b ∷ ys))
         (before : All (λ x. bound b < bound x) xs) (behind : All (λ x. bound b ≤ bound x) ys)
-        (c : ℕ) (r : Found) (box-is : b ≡ box_in t v r) (left_is : xs ++ ys ≡ left_of t d v g r) (exact : r.spot.bound ≡ bound b)
-        (row : r.late ≡ false → r.spot.at < g.rows) (spot : r.late ≡ false → SpotOf l p g.blocks r.spot)
+        (c : ℕ) (r : Found) (box-is : b ≡ box_in t v r) (left_is : xs ++ ys ≡ left_of t d v g r) (exact : (spot_in r).bound ≡ bound b)
+        (row : is_late r ≡ false → (spot_in r).at < g.rows) (spot : is_late r ≡ false → SpotOf l (spot_in r))
       where
         place : first_smallest bound list ≡ length xs
         place = ap (first_smallest bound) parts ∙ chosen_first bound b ys behind xs before
 
-        between : Lowest-of bound t d l p v g list c r
+        between : Lowest-of bound t d l v g list c r
         between =
             record {
               lowest = exact ∙ sym (ap (lower_bound bound c) parts ∙ chosen_lowest bound b ys behind c xs before);
@@ -78,13 +80,13 @@ module _
                   };
             }
 
-    module _ (small : All (λ b. bound b < gone) list) (far : Spot) (far_is : SpotOf l p g.blocks far) where
+    module _ (small : All (λ b. bound b < gone) list) (far : Spot) (far_is : SpotOf l far) where
       -- no open row has a smaller bound than the far one, and no late box a smaller one than the near one
       rows_above : All (λ b. far.bound ≤ bound b) rows
       rows_above =
           all_picked (row_at t) (open_at d) g.rows
           (λ k less opens.
-          let first = spot_first d g.rows g.blocks l p far (omega (arith, h.room)) (omega arith) h.blocked far_is in
+          let first = spot_first d g.rows l far (omega (arith, h.room)) (omega arith) h.blocked far_is in
           omega (arith, h.bounds k less opens, first.1, first.0.none_smaller k less))
 
       late_entry : (k : ℕ) → k < g.late → entry_at f k ≡ bound (row_at v k)
@@ -140,7 +142,7 @@ module _
           late_behind : All (λ b. g.near.bound ≤ bound b) (near_box ∷ near_parted.rest)
           late_behind = (append-all late_before (rw late_parts at late_above)).1
 
-          found_late : Lowest-of bound t d l p v g list c near_found
+          found_late : Lowest-of bound t d l v g list c near_found
           found_late =
               between (rows ++ late_before) near_parted.rest near_box
               (sym h.is
@@ -170,11 +172,11 @@ module _
               (λ (one : 1 ≤ g.rows). one)
               (λ (empty : g.rows < 1).
               let zero : g.rows ≡ 0 = omega arith in
-              absurd (omega (arith, least_small some, spot_none d g.blocks l p far (rw zero at h.blocked) far_is)))
+              absurd (omega (arith, least_small some, spot_none d l far (rw zero at h.blocked) far_is)))
               (le_or_lt 1 g.rows)
 
           far_first : FirstLeast d g.rows far.at × (far.bound ≡ entry_at d far.at)
-          far_first = spot_first d g.rows g.blocks l p far (omega (arith, h.room)) some_row h.blocked far_is
+          far_first = spot_first d g.rows l far (omega (arith, h.room)) some_row h.blocked far_is
 
           far_inside : far.at < g.rows
           far_inside = far_first.0.inside
@@ -193,7 +195,7 @@ module _
           rows_behind : All (λ b. far.bound ≤ bound b) (far_box ∷ far_parted.rest)
           rows_behind = (append-all rows_before (rw far_parted.whole at rows_above)).1
 
-          found_row : Lowest-of bound t d l p v g list c (far_found far)
+          found_row : Lowest-of bound t d l v g list c (far_found far)
           found_row =
               between rows_before (far_parted.rest ++ late) far_box
               (sym h.is
@@ -209,28 +211,22 @@ module _
               (sym (append_assoc rows_before far_parted.rest late) ∙ ap (λ (x : List Box). x ++ late) (sym far_parted.left))
               far_own (λ e. far_inside) (λ e. far_is)
 
-    pub found : All (λ b. bound b < gone) list → (c : ℕ) (r : Found) → FoundBy l p g c r → Lowest-of bound t d l p v g list c r
+    pub found : All (λ b. bound b < gone) list → (c : ℕ) (r : Found) → FoundBy l g c r → Lowest-of bound t d l v g list c r
     unfolding lower_bound
     found small c r by = rw by.is (none_open (eqb g.number 0) refl)
       where
-        blocks : min g.blocks 64 ≡ g.blocks
-        blocks = omega (arith, h.blocked.few)
-
-        far_is : SpotOf l p g.blocks by.far
-        far_is = rw blocks at by.far_is
-
         nearer : 1 ≤ length list → (b : Bool) → ltb g.near.bound by.far.bound ≡ b →
-            Lowest-of bound t d l p v g list c (cond b near_found (far_found by.far))
-        nearer some true e = found_late small by.far far_is c some (ltb-true g.near.bound by.far.bound e)
-        nearer some false e = found_row small by.far far_is c some (ltb-false g.near.bound by.far.bound e)
+            Lowest-of bound t d l v g list c (cond b near_found (far_found by.far))
+        nearer some true e = found_late small by.far by.far_is c some (ltb-true g.near.bound by.far.bound e)
+        nearer some false e = found_row small by.far by.far_is c some (ltb-false g.near.bound by.far.bound e)
 
         empty : (xs : List Box) → length xs ≡ 0 → lower_bound bound c xs ≡ c
         empty [] e = refl
         empty (x ∷ xs) e = absurd (omega arith)
 
         none_open : (b : Bool) → eqb g.number 0 ≡ b →
-            Lowest-of bound t d l p v g list c
-            (cond b (record { late = false; spot = record { at = 0; block = 0; bound = c } })
+            Lowest-of bound t d l v g list c
+            (cond b (Row (record { at = 0; block = 0; bound = c }))
             (cond (ltb g.near.bound by.far.bound) near_found (far_found by.far)))
         none_open true e =
             let zero : length list ≡ 0 = sym h.number ∙ eqb-true g.number 0 e in

@@ -23,6 +23,7 @@ use Rattle.list_open_boxes.proofs.Listing.{all_rows}
 use Rattle.certificate.specs.Search.{ahead, keep_if, keeps}
 use Rattle.certificate.proofs.Ahead.{ahead_le}
 use Rattle.certificate.proofs.Lists.{all-at, append_kept, length_kept, passed_kept}
+use Rattle.list_blocks.specs.declared.Blocks.{Blocks}
 use Rattle.list_running.specs.declared.Listing.{Listing}
 use Rattle.list_running.specs.Listing.{open_at, open_rows, SettledBy, Listed}
 use Rattle.list_running.proofs.Entries.{entry_is}
@@ -49,8 +50,8 @@ pub record Together
     pub rest_entries : (k : ℕ) → n ≤ k → a.rows ≤ k → drop k e ≡ drop k d
 
 module _
-    (bound : Box → ℕ) (t : List ℤ) (d l p : List ℕ) (v : List ℤ) (f : List ℕ) (g : Listing) (list : List Box)
-    (h : Listed bound t d l p v f g list) (mark : Mark) (below : mark.cost < gone)
+    (bound : Box → ℕ) (t : List ℤ) (d : List ℕ) (l : Blocks) (v : List ℤ) (f : List ℕ) (g : Listing) (list : List Box)
+    (h : Listed bound t d l v f g list) (mark : Mark) (below : mark.cost < gone)
   where
     abbrev keep : Box → Bool
     keep = keeps bound mark.t mark.cost mark.best
@@ -97,7 +98,7 @@ module _
         (sym (map-append bound (picked (row_at t) (kept_at t d mark) g.rows) (picked (row_at v) (kept_at v f mark) g.late))
         ∙ ap (map bound) boxes_are)
 
-    module _ (room : length list ≤ room_in t d) (a : Listing) (u : List ℤ) (e m q : List ℕ) (by : SettledBy t d l p v f g mark a u e m q)
+    module _ (room : length list ≤ room_in t d) (a : Listing) (u : List ℤ) (e : List ℕ) (m : Blocks) (by : SettledBy t d l v f g mark a u e m)
       where
         few : length kept ≤ room_in t d
         few = omega (arith, length_kept keep list)
@@ -140,7 +141,7 @@ module _
             lt-ltb (entry_at e k) gone
             (omega (arith, own, ahead_le mark.t mark.cost mark.best (bound (row_at u k)) (row_at u k).low passes))
 
-        pub settled : Listed bound u e m q v f a kept
+        pub settled : Listed bound u e m v f a kept
         unfolding rows_of
         settled =
             let none = ap (λ (x : Listing). x.late) by.sizes in

@@ -3,128 +3,135 @@
 // moves few rows; those of the table close up where the late ones are moved in.
 #![tactic(auto)]
 
-ghost use Rattle.std.specs.Prelude.{◌≡◌, ◌-◌};
-ghost use Rattle.list_running.specs.Listing.{FoundBy, SettledBy, TakenBy};
+ghost use Rattle.std.specs.Prelude.{◌≡◌};
+ghost use Rattle.list_blocks.specs.Blocks.{gone};
+ghost use Rattle.list_running.specs.Listing.{spot_in, FoundBy, SettledBy, TakenBy};
 
 use incumbent::Mark;
-use list_blocks::{GONE, Leasts, Places, Spot};
+use list_blocks::{Blocks, GONE, Spot};
 use list_first_smallest::{Lowest, lower_bound};
+use list_open_boxes::take_out;
 
-// How many rows of the table are in use, gone ones too, and in how many blocks; how many boxes are late, and the first smallest of their
-// bounds; how many boxes are open in all.
-#[derive(Clone, Copy)]
+// The memory of the late boxes: their short table, and the list of their bounds beside it.
+#[derive(Clone, Copy, Debug, PartialEq, Eq)]
+pub struct LateBoxes {
+    pub rows: [i16; 2048],
+    pub bounds: [u64; 128],
+}
+
+// How many rows of the table are in use, gone ones too; how many boxes are late, and the first smallest of their bounds; how many boxes
+// are open in all.
+#[derive(Clone, Copy, Debug, PartialEq, Eq)]
 pub struct Listing {
     pub rows: usize,
-    pub blocks: usize,
     pub late: usize,
     pub near: Lowest,
     pub number: usize,
 }
 
-// The first box with the smallest bound: whether it is a late one, its row, and L.
-#[derive(Clone, Copy)]
-pub struct Found {
-    pub late: bool,
-    pub spot: Spot,
+// The first box with the smallest bound: a row of the table or a late one, with L.
+#[derive(Clone, Copy, Debug, PartialEq, Eq)]
+pub enum Found {
+    Row(Spot),
+    Late(Lowest),
 }
 
-// Where no box is open L is the cost. Of equal bounds that in the table is the first: late boxes are the last of the list.
-pub fn lowest(leasts: &Leasts, places: &Places, list: Listing, cost: u64) -> Found
-    ensures { FoundBy leasts.now places.now list cost result }
-{
-    let far = list_blocks::lowest(leasts, places, list.blocks);
-    let near = list.near;
-    if list.number == 0 {
-        return Found {
-            late: false,
-            spot: Spot {
+impl Found {
+    // L.
+    pub fn bound(self) -> u64
+        ensures { result ≡ (spot_in self).bound }
+    {
+        match self {
+            Found::Row(spot) => spot.bound,
+            Found::Late(near) => near.bound,
+        }
+    }
+}
+
+impl Listing {
+    // The first rows of the table, all of them open, and no late box.
+    pub fn of_rows(rows: usize) -> Listing
+        ensures { result ≡ record { rows = rows; late = 0; near = record { at = 0; bound = gone }; number = rows } }
+    {
+        Listing {
+            rows,
+            late: 0,
+            near: Lowest { at: 0, bound: GONE },
+            number: rows,
+        }
+    }
+
+    // The first box with the smallest bound. Where no box is open L is the cost. Of equal bounds that in the table is the first: late
+    // boxes are the last of the list.
+    pub fn lowest(self, blocks: &Blocks, cost: u64) -> Found
+        ensures { FoundBy blocks.now self cost result }
+    {
+        let far = blocks.lowest();
+        if self.number == 0 {
+            return Found::Row(Spot {
                 at: 0,
                 block: 0,
                 bound: cost,
-            },
-        };
+            });
+        }
+        if self.near.bound < far.bound {
+            return Found::Late(self.near);
+        }
+        Found::Row(far)
     }
-    if near.bound < far.bound {
-        return Found {
-            late: true,
-            spot: Spot {
-                at: near.at,
-                block: 0,
-                bound: near.bound,
-            },
-        };
-    }
-    Found {
-        late: false,
-        spot: far,
-    }
-}
 
-// One less, if there is one.
-fn one_less(n: usize) -> usize
-    ensures { result ≡ n - 1 }
-{
-    if n == 0 { 0 } else { n - 1 }
-}
-
-// Takes out the box that was found. A row of the table is gone then, and no other moves.
-#[tactic(auto, using(crate::proofs::Entries::one_answer))]
-pub fn take(
-    bounds: &mut [u64],
-    leasts: &mut Leasts,
-    places: &mut Places,
-    late: &mut [i16],
-    beside: &mut [u64],
-    list: Listing,
-    found: Found,
-) -> Listing
-    ensures { TakenBy bounds.old leasts.old places.old late.old beside.old list found
-        result bounds.new leasts.new places.new late.new beside.new }
-{
-    let spot = found.spot;
-    let number = one_less(list.number);
-    if found.late {
-        let left = list_open_boxes::take_out(late, beside, list.late, spot.at);
-        return Listing {
-            rows: list.rows,
-            blocks: list.blocks,
-            late: left,
-            near: lower_bound(beside, left, GONE),
-            number,
-        };
+    // Takes out the box that was found. A row of the table is gone then, and no other moves.
+    #[tactic(auto, using(crate::proofs::Entries::one_answer))]
+    pub fn take(
+        self,
+        bounds: &mut [u64],
+        blocks: &mut Blocks,
+        late: &mut LateBoxes,
+        found: Found,
+    ) -> Listing
+        ensures { TakenBy bounds.old blocks.old late.old.rows late.old.bounds self found
+            result bounds.new blocks.new late.new.rows late.new.bounds }
+    {
+        let number = self.number.saturating_sub(1);
+        match found {
+            Found::Row(spot) => {
+                blocks.take_away(bounds, self.rows, spot);
+                Listing { number, ..self }
+            }
+            Found::Late(spot) => {
+                let left = take_out(&mut late.rows, &mut late.bounds, self.late, spot.at);
+                Listing {
+                    late: left,
+                    near: lower_bound(&late.bounds[..left], GONE),
+                    number,
+                    ..self
+                }
+            }
+        }
     }
-    list_blocks::take_away(bounds, list.rows, leasts, places, spot);
-    let near = list.near;
-    Listing {
-        rows: list.rows,
-        blocks: list.blocks,
-        late: list.late,
-        near,
-        number,
-    }
-}
 
-// Makes the first rows of the table hold all boxes that are kept, in list order.
-pub fn settle(
-    table: &mut [i16],
-    bounds: &mut [u64],
-    leasts: &mut Leasts,
-    places: &mut Places,
-    late: &[i16],
-    beside: &[u64],
-    list: Listing,
-    mark: Mark,
-) -> Listing
-    ensures { SettledBy table.old bounds.old leasts.old places.old late.now
-        beside.now list mark result table.new bounds.new leasts.new places.new }
-{
-    let rows = list_open_boxes::settle(table, bounds, list.rows, late, beside, list.late, mark);
-    let count = list_blocks::find_leasts(leasts, places, bounds, rows);
-    Listing {
-        rows,
-        blocks: count,
-        late: 0,
-        near: Lowest { at: 0, bound: GONE },
-        number: rows,
+    // Makes the first rows of the table hold all boxes that are kept, in list order.
+    pub fn settle(
+        self,
+        table: &mut [i16],
+        bounds: &mut [u64],
+        blocks: &mut Blocks,
+        late: &LateBoxes,
+        mark: Mark,
+    ) -> Listing
+        ensures { SettledBy table.old bounds.old blocks.old late.now.rows late.now.bounds
+            self mark result table.new bounds.new blocks.new }
+    {
+        let rows = list_open_boxes::settle(
+            table,
+            bounds,
+            self.rows,
+            &late.rows,
+            &late.bounds,
+            self.late,
+            mark,
+        );
+        blocks.find(bounds, rows);
+        Listing::of_rows(rows)
     }
 }
