@@ -40,7 +40,7 @@ module _ (v : List ℤ) (f : List ℕ) (g : Listing) (child : Child) where
           by false e = e
 
       pub put_one : (end ≡ g.late → ⊥) → (near : Lowest) → near ≡ nearer g.near g.late child.bound
-          → Added (record { rows = g.rows; blocks = g.blocks; late = end; near = near; number = g.number + 1 }) w k
+          → Added (record { rows = g.rows; late = end; near = near; number = g.number + 1 }) w k
       put_one more near is =
           let one : room ≡ true = by room refl in
           let last : end ≡ g.late + 1 = told ∙ ap {B = ℕ} (λ (x : Bool). g.late + cond x 1 0) one in
@@ -56,5 +56,5 @@ pub two_added :
     one ≡ put_late h.late h.beside g left → w ≡ put_row h.late h.beside g left → k ≡ put_entry h.late h.beside g left →
     two ≡ put_late w k one right → x ≡ put_row w k one right → y ≡ put_entry w k one right →
     (two ≡ list_with (memory_with h g left) (list_with h g left) right)
-    × (memory h.table h.bounds h.leasts h.places x y ≡ memory_with (memory_with h g left) (list_with h g left) right)
+    × (memory h.table h.bounds h.blocks x y ≡ memory_with (memory_with h g left) (list_with h g left) right)
 two_added h g left right one w k two x y is_one is-w is-k is-two is_x is_y = rw (is-two, is_x, is_y, is_one, is-w, is-k) (refl, refl)

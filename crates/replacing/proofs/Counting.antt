@@ -12,7 +12,7 @@ use Rattle.list_rows.specs.Rows.{row_count}
 use Rattle.list_open_boxes.specs.OpenBoxes.{kept_at, number, room_in}
 use Rattle.list_running.specs.declared.Found.{Found}
 use Rattle.list_running.specs.declared.Listing.{Listing}
-use Rattle.list_running.specs.Listing.{box_in}
+use Rattle.list_running.specs.Listing.{spot_in, box_in}
 use Rattle.replacing.specs.Replacing.{too_many}
 
 module _ (t : List ℤ) (d : List ℕ) (v : List ℤ) (f : List ℕ) (g : Listing) (found : Found) (br : Branches) where
@@ -31,7 +31,7 @@ module _ (t : List ℤ) (d : List ℕ) (v : List ℤ) (f : List ℕ) (g : Listin
       all_stay is = rw (le-ltb (row_count t) g.number within, ← left, ← right, lt-leb (g.number + (a + b)) (row_count t + 1) many, is)
 
       pub counted :
-          br.stays ≡ false → (own : Bool) (o : ℕ) → own ≡ ahead_of br.mark found.spot.bound (box_in t v found).low →
+          br.stays ≡ false → (own : Bool) (o : ℕ) → own ≡ ahead_of br.mark (spot_in found).bound (box_in t v found).low →
           o ≡ cond own 1 0 → (x y : ℕ) → x ≡ number (kept_at t d br.mark) (min g.rows (room_in t d)) →
           y ≡ number (kept_at v f br.mark) (min g.late (room_in v f)) →
           ltb (row_count t + o) (x + y + (a + b)) ≡ too_many t d v f g found br

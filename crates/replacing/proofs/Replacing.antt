@@ -16,6 +16,7 @@ use Rattle.boxes.specs.Split.{zero_box}
 use Rattle.list_rows.specs.Rows.{with_row}
 use Rattle.list_rows.proofs.Rows.{Whole, length_with}
 use Rattle.list_blocks.specs.Blocks.{gone}
+use Rattle.list_blocks.specs.declared.Blocks.{Blocks}
 use Rattle.incumbent.specs.declared.Child.{Child}
 use Rattle.incumbent.specs.declared.Mark.{Mark}
 use Rattle.incumbent.specs.Incumbent.{kept_by, Tested}
@@ -23,7 +24,7 @@ use Rattle.branching.specs.declared.Branches.{Branches}
 use Rattle.list_open_boxes.specs.OpenBoxes.{room_in, if_kept}
 use Rattle.list_running.specs.declared.Found.{Found}
 use Rattle.list_running.specs.declared.Listing.{Listing}
-use Rattle.list_running.specs.Listing.{with_late, TakenBy, SettledBy, Listed}
+use Rattle.list_running.specs.Listing.{is_late, spot_in, with_late, TakenBy, SettledBy, Listed}
 use Rattle.list_running.proofs.Taking.{taken}
 use Rattle.list_running.proofs.Settling.{settled, settled_together}
 use Rattle.list_running.proofs.Adding.{added}
@@ -87,27 +88,28 @@ pub held_with :
     HeldIn bound (memory_with h g child) (list_with h g child) (list ++ if_kept child child.half)
 held_with bound h g list child held whole few room exact small =
     rw (takes_kept h.late h.beside g child few room)
-    (added bound h.table h.bounds h.leasts h.places h.late h.beside g list held child.half child.bound whole room
+    (added bound h.table h.bounds h.blocks h.late h.beside g list held child.half child.bound whole room
     child.kept exact small)
 
 -- how long everything is, once the box that was found is taken out
 module _
-    (d l p : List ℕ) (v : List ℤ) (f : List ℕ) (g : Listing) (found : Found) (a : Listing) (e m q : List ℕ) (w : List ℤ) (k : List ℕ)
-    (out : TakenBy d l p v f g found a e m q w k)
+    (d : List ℕ) (l : Blocks) (v : List ℤ) (f : List ℕ) (g : Listing) (found : Found) (a : Listing) (e : List ℕ) (m : Blocks) (w : List ℤ)
+    (k : List ℕ)
+    (out : TakenBy d l v f g found a e m w k)
   where
     pub late_long : (length w ≡ length v) × (length k ≡ length f)
-    late_long = by found.late refl
+    late_long = by (is_late found) refl
       where
-        by : (b : Bool) → found.late ≡ b → (length w ≡ length v) × (length k ≡ length f)
+        by : (b : Bool) → is_late found ≡ b → (length w ≡ length v) × (length k ≡ length f)
         by true is = let held = out.late_held is in (held.long, held.long_entries)
         by false is = let same = (out.row_same is).1.1 in rw (same.0, same.1) (refl, refl)
 
     pub entries_long : length e ≡ length d
-    entries_long = by found.late refl
+    entries_long = by (is_late found) refl
       where
-        by : (b : Bool) → found.late ≡ b → length e ≡ length d
+        by : (b : Bool) → is_late found ≡ b → length e ≡ length d
         by true is = rw (out.late_same is).0
-        by false is = rw (out.row_gone is).entries (length-set d found.spot.at gone)
+        by false is = rw (out.row_gone is).entries (length-set d (spot_in found).at gone)
 
 -- and once room is made
 pub room_long : (h : Memory) (g : Listing) (mark : Mark) (stays : Bool) (r : Listing) (k : Memory) → RoomMade h g mark stays r k
@@ -115,15 +117,14 @@ pub room_long : (h : Memory) (g : Listing) (mark : Mark) (stays : Bool) (r : Lis
 room_long h g mark stays r k =
     ⊎_elim
     (λ (same : (stays ≡ true) × (g.late ≤ 126) × (r ≡ g) × (k ≡ h)). rw same.3 (refl, refl))
-    (λ (by : SettledBy h.table h.bounds h.leasts h.places h.late h.beside g mark r k.table k.bounds k.leasts
-    k.places
+    (λ (by : SettledBy h.table h.bounds h.blocks h.late h.beside g mark r k.table k.bounds k.blocks
     × (k.late ≡ h.late)
     × (k.beside ≡ h.beside)). (by.0.held.long, by.0.held.long_entries))
 
 module _
     (bound : Box → ℕ) (h : Memory) (g : Listing) (found : Found) (br : Branches) (is : Replaceable bound h g found br)
     (left_whole : Whole br.left.half) (right_whole : Whole br.right.half) (a₁ : Listing) (h₁ : Memory)
-    (takes : TakenBy h.bounds h.leasts h.places h.late h.beside g found a₁ h₁.bounds h₁.leasts h₁.places h₁.late
+    (takes : TakenBy h.bounds h.blocks h.late h.beside g found a₁ h₁.bounds h₁.blocks h₁.late
     h₁.beside) (same_table : h₁.table ≡ h.table) (a₂ : Listing) (h₂ : Memory) (makes : RoomMade h₁ a₁ br.mark br.stays a₂ h₂)
   where
     abbrev mark : Mark
@@ -150,9 +151,9 @@ module _
     -- once it is taken out
     without_it : HeldIn bound h₁ a₁ rest
     without_it =
-        subst (λ (t : List ℤ). Listed bound t h₁.bounds h₁.leasts h₁.places h₁.late h₁.beside a₁ rest) (sym same_table)
-        (taken bound h.table h.bounds h.leasts h.places h.late h.beside g list is.listed found is.chosen a₁
-        h₁.bounds h₁.leasts h₁.places h₁.late h₁.beside takes)
+        subst (λ (t : List ℤ). Listed bound t h₁.bounds h₁.blocks h₁.late h₁.beside a₁ rest) (sym same_table)
+        (taken bound h.table h.bounds h.blocks h.late h.beside g list is.listed found is.chosen a₁
+        h₁.bounds h₁.blocks h₁.late h₁.beside takes)
 
     fewer : length rest ≤ g.number
     fewer = omega (arith, without_it.number, ap (λ (x : Listing). x.number) takes.sizes)
@@ -163,18 +164,18 @@ module _
     late_is : LateLong h₁
     late_is =
         let long =
-        late_long h.bounds h.leasts h.places h.late h.beside g found a₁ h₁.bounds h₁.leasts h₁.places h₁.late
+        late_long h.bounds h.blocks h.late h.beside g found a₁ h₁.bounds h₁.blocks h₁.late
         h₁.beside takes in
         (long.0 ∙ is.late.0, long.1 ∙ is.late.1)
 
     -- the table's entries changed where they were in use, if at all
     entries_within : (length h₁.bounds ≡ length h.bounds) × (drop n h₁.bounds ≡ drop n h.bounds)
-    entries_within = by found.late refl
+    entries_within = by (is_late found) refl
       where
-        by : (b : Bool) → found.late ≡ b → (length h₁.bounds ≡ length h.bounds) × (drop n h₁.bounds ≡ drop n h.bounds)
+        by : (b : Bool) → is_late found ≡ b → (length h₁.bounds ≡ length h.bounds) × (drop n h₁.bounds ≡ drop n h.bounds)
         by true late = rw (takes.late_same late).0 (refl, refl)
         by false late =
-            let at = found.spot.at in
+            let at = (spot_in found).at in
             let inside : at < n = omega (arith, is.chosen.row late) in
             rw (takes.row_gone late).entries (length-set h.bounds at gone, drop-set-lt n h.bounds at gone inside)
 
@@ -214,9 +215,8 @@ module _
 
     abbrev Settles : Type 0
     Settles =
-        SettledBy h₁.table h₁.bounds h₁.leasts h₁.places h₁.late h₁.beside a₁ mark a₂ h₂.table h₂.bounds
-        h₂.leasts
-        h₂.places
+        SettledBy h₁.table h₁.bounds h₁.blocks h₁.late h₁.beside a₁ mark a₂ h₂.table h₂.bounds
+        h₂.blocks
         × (h₂.late ≡ h₁.late)
         × (h₂.beside ≡ h₁.beside)
 
@@ -225,18 +225,18 @@ module _
         let fits : length rest ≤ room_in h₁.table h₁.bounds =
         omega (arith, fewer, is.room, entries_within.0, ap (λ (t : List ℤ). length t) same_table) in
         let g₂ =
-        settled_together bound h₁.table h₁.bounds h₁.leasts h₁.places h₁.late h₁.beside a₁ rest without_it mark
+        settled_together bound h₁.table h₁.bounds h₁.blocks h₁.late h₁.beside a₁ rest without_it mark
         is.below
-        fits a₂ h₂.table h₂.bounds h₂.leasts h₂.places by.0 in
+        fits a₂ h₂.table h₂.bounds h₂.blocks by.0 in
         let some : a₂.rows ≤ n = omega (arith, g₂.number, length_kept keep rest, fewer) in
         record {
           held =
-              subst₂ (λ (v : List ℤ) (f : List ℕ). Listed bound h₂.table h₂.bounds h₂.leasts h₂.places v f a₂
+              subst₂ (λ (v : List ℤ) (f : List ℕ). Listed bound h₂.table h₂.bounds h₂.blocks v f a₂
               (keep_if keep rest))
               (sym by.1) (sym by.2)
-              (settled bound h₁.table h₁.bounds h₁.leasts h₁.places h₁.late h₁.beside a₁ rest without_it mark is.below
+              (settled bound h₁.table h₁.bounds h₁.blocks h₁.late h₁.beside a₁ rest without_it mark is.below
               fits
-              a₂ h₂.table h₂.bounds h₂.leasts h₂.places by.0);
+              a₂ h₂.table h₂.bounds h₂.blocks by.0);
           roomy = omega (arith, g₂.none_late);
           rows = some;
           number =

@@ -1,6 +1,6 @@
 -- What a step does to the list, by the memory that holds it. These definitions say what this crate's functions do; the contract of a search
 -- does not rest on them, and a reader of that need not believe them.
-use Rattle.std.specs.Prelude.{◌≡◌, Bool, true, false, cond, List, [], ◌∷◌, ◌++◌, ◌⊎◌, ℕ, ◌+◌, ◌*◌, ◌≤◌, ◌<◌, min, max, ltb, leb, eqb, ℤ, length, set, drop}
+use Rattle.std.specs.Prelude.{Option, Some, is_none, ◌≡◌, Bool, true, false, cond, List, [], ◌∷◌, ◌++◌, ◌⊎◌, ℕ, ◌+◌, ◌*◌, ◌≤◌, ◌<◌, min, max, ltb, leb, eqb, ℤ, length, set, drop}
 use Rattle.integers.specs.Lists.{All}
 use Rattle.boxes.specs.declared.Box.{Box}
 use Rattle.certificate.specs.Search.{keep_if, first_smallest, without}
@@ -10,24 +10,23 @@ use Rattle.incumbent.specs.Incumbent.{ahead_of, kept_by, Tested}
 use Rattle.branching.specs.declared.Branches.{Branches}
 use Rattle.list_rows.specs.Rows.{row_count, with_row}
 use Rattle.list_blocks.specs.Blocks.{gone}
+use Rattle.list_blocks.specs.declared.Blocks.{Blocks}
 use Rattle.list_open_boxes.specs.OpenBoxes.{kept_at, number, room_in, fits}
 use Rattle.list_running.specs.declared.Found.{Found}
 use Rattle.list_running.specs.declared.Listing.{Listing}
-use Rattle.list_running.specs.Listing.{list_of, box_in, with_late, TakenBy, SettledBy, Listed, Chosen}
-use Rattle.replacing.specs.declared.Replaced.{Replaced}
+use Rattle.list_running.specs.Listing.{spot_in, list_of, box_in, with_late, TakenBy, SettledBy, Listed, Chosen}
 
--- The memory of a list: the table and the entries beside its rows, the first smallest numbers of the blocks of these and their places, the
--- late rows and the entries beside them.
+-- The memory of a list: the table and the entries beside its rows, the blocks of these with their first smallest numbers, the late rows
+-- and the entries beside them.
 pub record Memory : Type 0 where
   pub table : List ℤ
   pub bounds : List ℕ
-  pub leasts : List ℕ
-  pub places : List ℕ
+  pub blocks : Blocks
   pub late : List ℤ
   pub beside : List ℕ
 
-abbrev pub memory : List ℤ → List ℕ → List ℕ → List ℕ → List ℤ → List ℕ → Memory
-memory t d l p v f = record { table = t; bounds = d; leasts = l; places = p; late = v; beside = f }
+abbrev pub memory : List ℤ → List ℕ → Blocks → List ℤ → List ℕ → Memory
+memory t d l v f = record { table = t; bounds = d; blocks = l; late = v; beside = f }
 
 -- the list that it holds, the box that was found in it
 abbrev pub list_in : Memory → Listing → List Box
@@ -38,10 +37,10 @@ box_found h found = box_in h.table h.late found
 
 -- a list is held in it, with the bound of each box beside it; what was found is the first with the smallest bound
 abbrev pub HeldIn : (Box → ℕ) → Memory → Listing → List Box → Type 0
-HeldIn bound h g list = Listed bound h.table h.bounds h.leasts h.places h.late h.beside g list
+HeldIn bound h g list = Listed bound h.table h.bounds h.blocks h.late h.beside g list
 
 abbrev pub ChosenIn : (Box → ℕ) → Memory → Listing → List Box → Found → Type 0
-ChosenIn bound h g list found = Chosen bound h.table h.bounds h.leasts h.places h.late g list found
+ChosenIn bound h g list found = Chosen bound h.table h.bounds h.blocks h.late g list found
 
 -- ---- one more late box
 -- whether it is written: it is kept, and there is room
@@ -62,7 +61,7 @@ list_with h g child = put_late h.late h.beside g child
 
 abbrev pub memory_with : Memory → Listing → Child → Memory
 memory_with h g child =
-    memory h.table h.bounds h.leasts h.places (put_row h.late h.beside g child) (put_entry h.late h.beside g child)
+    memory h.table h.bounds h.blocks (put_row h.late h.beside g child) (put_entry h.late h.beside g child)
 
 -- ---- whether there is room
 -- how many halves are kept, and how many of the boxes in the list
@@ -79,7 +78,7 @@ too_many t d v f g found br =
     cond (ltb (row_count t) g.number) true
     (cond (leb (g.number + more_of br) (row_count t + 1)) false
     (cond br.stays true
-    (ltb (row_count t + cond (ahead_of br.mark found.spot.bound (box_in t v found).low) 1 0)
+    (ltb (row_count t + cond (ahead_of br.mark (spot_in found).bound (box_in t v found).low) 1 0)
     (kept_number t d v f g br.mark + more_of br))))
 
 -- ---- what is done, step after step
@@ -87,8 +86,7 @@ too_many t d v f g found br =
 abbrev pub RoomMade : Memory → Listing → Mark → Bool → Listing → Memory → Type 0
 RoomMade h g mark stays r k =
     ((stays ≡ true) × (g.late ≤ 126) × (r ≡ g) × (k ≡ h))
-    ⊎ (SettledBy h.table h.bounds h.leasts h.places h.late h.beside g mark r k.table k.bounds k.leasts
-    k.places
+    ⊎ (SettledBy h.table h.bounds h.blocks h.late h.beside g mark r k.table k.bounds k.blocks
     × (k.late ≡ h.late)
     × (k.beside ≡ h.beside))
 
@@ -97,8 +95,7 @@ pub record Made (h : Memory) (g : Listing) (found : Found) (br : Branches) (r : 
   pub taken : Listing
   pub left_over : Memory
   pub takes :
-      TakenBy h.bounds h.leasts h.places h.late h.beside g found taken left_over.bounds left_over.leasts
-      left_over.places
+      TakenBy h.bounds h.blocks h.late h.beside g found taken left_over.bounds left_over.blocks
       left_over.late left_over.beside
   pub same_table : left_over.table ≡ h.table
   pub ready : Listing
@@ -107,10 +104,11 @@ pub record Made (h : Memory) (g : Listing) (found : Found) (br : Branches) (r : 
   pub list : r ≡ list_with (memory_with roomy ready br.left) (list_with roomy ready br.left) br.right
   pub held : k ≡ memory_with (memory_with roomy ready br.left) (list_with roomy ready br.left) br.right
 
-pub record ReplacedBy (h : Memory) (g : Listing) (found : Found) (br : Branches) (r : Replaced) (k : Memory) : Type 0 where
-  pub told : r.full ≡ too_many h.table h.bounds h.late h.beside g found br
-  pub kept : r.full ≡ true → (r.list ≡ g) × (k ≡ h)
-  pub made : r.full ≡ false → Made h g found br r.list k
+-- The list after it, or nothing where there is no room: then nothing changed.
+pub record ReplacedBy (h : Memory) (g : Listing) (found : Found) (br : Branches) (r : Option Listing) (k : Memory) : Type 0 where
+  pub told : is_none r ≡ too_many h.table h.bounds h.late h.beside g found br
+  pub kept : is_none r ≡ true → k ≡ h
+  pub made : (n : Listing) → r ≡ Some n → Made h g found br n k
 
 -- ---- what that is, of a list that is held
 -- How many late rows there are, and entries beside them.

@@ -1,54 +1,38 @@
 // What a step does to the list: the box that was found goes, the others that are kept stay, and its halves that are kept follow.
 #![tactic(auto)]
 
-ghost use Rattle.std.specs.Prelude.{◌≡◌, cond};
+ghost use Rattle.std.specs.Prelude.{◌≡◌};
 ghost use Rattle.incumbent.specs.Incumbent.{ahead_of};
-ghost use Rattle.list_running.specs.Listing.{box_in, nearer};
+ghost use Rattle.list_running.specs.Listing.{spot_in, box_in, nearer};
 ghost use Rattle.replacing.specs.Replacing.{memory, put_late, put_row, put_entry, too_many, RoomMade, ReplacedBy};
 
 use boxes::Box;
 use branching::Branches;
 use incumbent::{Child, Mark, ahead};
-use list_blocks::{GONE, Leasts, Places};
+use list_blocks::{Blocks, GONE};
 use list_first_smallest::Lowest;
 use list_open_boxes::keeping;
-use list_running::{Found, Listing};
+use list_running::{Found, LateBoxes, Listing};
 
 // How many late boxes leave room for the halves of one more: there are 128 late rows.
 const LATE: usize = 126;
 
-// What a step leaves of the list, or that there is no room for it.
-#[derive(Clone, Copy)]
-pub struct Replaced {
-    pub full: bool,
-    pub list: Listing,
-}
-
-fn one_if(kept: bool) -> usize
-    ensures { result ≡ cond kept 1 0 }
-{
-    if kept { 1 } else { 0 }
-}
-
 // The box that was found.
-pub fn box_found(table: &[i16], late: &[i16], found: Found) -> Box
-    ensures { result ≡ box_in table.now late.now found }
+pub fn box_found(table: &[i16], late: &LateBoxes, found: Found) -> Box
+    ensures { result ≡ box_in table.now late.now.rows found }
 {
-    let spot = found.spot;
-    if found.late {
-        return list_rows::read_row(late, spot.at);
+    match found {
+        Found::Row(spot) => list_rows::read_row(table, spot.at),
+        Found::Late(spot) => list_rows::read_row(&late.rows, spot.at),
     }
-    list_rows::read_row(table, spot.at)
 }
 
 // Whether it would be kept itself.
-fn kept_itself(table: &[i16], late: &[i16], found: Found, mark: Mark) -> bool
-    ensures { result ≡ ahead_of mark found.spot.bound (box_in table.now late.now found).low }
+fn kept_itself(table: &[i16], late: &LateBoxes, found: Found, mark: Mark) -> bool
+    ensures { result ≡ ahead_of mark (spot_in found).bound (box_in table.now late.now.rows found).low }
 {
     let b = box_found(table, late, found);
-    let low = b.low;
-    let spot = found.spot;
-    ahead(mark, spot.bound, low)
+    ahead(mark, found.bound(), b.low)
 }
 
 // The first smallest of the late bounds, where there is one more.
@@ -56,30 +40,29 @@ fn nearest(near: Lowest, at: usize, x: u64) -> Lowest
     ensures { result ≡ nearer near at x }
 {
     if x < near.bound {
-        return Lowest { at, bound: x };
+        Lowest { at, bound: x }
+    } else {
+        near
     }
-    near
 }
 
 // Puts a box that is kept behind the list, if there is room for one more late box.
-pub fn add(late: &mut [i16], beside: &mut [u64], list: Listing, child: Child) -> Listing
-    ensures list { result ≡ put_late late.old beside.old list child }
-    ensures late { late.new ≡ put_row late.old beside.old list child }
-    ensures beside { beside.new ≡ put_entry late.old beside.old list child }
+pub fn add(late: &mut LateBoxes, list: Listing, child: Child) -> Listing
+    ensures list { result ≡ put_late late.old.rows late.old.bounds list child }
+    ensures late { late.new.rows ≡ put_row late.old.rows late.old.bounds list child }
+    ensures beside { late.new.bounds ≡ put_entry late.old.rows late.old.bounds list child }
 {
     if list.number == GONE as usize {
         return list;
     }
-    let end = list_open_boxes::put(late, beside, list.late, child);
+    let end = list_open_boxes::put(&mut late.rows, &mut late.bounds, list.late, child);
     if end == list.late {
         return list;
     }
-    let near = list.near;
     Listing {
         rows: list.rows,
-        blocks: list.blocks,
         late: end,
-        near: nearest(near, list.late, child.bound),
+        near: nearest(list.near, list.late, child.bound),
         number: list.number + 1,
     }
 }
@@ -90,20 +73,16 @@ pub fn add(late: &mut [i16], beside: &mut [u64], list: Listing, child: Child) ->
 fn too_many(
     table: &[i16],
     bounds: &[u64],
-    late: &[i16],
-    beside: &[u64],
+    late: &LateBoxes,
     list: Listing,
     found: Found,
     br: Branches,
 ) -> bool
     ensures { result
-        ≡ too_many table.now bounds.now late.now beside.now list found br }
+        ≡ too_many table.now bounds.now late.now.rows late.now.bounds list found br }
 {
-    let left = br.left;
-    let right = br.right;
-    let mark = br.mark;
     let room = table.len() / 16;
-    let more = one_if(left.kept) + one_if(right.kept);
+    let more = br.left.kept as usize + br.right.kept as usize;
     if room < list.number {
         return true;
     }
@@ -113,8 +92,9 @@ fn too_many(
     if br.stays {
         return true;
     }
-    let own = one_if(kept_itself(table, late, found, mark));
-    let kept = keeping(table, bounds, list.rows, mark) + keeping(late, beside, list.late, mark);
+    let own = kept_itself(table, late, found, br.mark) as usize;
+    let kept = keeping(table, bounds, list.rows, br.mark)
+        + keeping(&late.rows, &late.bounds, list.late, br.mark);
     room + own < kept + more
 }
 
@@ -122,55 +102,42 @@ fn too_many(
 fn make_room(
     table: &mut [i16],
     bounds: &mut [u64],
-    leasts: &mut Leasts,
-    places: &mut Places,
-    late: &[i16],
-    beside: &[u64],
+    blocks: &mut Blocks,
+    late: &LateBoxes,
     list: Listing,
-    mark: Mark,
-    stays: bool,
+    br: Branches,
 ) -> Listing
-    ensures { RoomMade (memory table.old bounds.old leasts.old places.old late.now
-        beside.now) list mark stays result (memory table.new bounds.new leasts.new places.new
-        late.now beside.now) }
+    ensures { RoomMade (memory table.old bounds.old blocks.old late.now.rows late.now.bounds)
+        list br.mark br.stays result
+        (memory table.new bounds.new blocks.new late.now.rows late.now.bounds) }
 {
-    if stays && list.late <= LATE {
+    if br.stays && list.late <= LATE {
         return list;
     }
-    list_running::settle(table, bounds, leasts, places, late, beside, list, mark)
+    list.settle(table, bounds, blocks, late, br.mark)
 }
 
 // Takes out the box that was found and those that are not kept, and puts its halves behind the others. Where more would remain than the
-// table has rows nothing is written.
+// table has rows nothing is written, and there is no list.
 #[tactic(auto, using(list_rows::proofs::Rows::Whole, list_running::proofs::Entries::one_answer, crate::proofs::Adding::two_added, crate::proofs::Replacing::added_long, crate::proofs::Replacing::late_long, crate::proofs::Replacing::entries_long, crate::proofs::Replacing::room_long))]
 pub fn replace(
     table: &mut [i16],
     bounds: &mut [u64],
-    leasts: &mut Leasts,
-    places: &mut Places,
-    late: &mut [i16],
-    beside: &mut [u64],
+    blocks: &mut Blocks,
+    late: &mut LateBoxes,
     list: Listing,
     found: Found,
     br: Branches,
-) -> Replaced
-    ensures { ReplacedBy (memory table.old bounds.old leasts.old places.old late.old
-        beside.old) list found br result (memory table.new bounds.new leasts.new places.new
-        late.new beside.new) }
+) -> Option<Listing>
+    ensures { ReplacedBy (memory table.old bounds.old blocks.old late.old.rows late.old.bounds)
+        list found br result
+        (memory table.new bounds.new blocks.new late.new.rows late.new.bounds) }
 {
-    if too_many(table, bounds, late, beside, list, found, br) {
-        return Replaced { full: true, list };
+    if too_many(table, bounds, late, list, found, br) {
+        return None;
     }
-    let mark = br.mark;
-    let left = br.left;
-    let right = br.right;
-    let taken = list_running::take(bounds, leasts, places, late, beside, list, found);
-    let ready = make_room(
-        table, bounds, leasts, places, late, beside, taken, mark, br.stays,
-    );
-    let one = add(late, beside, ready, left);
-    Replaced {
-        full: false,
-        list: add(late, beside, one, right),
-    }
+    let taken = list.take(bounds, blocks, late, found);
+    let ready = make_room(table, bounds, blocks, late, taken, br);
+    let one = add(late, ready, br.left);
+    Some(add(late, one, br.right))
 }
