@@ -63,10 +63,10 @@ impl Listing {
 
     // The first box with the smallest bound. Where no box is open L is the cost. Of equal bounds that in the table is the first: late
     // boxes are the last of the list.
-    pub fn lowest(self, blocks: &Blocks, cost: u64) -> Found
-        ensures { FoundBy blocks.now self cost result }
+    pub fn lowest(self, leasts: &Blocks, cost: u64) -> Found
+        ensures { FoundBy leasts.now self cost result }
     {
-        let far = blocks.lowest();
+        let far = leasts.lowest();
         if self.number == 0 {
             return Found::Row(Spot {
                 at: 0,
@@ -85,17 +85,17 @@ impl Listing {
     pub fn take(
         self,
         bounds: &mut [u64],
-        blocks: &mut Blocks,
+        leasts: &mut Blocks,
         late: &mut LateBoxes,
         found: Found,
     ) -> Listing
-        ensures { TakenBy bounds.old blocks.old late.old.rows late.old.bounds self found
-            result bounds.new blocks.new late.new.rows late.new.bounds }
+        ensures { TakenBy bounds.old leasts.old late.old.rows late.old.bounds self found
+            result bounds.new leasts.new late.new.rows late.new.bounds }
     {
         let number = self.number.saturating_sub(1);
         match found {
             Found::Row(spot) => {
-                blocks.take_away(bounds, self.rows, spot);
+                leasts.take_away(bounds, self.rows, spot);
                 Listing { number, ..self }
             }
             Found::Late(spot) => {
@@ -115,12 +115,12 @@ impl Listing {
         self,
         table: &mut [i16],
         bounds: &mut [u64],
-        blocks: &mut Blocks,
+        leasts: &mut Blocks,
         late: &LateBoxes,
         mark: Mark,
     ) -> Listing
-        ensures { SettledBy table.old bounds.old blocks.old late.now.rows late.now.bounds
-            self mark result table.new bounds.new blocks.new }
+        ensures { SettledBy table.old bounds.old leasts.old late.now.rows late.now.bounds
+            self mark result table.new bounds.new leasts.new }
     {
         let rows = list_open_boxes::settle(
             table,
@@ -131,7 +131,7 @@ impl Listing {
             self.late,
             mark,
         );
-        blocks.find(bounds, rows);
+        leasts.find(bounds, rows);
         Listing::of_rows(rows)
     }
 }

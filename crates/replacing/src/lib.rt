@@ -102,19 +102,19 @@ fn too_many(
 fn make_room(
     table: &mut [i16],
     bounds: &mut [u64],
-    blocks: &mut Blocks,
+    leasts: &mut Blocks,
     late: &LateBoxes,
     list: Listing,
     br: Branches,
 ) -> Listing
-    ensures { RoomMade (memory table.old bounds.old blocks.old late.now.rows late.now.bounds)
+    ensures { RoomMade (memory table.old bounds.old leasts.old late.now.rows late.now.bounds)
         list br.mark br.stays result
-        (memory table.new bounds.new blocks.new late.now.rows late.now.bounds) }
+        (memory table.new bounds.new leasts.new late.now.rows late.now.bounds) }
 {
     if br.stays && list.late <= LATE {
         return list;
     }
-    list.settle(table, bounds, blocks, late, br.mark)
+    list.settle(table, bounds, leasts, late, br.mark)
 }
 
 // Takes out the box that was found and those that are not kept, and puts its halves behind the others. Where more would remain than the
@@ -123,21 +123,21 @@ fn make_room(
 pub fn replace(
     table: &mut [i16],
     bounds: &mut [u64],
-    blocks: &mut Blocks,
+    leasts: &mut Blocks,
     late: &mut LateBoxes,
     list: Listing,
     found: Found,
     br: Branches,
 ) -> Option<Listing>
-    ensures { ReplacedBy (memory table.old bounds.old blocks.old late.old.rows late.old.bounds)
+    ensures { ReplacedBy (memory table.old bounds.old leasts.old late.old.rows late.old.bounds)
         list found br result
-        (memory table.new bounds.new blocks.new late.new.rows late.new.bounds) }
+        (memory table.new bounds.new leasts.new late.new.rows late.new.bounds) }
 {
     if too_many(table, bounds, late, list, found, br) {
         return None;
     }
-    let taken = list.take(bounds, blocks, late, found);
-    let ready = make_room(table, bounds, blocks, late, taken, br);
+    let taken = list.take(bounds, leasts, late, found);
+    let ready = make_room(table, bounds, leasts, late, taken, br);
     let one = add(late, ready, br.left);
     Some(add(late, one, br.right))
 }

@@ -7,6 +7,7 @@ use lib.IntN.{ℤ}
 use Rattle.boxes.specs.declared.Box.{Box}
 use Rattle.certificate.specs.Search as Search
 use Rattle.incumbent.specs.Incumbent.{kept_by}
+use Rattle.list_blocks.specs.declared.Blocks.{Blocks}
 use Rattle.list_running.specs.declared.Listing.{Listing}
 use Rattle.list_running.specs.Listing.{SettledBy}
 use Rattle.list_running.proofs.Settling.{Together, settled_together}
@@ -18,15 +19,15 @@ use Rattle.search.specs.Inside.{answer_with, Ended, Ran}
 
 module _
     (bound : Box → ℕ) (def : Search.Answer) (h : Memory) (z : End) (k : Memory) (is : Ended bound def h z k) (a : Listing) (u : List ℤ)
-    (e m q : List ℕ)
-    (by : SettledBy k.table k.bounds k.leasts k.places k.late k.beside z.state.list z.state.mark a u e m q)
+    (e : List ℕ) (m : Blocks)
+    (by : SettledBy k.table k.bounds k.blocks k.late k.beside z.state.list z.state.mark a u e m)
   where
     together : Together bound k.table k.bounds z.state.list.rows def.list a u e
     together =
         rw (all_kept (kept_by bound z.state.mark) is.kept) at
-        (settled_together bound k.table k.bounds k.leasts k.places k.late k.beside z.state.list def.list
+        (settled_together bound k.table k.bounds k.blocks k.late k.beside z.state.list def.list
         is.listed
-        z.state.mark is.fits is.room a u e m q by)
+        z.state.mark is.fits is.room a u e m by)
 
     pub ran : (r : Answer) → r ≡ answer_with z.kind z.state z.low → Ran bound def h.table h.bounds r u e
     ran r told =

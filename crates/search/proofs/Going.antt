@@ -1,6 +1,7 @@
 -- A run of the search, with its list as it is held: it stands at the beginning, a step keeps it up, and where it stops the answer is the
 -- definition's. Assumes nothing.
 use borrow.Author.Tests.{ltb-true, ltb-false}
+use Rattle.std.specs.Prelude.{Option, Some, is_none}
 use mathlib.Core.Path.{◌≡◌, refl, sym, ap, subst, ◌∙◌}
 use mathlib.Core.Bool.{Bool, true, false}
 use mathlib.Core.List.{List}
@@ -30,11 +31,10 @@ use Rattle.list_rows.specs.Rows.{row_count}
 use Rattle.list_rows.proofs.Rows.{rest_later}
 use Rattle.list_blocks.specs.Blocks.{gone}
 use Rattle.list_running.specs.declared.Found.{Found}
-use Rattle.list_running.specs.Listing.{FoundBy}
+use Rattle.list_running.specs.Listing.{spot_in, FoundBy}
 use Rattle.list_running.proofs.Finding.{Lowest-of, found}
 use Rattle.replacing.specs.Replacing.{Memory, list_in, ChosenIn, LateLong, Within}
 use Rattle.search.specs.declared.step.State.{State}
-use Rattle.search.specs.declared.step.Stepped.{Stepped}
 use Rattle.search.specs.Search.{kind_of}
 use Rattle.search.specs.Inside.{state_in, Stands, Steppable, Moved, StepOutcome, Begun, Ended}
 
@@ -67,16 +67,16 @@ pub record Going (r : Run) (s : State) (k : Memory) : Type 0 where
   pub within : Within s.peak r.h k
 
 pub going_begins :
-    (r : Run) (s : State) → length r.h.leasts ≡ 64 → length r.h.places ≡ 64 →
+    (r : Run) (s : State) → r.h.blocks.count ≡ 0 → length r.h.blocks.leasts ≡ 64 → length r.h.blocks.places ≡ 64 →
     Begun r.cost r.bound r.tol r.start r.domain s r.h.late r.h.beside → Going r s r.h
-going_begins r s x y b =
+going_begins r s none x y b =
     let h = r.h in
     record {
       running =
-          rw (b.state h.table h.bounds h.leasts h.places)
+          rw (b.state h.table h.bounds h.blocks)
           (running_begins r.cost r.bound r.budget (row_count h.table) r.tol r.start r.domain);
       tolerance = b.tolerance;
-      stands = b.stands h.table h.bounds h.leasts h.places x y;
+      stands = b.stands h.table h.bounds h.blocks none x y;
       within = record { long = refl; long_entries = refl; rest = refl; rest_entries = refl };
     }
 
@@ -133,13 +133,13 @@ module _ (r : Run) (ready : Ready r) (s : State) (k : Memory) (g : Going r s k)
     open_rows = omega (arith, open_few, sound.room, ready.some)
 
     -- L, and the box that has it
-    module _ (o : Found) (by : FoundBy k.leasts k.places s.list s.mark.cost o) where
+    module _ (o : Found) (by : FoundBy k.blocks s.list s.mark.cost o) where
       abbrev low : ℕ
-      low = o.spot.bound
+      low = (spot_in o).bound
 
-      lows : Lowest-of bound k.table k.bounds k.leasts k.places k.late s.list list s.mark.cost o
+      lows : Lowest-of bound k.table k.bounds k.blocks k.late s.list list s.mark.cost o
       lows =
-          found bound k.table k.bounds k.leasts k.places k.late k.beside s.list list g.stands.listed small
+          found bound k.table k.bounds k.blocks k.late k.beside s.list list g.stands.listed small
           s.mark.cost o by
 
       pub low_le : low ≤ s.mark.cost
@@ -215,17 +215,17 @@ module _ (r : Run) (ready : Ready r) (s : State) (k : Memory) (g : Going r s k)
                 countable = omega (arith, less);
               }
 
-          module _ (z : Stepped) (k₂ : Memory) (out : StepOutcome cost bound k s z k₂)
+          module _ (z : Option State) (k₂ : Memory) (out : StepOutcome cost bound k s z k₂)
             where
               -- the split is the definition's
               abbrev after : Search.State
               after = split cost bound r.tol now_state
 
-              told : z.full ≡ ltb (row_count k.table) (length after.list)
-              told = subst (λ (t : ℕ). z.full ≡ ltb (row_count k.table) (length (split cost bound t now_state).list)) g.tolerance
+              told : is_none z ≡ ltb (row_count k.table) (length after.list)
+              told = subst (λ (t : ℕ). is_none z ≡ ltb (row_count k.table) (length (split cost bound t now_state).list)) g.tolerance
                   out.told
 
-              pub going_full : z.full ≡ true → Ended bound (def r) r.h (record { kind = kind_of full; low = low; state = s }) k₂
+              pub going_full : is_none z ≡ true → Ended bound (def r) r.h (record { kind = kind_of full; low = low; state = s }) k₂
               going_full is =
                   let more = ltb-true (row_count k.table) (length after.list) (sym told ∙ is) in
                   rw (out.kept is)
@@ -234,15 +234,15 @@ module _ (r : Run) (ready : Ready r) (s : State) (k : Memory) (g : Going r s k)
                   (omega (arith, g.within.long))))
 
               -- one split less is left
-              pub going_counts : z.full ≡ false → budget - z.state.count < budget - s.count
+              pub going_counts : (n : State) → z ≡ Some n → budget - n.count < budget - s.count
               unfolding split
-              going_counts is = omega (arith, less, ap (λ (x : Search.State). x.count) (out.moved is).state)
+              going_counts n is = omega (arith, less, ap (λ (x : Search.State). x.count) (out.moved n is).state)
 
-              pub going_on : z.full ≡ false → Going r z.state k₂
-              going_on is =
-                  let few = ltb-false (row_count k.table) (length after.list) (sym told ∙ is) in
-                  let o₂ = out.moved is in
-                  let peaks = grows z.state k₂ o₂ in
+              pub going_on : (n : State) → z ≡ Some n → Going r n k₂
+              going_on n is =
+                  let few = ltb-false (row_count k.table) (length after.list) (sym told ∙ ap is_none is) in
+                  let o₂ = out.moved n is in
+                  let peaks = grows n k₂ o₂ in
                   record {
                     running =
                         rw (o₂.state, g.tolerance)
@@ -256,10 +256,10 @@ module _ (r : Run) (ready : Ready r) (s : State) (k : Memory) (g : Going r s k)
                           long_entries = o₂.within.long_entries ∙ g.within.long_entries;
                           rest =
                               o₂.within.rest
-                              ∙ rest_later r.h.table k.table (16 * s.peak) (16 * z.state.peak) (omega arith) g.within.rest;
+                              ∙ rest_later r.h.table k.table (16 * s.peak) (16 * n.peak) (omega arith) g.within.rest;
                           rest_entries =
                               o₂.within.rest_entries
-                              ∙ rest_later r.h.bounds k.bounds s.peak z.state.peak peaks g.within.rest_entries;
+                              ∙ rest_later r.h.bounds k.bounds s.peak n.peak peaks g.within.rest_entries;
                         };
                   }
 

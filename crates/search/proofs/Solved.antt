@@ -25,17 +25,17 @@ accepted_is (Ok _) r e = refl
 accepted_is (Err why) r e = let n = ap kind_number e in absurd (omega arith)
 
 module _ (store : List ℕ) (job : Job) (table : List ℤ) (bounds : List ℕ) (is : (search_answer store job table bounds).kind ≡ Solved) where
-  pass : check_lent store job table bounds ≡ pass
+  passes : check_lent store job table bounds ≡ pass
   unfolding search_answer
-  pass = accepted_is (check_lent store job table bounds) (searched_lent store job table bounds) is
+  passes = accepted_is (check_lent store job table bounds) (searched_lent store job table bounds) is
 
   pub solved_kind : (searched_lent store job table bounds).kind ≡ solved
   unfolding search_answer
-  solved_kind = solved_is (searched_lent store job table bounds).kind (rw pass at is)
+  solved_kind = solved_is (searched_lent store job table bounds).kind (rw passes at is)
 
   pub solved_told : search_answer store job table bounds ≡ told (searched_lent store job table bounds)
   unfolding search_answer
-  solved_told = rw pass
+  solved_told = rw passes
 
   pub solved_certified : CertifiedIn store job (row_count table)
-  solved_certified = certificate store job table bounds pass
+  solved_certified = certificate store job table bounds passes

@@ -1,6 +1,7 @@
 -- The split of the definition, by how the list is held: what remains is what is kept of the others, and the halves of the box that was
 -- found. Assumes nothing.
-use mathlib.Core.Path.{◌≡◌, refl, sym, ap, ◌∙◌}
+use mathlib.Core.Path.{◌≡◌, refl, sym, ap, subst, ◌∙◌}
+use Rattle.std.specs.Prelude.{Option, Some, None, is_none}
 use mathlib.Core.Bool.{Bool, true, false, cond}
 use mathlib.Core.List.{List, [], ◌∷◌}
 use mathlib.Core.Logic.{⊎_elim}
@@ -29,14 +30,18 @@ use Rattle.list_open_boxes.specs.OpenBoxes.{kept_at, picked, room_in}
 use Rattle.list_open_boxes.proofs.Picking.{picked_length}
 use Rattle.list_running.specs.declared.Found.{Found}
 use Rattle.list_running.specs.declared.Listing.{Listing}
+use Rattle.list_running.specs.Listing.{spot_in}
 use Rattle.list_running.proofs.Entries.{one_answer}
 use Rattle.list_running.proofs.Settling.{boxes_are}
-use Rattle.replacing.specs.declared.Replaced.{Replaced}
 use Rattle.replacing.specs.Replacing.{Memory, list_in, box_found, more_of, kept_number, too_many, Replaceable, remaining, ReplacedBy}
 use Rattle.replacing.specs.Replacing.{ReplacedIn}
 use Rattle.replacing.proofs.Replacing.{all_kept, replaced}
 use Rattle.search.specs.declared.step.State.{State}
 use Rattle.search.specs.Inside.{state_in, Steppable, Moved, StepOutcome}
+
+-- what is there is one thing
+some_same : {A : Type 0} (x y : A) → Some x ≡ Some y → x ≡ y
+some_same x y e = cc
 
 -- how many are kept, one by one
 count_kept : (keep : Box → Bool) (bs : List Box) → sum (λ b. cond (keep b) 1 0) bs ≡ length (keep_if keep bs)
@@ -139,7 +144,7 @@ module _
 
     -- whether the box that was found is kept itself: it is one more then
     abbrev own : Bool
-    own = ahead_of mark found.spot.bound b.low
+    own = ahead_of mark (spot_in found).bound b.low
 
     own_is : own ≡ keep b
     own_is = ap (λ (x : ℕ). ahead_of mark x b.low) is.chosen.exact
@@ -172,7 +177,7 @@ module _
           picked_length (row_at h.late) (kept_at h.late h.beside mark) g.late,
           length-append far near,
           ap (λ (x : List Box). length x)
-              (boxes_are bound h.table h.bounds h.leasts h.places h.late h.beside g list listed mark made.fits),
+              (boxes_are bound h.table h.bounds h.blocks h.late h.beside g list listed mark made.fits),
         ))
 
     -- whether the table is too small
@@ -231,23 +236,26 @@ module _
           }
 
     -- there is no room, and nothing changed
-    pub step_full : (out : Replaced) (k : Memory) → ReplacedBy h g found br out k → out.full ≡ true
-        → StepOutcome cost bound h s (record { full = true; state = s }) k
+    pub step_full : (out : Option Listing) (k : Memory) → ReplacedBy h g found br out k → is_none out ≡ true
+        → StepOutcome cost bound h s None k
     step_full out k by so =
-        record { kept = λ e. (by.kept so).1; told = sym so ∙ (by.told ∙ room_told); moved = λ e. absurd (one_answer e) }
+        record {
+          kept = λ e. by.kept so;
+          told = sym so ∙ (by.told ∙ room_told);
+          moved = λ after e. absurd (one_answer (ap is_none e));
+        }
 
     -- the split is made
     pub step_done :
-        (out : Replaced) (k : Memory) → ReplacedBy h g found br out k → out.full ≡ false → Whole br.left.half → Whole
-        br.right.half →
-        rows < 1152921504606846976 → (count peak : ℕ) → count ≡ s.count + 1 → peak ≡ max s.peak out.list.number →
-        StepOutcome cost bound h s (record { full = false; state = record { mark = mark; list = out.list; count = count; peak = peak } }) k
-    step_done out k by so left right small count peak counts peaks =
+        (out : Option Listing) (k : Memory) → ReplacedBy h g found br out k → (n : Listing) → out ≡ Some n → Whole br.left.half →
+        Whole br.right.half → rows < 1152921504606846976 → (count peak : ℕ) → count ≡ s.count + 1 → peak ≡ max s.peak n.number →
+        StepOutcome cost bound h s (Some (record { mark = mark; list = n; count = count; peak = peak })) k
+    step_done out k by n so left right small count peak counts peaks =
+        let new : State = record { mark = mark; list = n; count = count; peak = peak } in
+        let moves : Moved cost bound h s new k =
+        step_moved n k (replaced bound h g found br (replaceable small) left right n k (by.made n so)) count peak counts peaks in
         record {
           kept = λ e. absurd (one_answer (sym e));
-          told = sym so ∙ (by.told ∙ room_told);
-          moved = λ e.
-              step_moved out.list k (replaced bound h g found br (replaceable small) left right out.list k (by.made so)) count peak
-              counts
-              peaks;
+          told = sym (ap is_none so) ∙ (by.told ∙ room_told);
+          moved = λ after e. subst (λ (x : State). Moved cost bound h s x k) (some_same new after e) moves;
         }

@@ -1,5 +1,5 @@
 -- What the functions behind a search say to each other of its state, and of the memory that holds its list (replacing/Replacing).
-use Rattle.std.specs.Prelude.{◌≡◌, true, false, List, map, ℕ, ◌*◌, ◌≤◌, ◌<◌, ltb, ℤ, length, take, drop}
+use Rattle.std.specs.Prelude.{Option, Some, is_none, ◌≡◌, true, List, map, ℕ, ◌*◌, ◌≤◌, ◌<◌, ltb, ℤ, length, take, drop}
 use Rattle.integers.specs.Lists.{All}
 use Rattle.boxes.specs.declared.Box.{Box}
 use Rattle.boxes.specs.Boxes.{volume}
@@ -8,12 +8,12 @@ use Rattle.certificate.specs.Search.{better, begin, split}
 use Rattle.incumbent.specs.Incumbent.{kept_by, Marks}
 use Rattle.list_rows.specs.Rows.{row_count, rows_of}
 use Rattle.list_open_boxes.specs.OpenBoxes.{room_in}
+use Rattle.list_blocks.specs.declared.Blocks.{Blocks}
 use Rattle.list_running.specs.declared.Found.{Found}
 use Rattle.replacing.specs.Replacing.{Memory, memory, list_in, box_found, HeldIn, ChosenIn, LateLong, Within}
 use Rattle.search.specs.declared.Kind.{Kind}
 use Rattle.search.specs.declared.Answer.{Answer}
 use Rattle.search.specs.declared.step.State.{State}
-use Rattle.search.specs.declared.step.Stepped.{Stepped}
 use Rattle.search.specs.declared.run.End.{End}
 use Rattle.search.specs.Search.{told}
 
@@ -50,18 +50,20 @@ pub record Moved (cost : List ℤ → ℕ) (bound : Box → ℕ) (h : Memory) (s
   pub within : Within s₂.peak h k
 
 -- What a step says: there is no room for the split and nothing changed, or the split is made.
-pub record StepOutcome (cost : List ℤ → ℕ) (bound : Box → ℕ) (h : Memory) (s : State) (r : Stepped) (k : Memory) : Type 0 where
-  pub kept : r.full ≡ true → k ≡ h
-  pub told : r.full ≡ ltb (row_count h.table) (length (split cost bound s.mark.t (state_in h s)).list)
-  pub moved : r.full ≡ false → Moved cost bound h s r.state k
+pub record StepOutcome (cost : List ℤ → ℕ) (bound : Box → ℕ) (h : Memory) (s : State) (r : Option State) (k : Memory) : Type 0 where
+  pub kept : is_none r ≡ true → k ≡ h
+  pub told : is_none r ≡ ltb (row_count h.table) (length (split cost bound s.mark.t (state_in h s)).list)
+  pub moved : (after : State) → r ≡ Some after → Moved cost bound h s after k
 
 -- The state s and the late rows and entries are those of the beginning, whatever the table, its entries and the blocks are.
 pub record Begun
     (cost : List ℤ → ℕ) (bound : Box → ℕ) (tol : ℕ) (start : List ℤ) (domain : Box) (s : State) (v : List ℤ) (f : List ℕ) : Type 0
   where
     pub tolerance : s.mark.t ≡ tol
-    pub stands : (t : List ℤ) (d l p : List ℕ) → length l ≡ 64 → length p ≡ 64 → Stands cost bound (memory t d l p v f) s
-    pub state : (t : List ℤ) (d l p : List ℕ) → state_in (memory t d l p v f) s ≡ begin cost bound tol start domain
+    pub stands :
+        (t : List ℤ) (d : List ℕ) (l : Blocks) → l.count ≡ 0 → length l.leasts ≡ 64 → length l.places ≡ 64 →
+        Stands cost bound (memory t d l v f) s
+    pub state : (t : List ℤ) (d : List ℕ) (l : Blocks) → state_in (memory t d l v f) s ≡ begin cost bound tol start domain
 
 -- an answer with a state and L
 abbrev pub answer_with : Kind → State → ℕ → Answer

@@ -11,7 +11,6 @@ use crate::run::run;
 use codes::Refusal;
 use eval_lanes::{Chunk, Lanes};
 use jobs::Job;
-use list_blocks::{Leasts, Places};
 use search_checks::check_search;
 
 // What a search comes to.
@@ -65,21 +64,7 @@ pub fn search(store: &[u8], job: Job, table: &mut [i16], bounds: &mut [u64]) -> 
             let chunk: Chunk = [column; 5];
             let mut lanes = [chunk; 54];
             eval_stores::decode(&mut lanes, store, m.d, scale::power(m.scale));
-            let mut leasts: Leasts = [0; 64];
-            let mut places: Places = [0; 64];
-            let mut late = [0i16; 2048];
-            let mut beside = [0u64; 128];
-            run(
-                store,
-                &lanes,
-                job,
-                table,
-                bounds,
-                &mut leasts,
-                &mut places,
-                &mut late,
-                &mut beside,
-            )
+            run(store, &lanes, job, table, bounds)
         }
         Err(why) => refusal(why),
     }

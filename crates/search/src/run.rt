@@ -15,15 +15,14 @@ use costs::NO_CAP;
 use eval_lanes::Chunk;
 use incumbent::{Mark, is_solved};
 use jobs::Job;
-use list_blocks::{GONE, Leasts, Places};
-use list_first_smallest::Lowest;
-use list_running::Listing;
+use list_blocks::Blocks;
+use list_running::{LateBoxes, Listing};
 
 // The best vector is the start vector. The given box is open if it is kept: it is late, and the table is not written.
-fn begin(store: &[u8], lanes: &[Chunk], job: Job, late: &mut [i16], beside: &mut [u64]) -> State
-    requires { Evaluable store.now lanes.now job.model × (length late.old ≡ 2048) × (length beside.old ≡ 128) }
+fn begin(store: &[u8], lanes: &[Chunk], job: Job, late: &mut LateBoxes) -> State
+    requires { Evaluable store.now lanes.now job.model × (length late.old.rows ≡ 2048) × (length late.old.bounds ≡ 128) }
     ensures { Begun (cost job.model (points_of store.now)) (bound job.model (points_of store.now)) job.t job.start
-        job.domain result late.new beside.new }
+        job.domain result late.new.rows late.new.bounds }
 {
     let m = job.model;
     let domain = job.domain;
@@ -34,15 +33,8 @@ fn begin(store: &[u8], lanes: &[Chunk], job: Job, late: &mut [i16], beside: &mut
         cost: c,
         best: start,
     };
-    let none = Listing {
-        rows: 0,
-        blocks: 0,
-        late: 0,
-        near: Lowest { at: 0, bound: GONE },
-        number: 0,
-    };
     let given = branching::tested(store, lanes, m, domain, mark);
-    let list = replacing::add(late, beside, none, given);
+    let list = replacing::add(late, Listing::of_rows(0), given);
     State {
         mark,
         list,
@@ -89,30 +81,26 @@ fn steps(
     job: Job,
     table: &mut [i16],
     bounds: &mut [u64],
-    leasts: &mut Leasts,
-    places: &mut Places,
-    late: &mut [i16],
-    beside: &mut [u64],
+    leasts: &mut Blocks,
+    late: &mut LateBoxes,
     first: State,
 ) -> End
     requires evaluable { Evaluable store.now lanes.now job.model × (1 ≤ row_count table.old) × (row_count table.old ≤ length bounds.old)
-        × InBox job.start job.domain × (length leasts.old ≡ 64) × (length places.old ≡ 64) }
+        × InBox job.start job.domain
+        × (leasts.old.count ≡ 0) × (length leasts.old.leasts ≡ 64) × (length leasts.old.places ≡ 64) }
     requires begun { Begun (cost job.model (points_of store.now)) (bound job.model (points_of store.now)) job.t job.start job.domain
-        first late.old beside.old }
+        first late.old.rows late.old.bounds }
     ensures { Ended (bound job.model (points_of store.now)) (searched store.now job (row_count table.old))
-        (memory table.old bounds.old leasts.old places.old late.old
-        beside.old) result (memory table.new bounds.new leasts.new places.new
-        late.new beside.new) }
+        (memory table.old bounds.old leasts.old late.old.rows late.old.bounds) result
+        (memory table.new bounds.new leasts.new late.new.rows late.new.bounds) }
 {
     let m = job.model;
     let mut s = first;
     loop {
         let mark = s.mark;
-        let list = s.list;
-        let found = list_running::lowest(leasts, places, list, mark.cost);
-        let spot = found.spot;
-        let low = spot.bound;
-        let solved = is_solved(job.t, mark.cost - low, list.number);
+        let found = s.list.lowest(leasts, mark.cost);
+        let low = found.bound();
+        let solved = is_solved(job.t, mark.cost - low, s.list.number);
         let spent = s.count == job.budget;
         if solved {
             return ended(Kind::Solved, low, s);
@@ -120,42 +108,41 @@ fn steps(
         if spent {
             return ended(Kind::Spent, low, s);
         }
-        let next = step(
-            store, lanes, m, table, bounds, leasts, places, late, beside, s, found,
-        );
-        if next.full {
-            return ended(Kind::Full, low, s);
+        match step(store, lanes, m, table, bounds, leasts, late, s, found) {
+            Some(after) => s = after,
+            None => return ended(Kind::Full, low, s),
         }
-        s = next.state;
     }
 }
 
 // From the beginning to the answer. In the end the open boxes are the first rows of the table.
-pub fn run(
-    store: &[u8],
-    lanes: &[Chunk],
-    job: Job,
-    table: &mut [i16],
-    bounds: &mut [u64],
-    leasts: &mut Leasts,
-    places: &mut Places,
-    late: &mut [i16],
-    beside: &mut [u64],
-) -> Answer
+pub fn run(store: &[u8], lanes: &[Chunk], job: Job, table: &mut [i16], bounds: &mut [u64]) -> Answer
     requires { Evaluable store.now lanes.now job.model × (1 ≤ row_count table.old) × (row_count table.old ≤ length bounds.old)
-        × InBox job.start job.domain × (length leasts.old ≡ 64) × (length places.old ≡ 64)
-        × (length late.old ≡ 2048) × (length beside.old ≡ 128) }
+        × InBox job.start job.domain }
     ensures { Ran (bound job.model (points_of store.now)) (searched store.now job (row_count table.old))
         table.old bounds.old result table.new bounds.new }
 {
-    let first = begin(store, lanes, job, late, beside);
+    let mut leasts = Blocks {
+        count: 0,
+        leasts: [0; 64],
+        places: [0; 64],
+    };
+    let mut late = LateBoxes {
+        rows: [0; 2048],
+        bounds: [0; 128],
+    };
+    let first = begin(store, lanes, job, &mut late);
     let end = steps(
-        store, lanes, job, table, bounds, leasts, places, late, beside, first,
+        store,
+        lanes,
+        job,
+        table,
+        bounds,
+        &mut leasts,
+        &mut late,
+        first,
     );
-    let kind = end.kind;
     let s = end.state;
-    let mark = s.mark;
-    let list = s.list;
-    list_running::settle(table, bounds, leasts, places, late, beside, list, mark);
-    answer(kind, s, end.low)
+    s.list.settle(table, bounds, &mut leasts, &late, s.mark);
+    answer(end.kind, s, end.low)
 }

@@ -18,7 +18,7 @@ returns c =
     let tested = c.tested-given.ensures.store c.requires.0 fits in
     let domain : Whole a.job.domain = record { low = search rules; high = search rules } in
     let whole : Whole c.tested-given.result.half = rw tested.half domain in
-    rw (c.add-list.ensures.list, c.add-list.ensures.late, c.add-list.ensures.beside)
+    rw (c.add-list.ensures.list, c.add-list.ensures.late, c.add-list.ensures.beside, c.of_rows.ensures)
     (begun (cost a.job.model (points_of a.store.now)) (bound a.job.model (points_of a.store.now)) a.job.t a.job.start
-    a.job.domain a.late.now a.beside.now c.cost_in-c.result c.tested-given.result exact fits tested c.requires.1
+    a.job.domain a.late.now.rows a.late.now.bounds c.cost_in-c.result c.tested-given.result exact fits tested c.requires.1
     c.requires.2 whole)

@@ -24,8 +24,8 @@ run_of store job h =
 abbrev pub invariant-loop-job : goal.invariant-loop-job
 invariant-loop-job l =
     let i = l.initial in
-    Going (run_of l.store l.job (memory i.table i.bounds i.leasts i.places i.late i.beside)) l.s
-    (memory l.table l.bounds l.leasts l.places l.late l.beside)
+    Going (run_of l.store l.job (memory i.table i.bounds i.leasts i.late.rows i.late.bounds)) l.s
+    (memory l.table l.bounds l.leasts l.late.rows l.late.bounds)
 
 abbrev pub decreases-loop-job : goal.decreases-loop-job
 decreases-loop-job l = l.job.budget - l.s.count
