@@ -10,7 +10,7 @@ ghost use Rattle.residuals.specs.Inside.{Ready};
 ghost use Rattle.beacon_costs.specs.BeaconCosts.{groups, partial_sums, total, check_by_beacon, cost_by_beacon, sums_after};
 ghost use Rattle.beacon_costs.specs.Inside.{ChunkSums};
 
-use codes::{Refusal, in_order};
+use codes::Refusal;
 use eval_kernel::Coordinates;
 use eval_lanes::{Chunk, Lanes};
 use jobs::Model;
@@ -23,6 +23,7 @@ fn group_count(bytes: usize) -> usize
 }
 
 // The sums of the four groups of a chunk, of which g is one: they are found where g is the first, and are else those from before.
+#[tactic(auto, using(crate::proofs::Chunks::chunk_sums))]
 fn chunk_sums(
     chunk: &mut Chunk,
     store: &[u8],
@@ -57,14 +58,12 @@ fn write_sums(store: &[u8], m: Model, v: [i16; 8], sums: &mut [u64]) -> u64
     let mut chunk: Chunk = [column; 5];
     let mut four: [u64; 4] = [0; 4];
     let count = group_count(store.len());
-    let mut total: u64 = 0;
-    let mut g: usize = 0;
-    while g < count {
+    let mut total = 0;
+    for g in 0..count {
         four = chunk_sums(&mut chunk, store, m, &w, power, g, four);
         let sum = four[g % 4];
         sums[g] = sum;
-        total = total + sum;
-        g += 1;
+        total += sum;
     }
     total
 }
@@ -81,22 +80,20 @@ fn check_room(bytes: usize, entries: usize) -> Result<(), Refusal>
 }
 
 // The checks of a call with a threshold, and then check 10.
+#[tactic(auto, using(crate::proofs::Writing::group_number), unfolding(crate::specs::BeaconCosts::check_by_beacon, codes::specs::Codes::in_order))]
 fn check_by_beacon(store: &[u8], m: Model, v: [i16; 8], entries: usize) -> Result<(), Refusal>
     ensures { result ≡ check_by_beacon store.now m v entries }
 {
-    in_order(
-        model_checks::check_threshold(store, m, v),
-        check_room(store.len(), entries),
-    )
+    model_checks::check_threshold(store, m, v)?;
+    check_room(store.len(), entries)
 }
 
 // The cost of each group into the front of a lent list; the answer is the total. Nothing is written before all checks have passed.
+#[tactic(auto, using(crate::proofs::Passed::all_ready, crate::proofs::Passed::picked, crate::proofs::Passed::room), unfolding(crate::specs::BeaconCosts::cost_by_beacon, crate::specs::BeaconCosts::sums_after))]
 pub fn cost_by_beacon(store: &[u8], m: Model, v: [i16; 8], sums: &mut [u64]) -> Result<u64, Refusal>
     ensures answer { result ≡ cost_by_beacon store.now m v sums.old }
     ensures sums { sums.new ≡ sums_after store.now m v sums.old }
 {
-    match check_by_beacon(store, m, v, sums.len()) {
-        Ok(()) => Ok(write_sums(store, m, v, sums)),
-        Err(r) => Err(r),
-    }
+    check_by_beacon(store, m, v, sums.len())?;
+    Ok(write_sums(store, m, v, sums))
 }

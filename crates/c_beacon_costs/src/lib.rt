@@ -9,6 +9,7 @@ use c_boundary::{WRONG_LENGTH, model_of, settle};
 use c_buffers::vector_of;
 
 // The cost of each group of 19 records into the front of `sums`; the value is the total.
+#[tactic(auto, using(c_buffers::proofs::Buffers::vector_from_lem))]
 pub fn cost_by_beacon(
     store: &[u8],
     n: u8,

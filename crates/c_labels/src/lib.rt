@@ -9,6 +9,7 @@ use c_boundary::{WRONG_LENGTH, model_of, settle};
 use c_buffers::vector_of;
 
 // One label a point into the front of `labels`; the value is their number.
+#[tactic(auto, using(c_buffers::proofs::Buffers::vector_from_lem))]
 pub fn labels(
     store: &[u8],
     n: u8,
