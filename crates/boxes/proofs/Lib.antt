@@ -7,3 +7,5 @@ pub mod Halving
 pub mod Grid
 pub mod Checks
 pub mod Splitting
+pub mod HalfSum
+pub mod CutSide

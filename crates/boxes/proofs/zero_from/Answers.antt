@@ -1,22 +1,15 @@
--- Past a coordinate that is 0 the others decide, and one that is not decides.
-use Rattle.std.proofs.Common.{◌∙◌, sym, arith, get_or}
-use lib.IntN.{pos}
-use mir.Val.{SFits}
-use mir.Syntax.{w16}
-use Rattle.integers.proofs.Signed.{bits_zero, zero_bits}
-use Rattle.integers.proofs.Zeros.{zero_past, zero_next, zero_none}
+-- All coordinates are gone through behind the k that are skipped.
+use Rattle.std.proofs.Common.{◌≡◌, pos, drop, rules}
+use Rattle.std.proofs.lemmas.Iterator.{YieldsList-from_slice, cases_from_all}
+use Rattle.std.proofs.lemmas.Iterator.Adapters.{YieldsList-from_skip}
+use Rattle.boxes.proofs.Coordinates.{zeros_are}
 use Rattle.boxes.proofs.zero_from.Goals as goal
-
-pub returns-then-v-i-ne0 : goal.returns-then-v-i-ne0
-returns-then-v-i-ne0 c =
-    let x = get_or c.args.v.now c.loop-i.i (pos 0) in
-    sym (c.loop-i.invariant ∙ zero_none c.args.v.now c.loop-i.i (omega arith) (λ e. c.if-v-i-ne0.true (zero_bits x e)))
-
-pub loop-i-preserved : goal.loop-i-preserved
-loop-i-preserved c =
-    let x = get_or c.args.v.now c.loop-i.i (pos 0) in
-    let fits : SFits w16 x = record { sfits = c.t7-1.given } in
-    c.loop-i.invariant ∙ zero_next c.args.v.now c.loop-i.i (omega arith) (bits_zero x fits c.if-v-i-ne0.false)
+use borrow.Author.Tests.{tests}
 
 pub returns : goal.returns
-returns c = sym (c.loop-i.invariant ∙ zero_past c.args.v.now c.loop-i.i (omega arith))
+returns c =
+    zeros_are (drop c.args.k c.args.v.now) c.all.result
+    (cases_from_all _ _ _ (λ x. x ≡ pos 0) (λ x. x ≡ pos 0 → ⊥) c.all.ensures.ran
+    (YieldsList-from_skip c.args.k (YieldsList-from_slice c.args.v.now cc) cc)
+    (λ x q k. search (rules, tests))
+    (λ x q k. search (rules, tests)))
