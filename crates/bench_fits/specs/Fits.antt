@@ -1,6 +1,5 @@
 -- What a bench fit can say of the definitions.
-use Rattle.codes.specs.Codes.{pass}
-use Rattle.std.specs.Prelude.{List, [], ◌∷◌, ◌++◌, ◌≡◌, ℕ, ◌-◌, ℤ, pos, nat_abs, length, replicate}
+use Rattle.std.specs.Prelude.{List, [], ◌∷◌, ◌++◌, ◌≡◌, ℕ, ◌-◌, ℤ, pos, nat_abs, length, replicate, Ok}
 use Prim.Native.String.{String}
 use Rattle.boxes.specs.declared.Box.{Box}
 use Rattle.boxes.specs.Split.{split_answer}
@@ -44,7 +43,7 @@ Holds (residual_is m v q e) = residual m v q 0 ≡ e
 Holds (loss_is p ε e value) = loss_of p ε (nat_abs e) ≡ value
 Holds (label_is m v q value) = label m v q ≡ value
 Holds (least_size_is m B q value) = least_size m B q 0 ≡ value
-Holds (splits_into n d B first second) = split_answer n d B ≡ record { check = pass; left = first; right = second }
+Holds (splits_into n d B first second) = split_answer n d B ≡ Ok (record { left = first; right = second })
 Holds (fit_writes job ys line) = fit_line (job_bytes job ++ store ys) ≡ ascii line ++ byte 10
 Holds (pattern_is S w bits) = pattern_of S w ≡ bits
 

@@ -7,11 +7,10 @@ use Prim.Native.Nat.{ℕ, ◌≤◌, ◌<◌, min}
 use native.Mathlib.Omega.{arith}
 use lib.Dec.{T, T_not}
 use lib.IntN.{ℤ}
-use Rattle.codes.specs.Codes.{pass}
 use Rattle.boxes.specs.declared.Box.{Box}
 use Rattle.boxes.specs.declared.Halves.{Halves}
 use Rattle.boxes.specs.Boxes.{volume}
-use Rattle.boxes.specs.Split.{left_half, right_half, halves_unless_refused}
+use Rattle.boxes.specs.Split.{left_half, right_half}
 use Rattle.boxes.specs.Laws.{Bounds}
 use Rattle.boxes.proofs.Volume.{low_in}
 use Rattle.boxes.proofs.Halving.{halved}
@@ -91,7 +90,7 @@ module _ (cost : List ℤ → ℕ) (bound : Box → ℕ) (laws : Bounds cost bou
 
   -- step by step, as the code finds them
   pub cut_whole :
-      (h : Halves) (top : ℕ) (x : HalfBounds) (given test stays : Bool) (one new : Mark) (left right : Child) → h ≡ halves_unless_refused pass b →
+      (h : Halves) (top : ℕ) (x : HalfBounds) (given test stays : Bool) (one new : Mark) (left right : Child) → h ≡ record { left = left_half b; right = right_half b } →
       top ≡ cap →
       (h.left ≡ left_half b → h.right ≡ right_half b → x ≡ bounds_up_to bound h.left h.right top) →
       ((given ≡ false → better cost t v h.left.low ≡ v) → Tried mark h.left.low one) →

@@ -17,7 +17,7 @@ use Rattle.incumbent.specs.declared.Mark.{Mark}
 use Rattle.incumbent.specs.Incumbent.{ahead_of, child_of}
 use Rattle.branching.specs.declared.HalfBounds.{HalfBounds}
 use Rattle.branching.specs.declared.Branches.{Branches}
-use Rattle.branching.specs.Branching.{just_above, cut_line, side_by_side, half_sum_in, half_bounds_in, tried_in, cut_in}
+use Rattle.branching.specs.Branching.{just_above, cut_line, side_by_side, half_sum_in, half_bounds_in, tried_in, halves_of, cut_in}
 
 -- side by side the line that is cut is one of the n, and bounds are sums
 pub cut_inside : (m : Model) (line : ℕ) → side_by_side m line ≡ true → (m.p < 3) × (line < m.n)
@@ -60,7 +60,7 @@ module _ (store : List ℕ) (lanes : List (List (List Float))) (m : Model) where
     leaves is = rw (costed, sym decides ∙ is)
 
   pub cut_lanes :
-      (b : Box) (mark : Mark) (given test stays : Bool) (h : Halves) (cap : ℕ) (x : HalfBounds) (one new : Mark) (l r : Child) → h ≡ cut_answer b →
+      (b : Box) (mark : Mark) (given test stays : Bool) (h : Halves) (cap : ℕ) (x : HalfBounds) (one new : Mark) (l r : Child) → h ≡ halves_of (cut_answer b) →
       cap ≡ just_above mark.cost → x ≡ half_bounds_in store lanes m b h.left h.right cap →
       one ≡ tried_in store lanes m mark h.left.low given → test ≡ ahead_of mark x.right h.right.low →
       new ≡ tried_in store lanes m one h.right.low test → stays ≡ not (ahead_of mark new.cost new.best) → l ≡ child_of h.left x.left new → r ≡ child_of h.right x.right new →

@@ -1,9 +1,11 @@
 -- A box is cut: what is found over lanes, by the numbers in them, and of a store's own lanes by its points. These definitions say what this
 -- crate's functions do; the contract of a search does not rest on them, and a reader of that need not believe them.
 use Rattle.codes.specs.Codes.{pass}
-use Rattle.std.specs.Prelude.{◌≡◌, Bool, true, cond, not, ◌&&◌, List, ℕ, ◌+◌, ◌/◌, ◌<◌, min, ltb, eqb, ℤ, Float}
+use Rattle.std.specs.Prelude.{◌≡◌, Bool, true, cond, not, ◌&&◌, List, ℕ, ◌+◌, ◌/◌, ◌<◌, min, ltb, eqb, ℤ, Float, Result, Ok, Err}
+use Rattle.codes.specs.declared.Refusal.{Refusal}
 use Rattle.boxes.specs.declared.Box.{Box}
-use Rattle.boxes.specs.Split.{longest_side, left_half, right_half, cut_answer}
+use Rattle.boxes.specs.declared.Halves.{Halves}
+use Rattle.boxes.specs.Split.{longest_side, left_half, right_half, zero_box, cut_answer}
 use Rattle.jobs.specs.declared.Model.{Model}
 use Rattle.integers.specs.Sums.{sum_of}
 use Rattle.residuals.specs.Inside.{box_of}
@@ -39,6 +41,11 @@ side_by_side m line = ltb m.p 3 && ltb 1 m.n && ltb line m.n
 abbrev pub bounds_up_to : (Box → ℕ) → Box → Box → ℕ → HalfBounds
 bounds_up_to bound left right cap = record { left = min (bound left) cap; right = min (bound right) cap }
 
+-- the two halves that a cut gives; of a box of one vector, which no search cuts, nothing but zeros
+abbrev pub halves_of : Result Halves Refusal → Halves
+halves_of (Ok h) = h
+halves_of (Err r) = record { left = zero_box; right = zero_box }
+
 module _ (store : List ℕ) (lanes : List (List (List Float))) (m : Model) where
   -- the losses over a half of the box from `left` to `right`, whose line c is cut, added up
   abbrev pub half_sum_in : Box → Box → Box → ℕ → ℕ → ℕ
@@ -65,7 +72,7 @@ module _ (store : List ℕ) (lanes : List (List (List Float))) (m : Model) where
   -- what a box that is cut leaves
   unfoldable pub cut_in : Box → Mark → Bool → Branches
   cut_in b mark given =
-      let h = cut_answer b in
+      let h = halves_of (cut_answer b) in
       let x = half_bounds_in b h.left h.right (just_above mark.cost) in
       let one = tried_in mark h.left.low given in
       let new = tried_in one h.right.low (ahead_of mark x.right h.right.low) in

@@ -10,7 +10,7 @@ ghost use Rattle.certificate.specs.Search.{better};
 ghost use Rattle.incumbent.specs.Incumbent.{kept_by, mark_of, Marks, Tested};
 ghost use Rattle.branching.specs.Branching.{Evaluable, just_above, cut_line, side_by_side, half_bounds_in, bounds_up_to, tested_in, tried_in, cut_in, Cut};
 
-use boxes::Box;
+use boxes::{Box, Halves};
 use eval_lanes::Chunk;
 use incumbent::{Child, Mark, ahead, child_of};
 use jobs::Model;
@@ -30,6 +30,18 @@ pub struct Branches {
     pub left: Child,
     pub right: Child,
 }
+
+// What a box of one vector is cut into, which no search cuts: nothing but zeros.
+const NO_HALVES: Halves = Halves {
+    left: Box {
+        low: [0; 8],
+        high: [0; 8],
+    },
+    right: Box {
+        low: [0; 8],
+        high: [0; 8],
+    },
+};
 
 // Up to here a cost or a bound is found: one more than C decides as much as the whole one.
 pub fn just_above(c: u64) -> u64
@@ -138,25 +150,14 @@ pub fn cut_box(store: &[u8], lanes: &[Chunk], m: Model, b: Box, mark: Mark, give
         (given ≡ false → better (cost m (points_of store.now)) mark.t mark.best b.low ≡ mark.best) →
         Cut (cost m (points_of store.now)) (bound m (points_of store.now)) b mark result }
 {
-    let cut = boxes::cut(b);
-    let left = cut.left;
-    let right = cut.right;
-    let left_low = left.low;
-    let right_low = right.low;
+    let Halves { left, right } = boxes::cut(b).unwrap_or(NO_HALVES);
     let found = half_bounds(store, lanes, m, b, left, right, just_above(mark.cost));
-    let one = tried(store, lanes, m, mark, left_low, given);
-    let new = tried(
-        store,
-        lanes,
-        m,
-        one,
-        right_low,
-        ahead(mark, found.right, right_low),
-    );
-    let best = new.best;
+    let one = tried(store, lanes, m, mark, left.low, given);
+    let asked = ahead(mark, found.right, right.low);
+    let new = tried(store, lanes, m, one, right.low, asked);
     Branches {
         mark: new,
-        stays: !ahead(mark, new.cost, best),
+        stays: !ahead(mark, new.cost, new.best),
         left: child_of(left, found.left, new),
         right: child_of(right, found.right, new),
     }
