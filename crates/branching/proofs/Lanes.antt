@@ -9,7 +9,10 @@ use lib.IntN.{ℤ}
 use lib.Ieee.{Float}
 use Rattle.boxes.specs.declared.Box.{Box}
 use Rattle.boxes.specs.declared.Halves.{Halves}
-use Rattle.boxes.specs.Split.{cut_answer}
+use Rattle.boxes.specs.Split.{zero_box, cut_answer}
+use Rattle.codes.specs.declared.Refusal.{Refusal}
+use Rattle.std.specs.Prelude.{Result, Ok, Err}
+use Rattle.std.specs.Result.{result_unwrap_or}
 use Rattle.jobs.specs.declared.Model.{Model}
 use Rattle.costs.specs.Calls.{cost_in, bound_in}
 use Rattle.incumbent.specs.declared.Child.{Child}
@@ -18,6 +21,11 @@ use Rattle.incumbent.specs.Incumbent.{ahead_of, child_of}
 use Rattle.branching.specs.declared.HalfBounds.{HalfBounds}
 use Rattle.branching.specs.declared.Branches.{Branches}
 use Rattle.branching.specs.Branching.{just_above, cut_line, side_by_side, half_sum_in, half_bounds_in, tried_in, halves_of, cut_in}
+
+-- the halves, or zeros, as they are taken out of what a cut gives
+pub unwrapped : (r : Result Halves Refusal) → result_unwrap_or r (record { left = zero_box; right = zero_box }) ≡ halves_of r
+unwrapped (Ok h) = refl
+unwrapped (Err e) = refl
 
 -- side by side the line that is cut is one of the n, and bounds are sums
 pub cut_inside : (m : Model) (line : ℕ) → side_by_side m line ≡ true → (m.p < 3) × (line < m.n)

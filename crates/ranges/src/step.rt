@@ -7,7 +7,7 @@ ghost use Rattle.range_hulls.specs.Hulls.{found_of};
 ghost use Rattle.branching.specs.Branching.{Evaluable};
 ghost use Rattle.ranges.specs.Inside.{tested_by, pushed, Steppable, StepOutcome};
 
-use boxes::Box;
+use boxes::{Box, Halves};
 use branching::{half_bounds, just_above};
 use eval_lanes::Chunk;
 use jobs::Model;
@@ -91,9 +91,7 @@ pub fn step(
     let hull = s.hull;
     let at = s.open - 1;
     let b = list_rows::read_row(table, at);
-    let cut = boxes::cut(b);
-    let left = cut.left;
-    let right = cut.right;
+    let Halves { left, right } = boxes::cut(b).unwrap();
     let bounds = half_bounds(store, lanes, m, b, left, right, just_above(ceiling));
     let first = test(left, bounds.left, ceiling);
     let second = test(right, bounds.right, ceiling);
