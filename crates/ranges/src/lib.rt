@@ -38,12 +38,12 @@ pub struct Answer {
 }
 
 // Checks 1 to 8, with a table of so many numbers.
+#[tactic(auto, unfolding(crate::specs::Ranges::check_ranges, codes::specs::Codes::in_order))]
 pub fn check_ranges(store: &[u8], job: Job, numbers: usize) -> Result<(), Refusal>
     ensures { result ≡ check_ranges store.now job numbers }
 {
-    let given = search_checks::check_job(store, job);
-    let table = search_checks::check_table(numbers);
-    codes::in_order(given, table)
+    search_checks::check_job(store, job)?;
+    search_checks::check_table(numbers)
 }
 
 fn refusal(why: Refusal) -> Answer
