@@ -10,7 +10,7 @@ use Rattle.job_records.specs.Laws.{IsJob}
 use Rattle.window_runs.specs.Inside.{Turn}
 use Rattle.window_checks.specs.Checks.{window_count}
 use Rattle.window_runs.specs.Windows.{check_pass}
-use Rattle.windows.proofs.Typed.{is_job}
+use Rattle.job_records.proofs.Typed.{is_job}
 use Rattle.window_checks.proofs.Passed.{given, records_few, room_given, window_there}
 use Rattle.window_runs.proofs.Windowing.{window_lent}
 use Rattle.window_runs.proofs.Passing.{out_long, first_turn, next_turn, turn_accepted}

@@ -1,5 +1,5 @@
 -- The answer of an accepted job has a record that check 9 lets through, so that it is written.
-use Rattle.windows.proofs.Typed.{is_job}
+use Rattle.job_records.proofs.Typed.{is_job}
 use Rattle.window_runs.proofs.Passing.{alone}
 use borrow.Author.Rules.{rules}
 use Rattle.windows.proofs.window.Statement.{statement}

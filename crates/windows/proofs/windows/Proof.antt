@@ -7,7 +7,7 @@ use Rattle.window_checks.specs.Checks.{window_count}
 use Rattle.window_checks.proofs.Passed.{value_passed, refusal_refused}
 use Rattle.window_runs.specs.Windows.{check_pass}
 use Rattle.window_runs.proofs.Passing.{promised_pass, promised_refused}
-use Rattle.windows.proofs.Typed.{is_job}
+use Rattle.job_records.proofs.Typed.{is_job}
 use borrow.Author.Rules.{rules}
 use Rattle.windows.proofs.windows.Statement.{statement}
 use Rattle.windows.proofs.windows.Tie as tie
