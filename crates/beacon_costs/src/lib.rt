@@ -41,7 +41,7 @@ fn chunk_sums(
         return before;
     }
     eval_columns::decode_chunk(chunk, store, (g / 4) as u8, m.d, power);
-    eval_kernel::group_losses(chunk, w, w, m, false)
+    eval_kernel::group_losses::<false>(chunk, w, w, m)
 }
 
 // The sums into the front of the list, and their total.

@@ -55,6 +55,7 @@ impl Span {
             least: y,
             opposite: -y,
         };
+        // The first D places of three arrays: a zip of them is no plainer.
         for c in 0..D.min(4) {
             e = e.narrowed(self.low[c], self.high[c], x[c]);
         }

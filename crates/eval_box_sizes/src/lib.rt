@@ -16,9 +16,9 @@ fn lessen<const D: usize>(least: &mut Lanes, s: &Chunk, over: Span)
     requires { D ≤ 4 }
     ensures { Lessened least.old least.new (over_line s.now over D) }
 {
-    for i in 0..80 {
+    for (i, m) in least.iter_mut().enumerate() {
         let x = [s[0][i], s[1][i], s[2][i], s[3][i]];
-        least[i] = smaller(least[i], over.ends::<D>(s[4][i], x).size());
+        *m = smaller(*m, over.ends::<D>(s[4][i], x).size());
     }
 }
 

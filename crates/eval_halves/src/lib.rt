@@ -11,10 +11,9 @@ use boxes::Box;
 use eval_kernel::{Coordinates, lessen_line};
 use eval_lanes::{Chunk, Lanes};
 use jobs::Model;
-use numbers::least;
 
 // The sum of losses over each half.
-#[derive(Clone, Copy)]
+#[derive(Clone, Copy, Debug, PartialEq, Eq)]
 pub struct Sums {
     pub left: u64,
     pub right: u64,
@@ -35,7 +34,7 @@ fn lessen_others(
 {
     for j in 0..n {
         if j != c {
-            lessen_line(sizes, s, low, high, j, d, true);
+            lessen_line::<true>(sizes, s, low, high, j, d);
         }
     }
 }
@@ -60,8 +59,8 @@ fn chunk_losses(
     let mut left: Lanes = [eval_kernel::no_size(); 80];
     lessen_others(&mut left, s, low, high, m.n, m.d, c);
     let mut right = left;
-    lessen_line(&mut left, s, low, middle, c, m.d, true);
-    lessen_line(&mut right, s, next, high, c, m.d, true);
+    lessen_line::<true>(&mut left, s, low, middle, c, m.d);
+    lessen_line::<true>(&mut right, s, next, high, c, m.d);
     Sums {
         left: eval_losses::total(&mut left, m.p, m.eps),
         right: eval_losses::total(&mut right, m.p, m.eps),
@@ -82,32 +81,26 @@ pub fn sums_up_to(
     ensures left { HalfSum store.now lanes.now m (box_of left.low right.high) left c cap result.left }
     ensures right { HalfSum store.now lanes.now m (box_of left.low right.high) right c cap result.right }
 {
-    let left_low = left.low;
-    let left_high = left.high;
-    let right_low = right.low;
-    let right_high = right.high;
-    let low = eval_kernel::coordinates(left_low);
-    let middle = eval_kernel::coordinates(left_high);
-    let next = eval_kernel::coordinates(right_low);
-    let high = eval_kernel::coordinates(right_high);
+    let low = eval_kernel::coordinates(left.low);
+    let middle = eval_kernel::coordinates(left.high);
+    let next = eval_kernel::coordinates(right.low);
+    let high = eval_kernel::coordinates(right.high);
     let count = eval_columns::chunk_count(store.len(), lanes.len());
     let mut left_sum: u64 = 0;
     let mut right_sum: u64 = 0;
-    let mut t: usize = 0;
-    while t < count {
+    for chunk in &lanes[..count] {
         if cap <= left_sum && cap <= right_sum {
             return Sums {
                 left: cap,
                 right: cap,
             };
         }
-        let more = chunk_losses(&lanes[t], &low, &middle, &next, &high, m, c);
-        left_sum = left_sum + more.left;
-        right_sum = right_sum + more.right;
-        t += 1;
+        let more = chunk_losses(chunk, &low, &middle, &next, &high, m, c);
+        left_sum += more.left;
+        right_sum += more.right;
     }
     Sums {
-        left: least(left_sum, cap),
-        right: least(right_sum, cap),
+        left: left_sum.min(cap),
+        right: right_sum.min(cap),
     }
 }

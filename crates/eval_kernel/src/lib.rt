@@ -28,9 +28,8 @@ pub fn coordinates(v: [i16; 8]) -> Coordinates
     ensures whole { Doubles v result }
 {
     let mut u: Coordinates = [0.0; 12];
-    // By places: of a zip over `iter_mut` the loop's facts do not name what is written already.
-    for i in 0..8 {
-        u[i] = double(v[i]);
+    for (i, w) in v.iter().enumerate() {
+        u[i] = double(*w);
     }
     u
 }
@@ -50,21 +49,21 @@ fn line(u: &Coordinates, b: usize) -> [f64; 4]
     [u[b], u[b + 1], u[b + 2], u[b + 3]]
 }
 
-// Each lane becomes the smaller of itself and the size of its point under line j.
-pub fn lessen_line(
+// Each lane becomes the smaller of itself and the size of its point under line j: the least size
+// over the box from `low` to `high`, or under the vector `low`.
+pub fn lessen_line<const OVER: bool>(
     least: &mut Lanes,
     s: &Chunk,
     low: &Coordinates,
     high: &Coordinates,
     j: u8,
     d: u8,
-    over: bool,
 )
     ensures { Lessened least.old least.new
-        (size_by over s.now low.now high.now d (min (j * d) 8)) }
+        (size_by OVER s.now low.now high.now d (min (j * d) 8)) }
 {
     let b = place(j, d);
-    if over {
+    if OVER {
         let span = Span {
             low: line(low, b),
             high: line(high, b),
@@ -76,19 +75,18 @@ pub fn lessen_line(
 }
 
 // And under all n lines.
-pub fn lessen_all(
+pub fn lessen_all<const OVER: bool>(
     least: &mut Lanes,
     s: &Chunk,
     low: &Coordinates,
     high: &Coordinates,
     n: u8,
     d: u8,
-    over: bool,
 )
-    ensures { LeastOf over s.now low.now high.now d n least.old least.new }
+    ensures { LeastOf OVER s.now low.now high.now d n least.old least.new }
 {
     for j in 0..n {
-        lessen_line(least, s, low, high, j, d, over);
+        lessen_line::<OVER>(least, s, low, high, j, d);
     }
 }
 
@@ -104,27 +102,31 @@ pub fn no_size() -> f64
 }
 
 // The losses of a chunk's points, added up by groups: under the vector `low`, or over the box from `low` to `high`.
-pub fn group_losses(
+pub fn group_losses<const OVER: bool>(
     s: &Chunk,
     low: &Coordinates,
     high: &Coordinates,
     m: Model,
-    over: bool,
 ) -> [u64; 4]
-    ensures { result ≡ group_losses over s.now low.now high.now m }
+    ensures { result ≡ group_losses OVER s.now low.now high.now m }
 {
     let mut sizes: Lanes = [no_size(); 80];
-    lessen_all(&mut sizes, s, low, high, m.n, m.d, over);
+    lessen_all::<OVER>(&mut sizes, s, low, high, m.n, m.d);
     eval_losses::lose(&mut sizes, m.p, m.eps);
     eval_losses::group_sums(&sizes)
 }
 
 // All of them added up, without the four sums in between.
-pub fn chunk_loss(s: &Chunk, low: &Coordinates, high: &Coordinates, m: Model, over: bool) -> u64
-    ensures value { result ≡ chunk_loss over s.now low.now high.now m }
+pub fn chunk_loss<const OVER: bool>(
+    s: &Chunk,
+    low: &Coordinates,
+    high: &Coordinates,
+    m: Model,
+) -> u64
+    ensures value { result ≡ chunk_loss OVER s.now low.now high.now m }
     ensures small { result < 36028797018963968 }
 {
     let mut least: Lanes = [no_size(); 80];
-    lessen_all(&mut least, s, low, high, m.n, m.d, over);
+    lessen_all::<OVER>(&mut least, s, low, high, m.n, m.d);
     eval_losses::total(&mut least, m.p, m.eps)
 }

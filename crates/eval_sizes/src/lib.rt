@@ -15,6 +15,7 @@ fn size<const D: usize>(s: &Chunk, i: usize, w: [f64; 4]) -> f64
     ensures { result ≡ size_in s.now (lane w) D i }
 {
     let mut e = s[4][i];
+    // The first D places of three arrays: a zip of them is no plainer.
     for c in 0..D {
         e = e - w[c] * s[c][i];
     }
@@ -28,8 +29,8 @@ fn lessen<const D: usize>(least: &mut Lanes, s: &Chunk, w: [f64; 4])
     requires { D ≤ 4 }
     ensures { Lessened least.old least.new (size_in s.now (lane w) D) }
 {
-    for i in 0..80 {
-        least[i] = smaller(least[i], size::<D>(s, i, w));
+    for (i, m) in least.iter_mut().enumerate() {
+        *m = smaller(*m, size::<D>(s, i, w));
     }
 }
 

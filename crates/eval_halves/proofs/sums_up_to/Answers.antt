@@ -1,5 +1,5 @@
 -- Where both sums have reached the cap, the chunks that are left change nothing up to it; past the last chunk the sums are whole.
-use Rattle.std.proofs.Common.{◌≡◌, ◌∙◌, ◌≤◌, ℕ, List, [], refl, ap, arith, get_or}
+use Rattle.std.proofs.Common.{◌≡◌, ◌∙◌, ◌≤◌, ℕ, List, [], refl, ap, arith, get_or, length, take, length-take-le, get_or-take}
 use Prim.Native.Nat.{min}
 use lib.IntN.{ℤ}
 use lib.Ieee.{Float}
@@ -21,56 +21,69 @@ losses lanes low high u w m c i = half_loss (get_or lanes i []) low high u w m c
 both : (v : List ℤ) (u : List Float) → u ≡ doubles v → Doubles v u → (u ≡ doubles v) × Doubles v u
 both v u is whole = (is, whole)
 
-pub loop-t-init : goal.loop-t-init
+-- the chunks that are gone through
+front : (n : ℕ) (lanes : List (List (List Float))) → n ≤ length lanes → length (take n lanes) ≡ n
+front n lanes h = length-take-le n lanes h
+
+pub loop-chunk-init : goal.loop-chunk-init
 unfolding sum_of
-loop-t-init c = record { few = omega arith; left_small = omega arith; right_small = omega arith; left_is = refl; right_is = refl }
+loop-chunk-init c = record { left_small = omega arith; right_small = omega arith; left_is = refl; right_is = refl }
 
 pub returns-then-cap-right_sum-clause-left : goal.returns-then-cap-right_sum-clause-left
 returns-then-cap-right_sum-clause-left c =
     let a = c.args in
     let n = decoded_chunks a.store.now a.lanes.now in
-    let few : c.loop-t.t ≤ n = omega (arith, c.chunk_count-count.ensures) in
+    let part = front c.chunk_count-count.result a.lanes.now (omega (arith, c.chunk_count-count.ensures)) in
+    let few : c.loop-chunk.chunk-index ≤ n = omega (arith, c.chunk_count-count.ensures) in
     let f = losses a.lanes.now c.coordinates-low.result c.coordinates-high.result c.coordinates-low.result c.coordinates-middle.result a.m a.c in
     half_sum a.store.now a.lanes.now a.m (box_of a.left.low a.right.high) a.left a.c _ _ _ _ (both _ _ c.coordinates-low.ensures.value c.coordinates-low.ensures.whole) (both _ _ c.coordinates-high.ensures.value c.coordinates-high.ensures.whole) (both _ _ c.coordinates-low.ensures.value c.coordinates-low.ensures.whole) (both _ _ c.coordinates-middle.ensures.value c.coordinates-middle.ensures.whole) a.cap _
-    (cap_stays f c.loop-t.t n a.cap few (omega (arith, c.if-cap-left_sum.true, c.loop-t.invariant.left_is)))
+    (cap_stays f c.loop-chunk.chunk-index n a.cap few (omega (arith, c.if-cap-left_sum.true, c.loop-chunk.invariant.left_is)))
 
 pub returns-then-cap-right_sum-clause-right : goal.returns-then-cap-right_sum-clause-right
 returns-then-cap-right_sum-clause-right c =
     let a = c.args in
     let n = decoded_chunks a.store.now a.lanes.now in
-    let few : c.loop-t.t ≤ n = omega (arith, c.chunk_count-count.ensures) in
+    let part = front c.chunk_count-count.result a.lanes.now (omega (arith, c.chunk_count-count.ensures)) in
+    let few : c.loop-chunk.chunk-index ≤ n = omega (arith, c.chunk_count-count.ensures) in
     let f = losses a.lanes.now c.coordinates-low.result c.coordinates-high.result c.coordinates-next.result c.coordinates-high.result a.m a.c in
     half_sum a.store.now a.lanes.now a.m (box_of a.left.low a.right.high) a.right a.c _ _ _ _ (both _ _ c.coordinates-low.ensures.value c.coordinates-low.ensures.whole) (both _ _ c.coordinates-high.ensures.value c.coordinates-high.ensures.whole) (both _ _ c.coordinates-next.ensures.value c.coordinates-next.ensures.whole) (both _ _ c.coordinates-high.ensures.value c.coordinates-high.ensures.whole) a.cap _
-    (cap_stays f c.loop-t.t n a.cap few (omega (arith, c.if-cap-right_sum.true, c.loop-t.invariant.right_is)))
+    (cap_stays f c.loop-chunk.chunk-index n a.cap few (omega (arith, c.if-cap-right_sum.true, c.loop-chunk.invariant.right_is)))
 
-pub loop-t-preserved : goal.loop-t-preserved
-loop-t-preserved c =
+pub loop-chunk-preserved : goal.loop-chunk-preserved
+loop-chunk-preserved c =
     let a = c.args in
     let f = losses a.lanes.now c.coordinates-low.result c.coordinates-high.result c.coordinates-low.result c.coordinates-middle.result a.m a.c in
     let g = losses a.lanes.now c.coordinates-low.result c.coordinates-high.result c.coordinates-next.result c.coordinates-high.result a.m a.c in
+    let i = c.loop-chunk.chunk-index in
+    let n = c.chunk_count-count.result in
+    let part = front n a.lanes.now (omega (arith, c.chunk_count-count.ensures)) in
+    let here : get_or (take n a.lanes.now) i [] ≡ get_or a.lanes.now i [] = get_or-take n a.lanes.now i [] (omega arith) in
     let more = c.chunk_losses-more.ensures in
+    let left = rw here at more.left in
+    let right = rw here at more.right in
     record {
-      few = omega arith;
-      left_small = omega (arith, c.loop-t.invariant.left_small, more.small.0);
-      right_small = omega (arith, c.loop-t.invariant.right_small, more.small.1);
-      left_is = omega (arith, c.loop-t.invariant.left_is, more.left, sum_more f c.loop-t.t);
-      right_is = omega (arith, c.loop-t.invariant.right_is, more.right, sum_more g c.loop-t.t);
+      left_small = omega (arith, c.loop-chunk.invariant.left_small, more.small.0);
+      right_small = omega (arith, c.loop-chunk.invariant.right_small, more.small.1);
+      left_is = omega (arith, c.loop-chunk.invariant.left_is, left, sum_more f i);
+      right_is = omega (arith, c.loop-chunk.invariant.right_is, right, sum_more g i);
     }
 
 pub returns-clause-left : goal.returns-clause-left
 returns-clause-left c =
     let a = c.args in
-    let n : c.loop-t.t ≡ decoded_chunks a.store.now a.lanes.now = omega (arith, c.loop-t.invariant.few, c.loop-t-test.false, c.chunk_count-count.ensures) in
+    let part = front c.chunk_count-count.result a.lanes.now (omega (arith, c.chunk_count-count.ensures)) in
+    let n : c.loop-chunk.chunk-index ≡ decoded_chunks a.store.now a.lanes.now = omega (arith, c.chunk_count-count.ensures) in
     let f = losses a.lanes.now c.coordinates-low.result c.coordinates-high.result c.coordinates-low.result c.coordinates-middle.result a.m a.c in
     let least : ℕ → ℕ = λ x. min x a.cap in
     half_sum a.store.now a.lanes.now a.m (box_of a.left.low a.right.high) a.left a.c _ _ _ _ (both _ _ c.coordinates-low.ensures.value c.coordinates-low.ensures.whole) (both _ _ c.coordinates-high.ensures.value c.coordinates-high.ensures.whole) (both _ _ c.coordinates-low.ensures.value c.coordinates-low.ensures.whole) (both _ _ c.coordinates-middle.ensures.value c.coordinates-middle.ensures.whole) a.cap _
-    (c.least.ensures ∙ ap least (c.loop-t.invariant.left_is ∙ ap (sum_of f) n))
+    (c.min.ensures ∙ ap least (c.loop-chunk.invariant.left_is ∙ ap (sum_of f) n))
 
 pub returns-clause-right : goal.returns-clause-right
 returns-clause-right c =
     let a = c.args in
-    let n : c.loop-t.t ≡ decoded_chunks a.store.now a.lanes.now = omega (arith, c.loop-t.invariant.few, c.loop-t-test.false, c.chunk_count-count.ensures) in
+    let part = front c.chunk_count-count.result a.lanes.now (omega (arith, c.chunk_count-count.ensures)) in
+    let n : c.loop-chunk.chunk-index ≡ decoded_chunks a.store.now a.lanes.now = omega (arith, c.chunk_count-count.ensures) in
     let g = losses a.lanes.now c.coordinates-low.result c.coordinates-high.result c.coordinates-next.result c.coordinates-high.result a.m a.c in
     let least : ℕ → ℕ = λ x. min x a.cap in
     half_sum a.store.now a.lanes.now a.m (box_of a.left.low a.right.high) a.right a.c _ _ _ _ (both _ _ c.coordinates-low.ensures.value c.coordinates-low.ensures.whole) (both _ _ c.coordinates-high.ensures.value c.coordinates-high.ensures.whole) (both _ _ c.coordinates-next.ensures.value c.coordinates-next.ensures.whole) (both _ _ c.coordinates-high.ensures.value c.coordinates-high.ensures.whole) a.cap _
-    (c.least-2.ensures ∙ ap least (c.loop-t.invariant.right_is ∙ ap (sum_of g) n))
+    (c.min-2.ensures ∙ ap least (c.loop-chunk.invariant.right_is ∙ ap (sum_of g) n))

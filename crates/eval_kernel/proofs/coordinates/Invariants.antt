@@ -6,4 +6,4 @@ use Rattle.eval_kernel.proofs.Vectors.{Double}
 use Rattle.eval_kernel.proofs.coordinates.Given as goal
 
 abbrev pub invariant-loop-i : goal.invariant-loop-i
-invariant-loop-i l = Filled 0 (Double l.v) (replicate 12 zeroth) l.i l.u
+invariant-loop-i l = Filled 0 (Double l.fn.v) (replicate 12 zeroth) l.i l.u
