@@ -31,9 +31,8 @@ pub fn cost(store: &[u8], m: Model, v: [i16; 8]) -> Result<u64, Refusal>
         model: m,
         low: v,
         high: v,
-        over: false,
     };
-    Ok(values::whole(&task))
+    Ok(values::whole::<false>(&task))
 }
 
 // The bound of a box.
@@ -48,9 +47,8 @@ pub fn bound(store: &[u8], m: Model, b: Box) -> Result<u64, Refusal>
         model: m,
         low,
         high,
-        over: true,
     };
-    Ok(values::whole(&task))
+    Ok(values::whole::<true>(&task))
 }
 
 // For a search, which decodes its store once and asks only whether a vector is cheaper: over lanes, the cost of a vector, or `cap` if that
@@ -69,9 +67,8 @@ pub fn cost_in(store: &[u8], lanes: &[Chunk], m: Model, v: [i16; 8], cap: u64) -
                 model: m,
                 low: v,
                 high: v,
-                over: false,
             };
-            values::up_to(&task, lanes, cap)
+            values::up_to::<false>(&task, lanes, cap)
         }
         Err(_) => 0,
     }
@@ -91,9 +88,8 @@ pub fn bound_in(store: &[u8], lanes: &[Chunk], m: Model, b: Box, cap: u64) -> u6
                 model: m,
                 low,
                 high,
-                over: true,
             };
-            values::up_to(&task, lanes, cap)
+            values::up_to::<true>(&task, lanes, cap)
         }
         Err(_) => 0,
     }

@@ -23,13 +23,12 @@ struct Asked {
     model: Model,
     from: Coordinates,
     to: Coordinates,
-    over: bool,
 }
 
 impl Asked {
     // By a task: its coordinates in double precision, found once for each evaluation.
     fn by(task: &Task) -> Asked
-        ensures same { (result.model ≡ task.now.model) × (result.over ≡ task.now.over) }
+        ensures same { result.model ≡ task.now.model }
         ensures from { (result.from ≡ doubles task.now.low) × Doubles task.now.low result.from }
         ensures to { (result.to ≡ doubles task.now.high) × Doubles task.now.high result.to }
     {
@@ -37,29 +36,27 @@ impl Asked {
             model: task.model,
             from: coordinates(task.low),
             to: coordinates(task.high),
-            over: task.over,
         }
     }
 }
 
 // The least sizes of a chunk's points, found in lanes that hold a number that no size reaches: they are filled with it, or are already. To
 // fill lanes twice took an evaluation of 256 points a tenth of its time more.
-fn chunk_sizes(sizes: &mut Lanes, s: &Chunk, asked: &Asked, fill: bool)
+fn chunk_sizes<const OVER: bool>(sizes: &mut Lanes, s: &Chunk, asked: &Asked, fill: bool)
     requires { fill ≡ false → sizes.old ≡ no_sizes }
     ensures { (k : ℕ) → k < 80 → lane sizes.new k
-        ≡ chunk_size asked.now.over s.now asked.now.from asked.now.to asked.now.model k }
+        ≡ chunk_size OVER s.now asked.now.from asked.now.to asked.now.model k }
 {
     if fill {
         *sizes = [no_size(); 80];
     }
-    eval_kernel::lessen_all(
+    eval_kernel::lessen_all::<OVER>(
         sizes,
         s,
         &asked.from,
         &asked.to,
         asked.model.n,
         asked.model.d,
-        asked.over,
     );
 }
 
@@ -75,16 +72,22 @@ fn reaching(sizes: &Lanes, cap: u64) -> u64
 }
 
 // Of the sizes in all chunks, up to a cap: no more are made once more than q reach it.
-fn kept_rank(sizes: &mut [Lanes], fill: bool, lanes: &[Chunk], asked: &Asked, cap: u64) -> u64
+fn kept_rank<const OVER: bool>(
+    sizes: &mut [Lanes],
+    fill: bool,
+    lanes: &[Chunk],
+    asked: &Asked,
+    cap: u64,
+) -> u64
     requires { (length lanes.now ≤ length sizes.old) × (length lanes.now ≤ 54)
         × (fill ≡ false → (i : ℕ) → i < length lanes.now → get_or sizes.old i [] ≡ no_sizes) }
-    ensures { result ≡ selected (exceeding_by asked.now.over lanes.now asked.now.from asked.now.to asked.now.model
+    ensures { result ≡ selected (exceeding_by OVER lanes.now asked.now.from asked.now.to asked.now.model
         (length lanes.now)) asked.now.model.eps (min cap 4503599627370496) }
 {
     let q = asked.model.eps;
     let mut reached: u64 = 0;
     for t in 0..lanes.len() {
-        chunk_sizes(&mut sizes[t], &lanes[t], asked, fill);
+        chunk_sizes::<OVER>(&mut sizes[t], &lanes[t], asked, fill);
         reached += reaching(&sizes[t], cap);
         if (q as u64) < reached {
             return cap.min(LIMIT);
@@ -96,53 +99,53 @@ fn kept_rank(sizes: &mut [Lanes], fill: bool, lanes: &[Chunk], asked: &Asked, ca
 // Of at most N chunks: the array is filled at each call, whatever is used of it. Not in its caller, whose stack few chunks and every sum
 // would then take.
 #[inline(never)]
-fn filled_rank<const N: usize>(lanes: &[Chunk], asked: &Asked, cap: u64) -> u64
+fn filled_rank<const OVER: bool, const N: usize>(lanes: &[Chunk], asked: &Asked, cap: u64) -> u64
     requires { (length lanes.now ≤ N) × (N ≤ 54) }
-    ensures { result ≡ selected (exceeding_by asked.now.over lanes.now asked.now.from asked.now.to asked.now.model
+    ensures { result ≡ selected (exceeding_by OVER lanes.now asked.now.from asked.now.to asked.now.model
         (length lanes.now)) asked.now.model.eps (min cap 4503599627370496) }
 {
     let none: Lanes = [no_size(); 80];
     let mut sizes: [Lanes; N] = [none; N];
-    kept_rank(&mut sizes, false, lanes, asked, cap)
+    kept_rank::<OVER>(&mut sizes, false, lanes, asked, cap)
 }
 
 // Of any number. The array is set to zeros, and a chunk filled when its turn comes: none behind the one where the cap is reached.
 #[inline(never)]
-fn long_rank(lanes: &[Chunk], asked: &Asked, cap: u64) -> u64
+fn long_rank<const OVER: bool>(lanes: &[Chunk], asked: &Asked, cap: u64) -> u64
     requires { length lanes.now ≤ 54 }
-    ensures { result ≡ selected (exceeding_by asked.now.over lanes.now asked.now.from asked.now.to asked.now.model
+    ensures { result ≡ selected (exceeding_by OVER lanes.now asked.now.from asked.now.to asked.now.model
         (length lanes.now)) asked.now.model.eps (min cap 4503599627370496) }
 {
     let zeros: Lanes = [0.0; 80];
     let mut sizes: [Lanes; 54] = [zeros; 54];
-    kept_rank(&mut sizes, true, lanes, asked, cap)
+    kept_rank::<OVER>(&mut sizes, true, lanes, asked, cap)
 }
 
 // By how many chunks there are, each number with an array that fits it.
-fn some_rank(lanes: &[Chunk], asked: &Asked, cap: u64) -> u64
+fn some_rank<const OVER: bool>(lanes: &[Chunk], asked: &Asked, cap: u64) -> u64
     requires { length lanes.now ≤ 54 }
-    ensures { result ≡ selected (exceeding_by asked.now.over lanes.now asked.now.from asked.now.to asked.now.model
+    ensures { result ≡ selected (exceeding_by OVER lanes.now asked.now.from asked.now.to asked.now.model
         (length lanes.now)) asked.now.model.eps (min cap 4503599627370496) }
 {
     match lanes.len() {
-        0..=4 => filled_rank::<4>(lanes, asked, cap),
-        5..=8 => filled_rank::<8>(lanes, asked, cap),
-        _ => long_rank(lanes, asked, cap),
+        0..=4 => filled_rank::<OVER, 4>(lanes, asked, cap),
+        5..=8 => filled_rank::<OVER, 8>(lanes, asked, cap),
+        _ => long_rank::<OVER>(lanes, asked, cap),
     }
 }
 
 // Over the lanes of a store that was decoded before.
-pub fn lanes_rank(task: &Task, lanes: &[Chunk], cap: u64) -> u64
-    ensures { RankIn task.now.over task.now.store.now lanes.now task.now.model task.now.low task.now.high cap result }
+pub fn lanes_rank<const OVER: bool>(task: &Task, lanes: &[Chunk], cap: u64) -> u64
+    ensures { RankIn OVER task.now.store.now lanes.now task.now.model task.now.low task.now.high cap result }
 {
     let count = eval_columns::chunk_count(task.store.len(), lanes.len());
-    some_rank(&lanes[..count], &Asked::by(task), cap)
+    some_rank::<OVER>(&lanes[..count], &Asked::by(task), cap)
 }
 
 // Of the whole store, each chunk decoded into one that is used again.
 #[inline(never)]
-pub fn rank(task: &Task) -> u64
-    ensures { result ≡ nth_largest task.now.model.eps (least_sizes task.now.over task.now.model task.now.low task.now.high (points_of task.now.store.now)) }
+pub fn rank<const OVER: bool>(task: &Task) -> u64
+    ensures { result ≡ nth_largest task.now.model.eps (least_sizes OVER task.now.model task.now.low task.now.high (points_of task.now.store.now)) }
 {
     let m = task.model;
     let power = scale::power(m.scale);
@@ -155,7 +158,7 @@ pub fn rank(task: &Task) -> u64
     let count = eval_columns::chunk_count(task.store.len(), 54);
     for t in 0..count {
         eval_columns::decode_chunk(&mut chunk, task.store, t as u8, m.d, power);
-        chunk_sizes(&mut sizes[t], &chunk, &asked, true);
+        chunk_sizes::<OVER>(&mut sizes[t], &chunk, &asked, true);
     }
     eval_selection::nth_largest(&sizes[..count], m.eps, NO_CAP, 0)
 }

@@ -11,6 +11,5 @@ pub struct Task<'a> {
     pub model: Model,
     pub low: [i16; 8],
     pub high: [i16; 8],
-    pub over: bool,
     ghost ready: { Ready (length store.now) model },
 }

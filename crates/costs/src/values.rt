@@ -8,23 +8,23 @@ use crate::{ranking, sums};
 use eval_lanes::Chunk;
 
 // Of the whole store.
-pub fn whole(task: &Task) -> u64
-    ensures { result ≡ value_of task.now.over task.now.model (points_of task.now.store.now) task.now.low task.now.high }
+pub fn whole<const OVER: bool>(task: &Task) -> u64
+    ensures { result ≡ value_of OVER task.now.model (points_of task.now.store.now) task.now.low task.now.high }
 {
     if task.model.p == 3 {
-        ranking::rank(task)
+        ranking::rank::<OVER>(task)
     } else {
-        sums::sum(task)
+        sums::sum::<OVER>(task)
     }
 }
 
 // Over the lanes of a store that was decoded before, up to a cap.
-pub fn up_to(task: &Task, lanes: &[Chunk], cap: u64) -> u64
-    ensures { ValueIn task.now.over task.now.store.now lanes.now task.now.model task.now.low task.now.high cap result }
+pub fn up_to<const OVER: bool>(task: &Task, lanes: &[Chunk], cap: u64) -> u64
+    ensures { ValueIn OVER task.now.store.now lanes.now task.now.model task.now.low task.now.high cap result }
 {
     if task.model.p == 3 {
-        ranking::lanes_rank(task, lanes, cap)
+        ranking::lanes_rank::<OVER>(task, lanes, cap)
     } else {
-        sums::lanes_up_to(task, lanes, cap)
+        sums::lanes_up_to::<OVER>(task, lanes, cap)
     }
 }
