@@ -61,10 +61,10 @@ fn nearest_line(q: Point, v: &[i16; 8], n: usize, d: usize, power: u16, eps: u64
     ensures fitting { result.fitting ≡ fitting (λ j. size_of q v.now (j * d) d power) eps n }
 {
     let mut line = 0;
-    let mut size = loss::size(residual(q, v, 0, d, power));
+    let mut size = residual(q, v, 0, d, power).unsigned_abs();
     let mut fitting = counted(size, eps);
     for j in 1..n {
-        let other = loss::size(residual(q, v, j * d, d, power));
+        let other = residual(q, v, j * d, d, power).unsigned_abs();
         fitting += counted(other, eps);
         if other < size {
             size = other;
