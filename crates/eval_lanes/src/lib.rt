@@ -1,20 +1,17 @@
 // Points side by side, in double precision.
 #![tactic(auto)]
 
-ghost use Rattle.std.specs.Prelude.{◌≡◌, length};
+ghost use Rattle.std.specs.Prelude.{◌≡◌, replicate};
 
-// Eighty points in five columns: x1 to x4, and y times 2^S.
-pub type Chunk = [[f64; 80]; 5];
-
-// A number for each of them.
+// A number for each of eighty points.
 pub type Lanes = [f64; 80];
 
-// An array behind a reference has its length by its type, but a proof is told of it only where the array is passed by value. The
-// compiler leaves the call out.
-pub fn known(a: Lanes)
-    ensures { length a ≡ 80 }
-{}
+// Eighty points in five columns: x1 to x4, and y times 2^S.
+pub type Chunk = [Lanes; 5];
 
-pub fn known_columns(a: Chunk)
-    ensures { length a ≡ 5 }
-{}
+// A chunk of one number, for what is decoded into it.
+pub fn chunk_of(x: f64) -> Chunk
+    ensures { result ≡ replicate 5 (replicate 80 x) }
+{
+    [[x; 80]; 5]
+}
