@@ -12,7 +12,7 @@ ghost use Rattle.beacon_costs.specs.Inside.{ChunkSums};
 
 use codes::Refusal;
 use eval_kernel::Coordinates;
-use eval_lanes::{Chunk, Lanes};
+use eval_lanes::{Chunk, chunk_of};
 use jobs::Model;
 
 // How many groups the records of a store make.
@@ -54,8 +54,7 @@ fn write_sums(store: &[u8], m: Model, v: [i16; 8], sums: &mut [u64]) -> u64
     let power = scale::power(m.scale);
     let w = eval_kernel::coordinates(v);
     // Not 0, so that the compiler lays the chunk at a multiple of 16 bytes.
-    let column: Lanes = [1.0; 80];
-    let mut chunk: Chunk = [column; 5];
+    let mut chunk = chunk_of(1.0);
     let mut four: [u64; 4] = [0; 4];
     let count = group_count(store.len());
     let mut total = 0;

@@ -13,7 +13,7 @@ ghost use Rattle.costs.specs.Inside.{least_sizes, RankIn};
 use crate::NO_CAP;
 use crate::task::Task;
 use eval_kernel::{Coordinates, NO_SIZE, coordinates, no_size};
-use eval_lanes::{Chunk, Lanes};
+use eval_lanes::{Chunk, Lanes, chunk_of};
 use eval_selection::LIMIT;
 use jobs::Model;
 
@@ -151,8 +151,7 @@ pub fn rank<const OVER: bool>(task: &Task) -> u64
     let power = scale::power(m.scale);
     let asked = Asked::by(task);
     // Not 0, so that the compiler lays the chunk at a multiple of 16 bytes.
-    let column: Lanes = [1.0; 80];
-    let mut chunk: Chunk = [column; 5];
+    let mut chunk = chunk_of(1.0);
     let zeros: Lanes = [0.0; 80];
     let mut sizes: [Lanes; 54] = [zeros; 54];
     let count = eval_columns::chunk_count(task.store.len(), 54);

@@ -6,7 +6,7 @@ ghost use Rattle.costs.specs.Inside.{sizes_by, SumIn};
 
 use crate::task::Task;
 use eval_kernel::coordinates;
-use eval_lanes::{Chunk, Lanes};
+use eval_lanes::{Chunk, chunk_of};
 
 // Of the whole store, each chunk decoded into one that is used again.
 pub fn sum<const OVER: bool>(task: &Task) -> u64
@@ -17,8 +17,7 @@ pub fn sum<const OVER: bool>(task: &Task) -> u64
     let from = coordinates(task.low);
     let to = coordinates(task.high);
     // Not 0, so that the compiler lays the chunk at a multiple of 16 bytes.
-    let column: Lanes = [1.0; 80];
-    let mut chunk: Chunk = [column; 5];
+    let mut chunk = chunk_of(1.0);
     let mut total: u64 = 0;
     for t in 0..eval_columns::chunk_count(task.store.len(), 54) {
         eval_columns::decode_chunk(&mut chunk, task.store, t as u8, m.d, power);

@@ -9,7 +9,7 @@ ghost use Rattle.search.specs.Search.{refused, search_answer, TableSearched, Bou
 
 use crate::run::run;
 use codes::Refusal;
-use eval_lanes::{Chunk, Lanes};
+use eval_lanes::chunk_of;
 use jobs::Job;
 use search_checks::check_search;
 
@@ -60,9 +60,7 @@ pub fn search(store: &[u8], job: Job, table: &mut [i16], bounds: &mut [u64]) -> 
     match check_search(store, job, table.len(), bounds.len()) {
         Ok(()) => {
             let m = job.model;
-            let column: Lanes = [0.0; 80];
-            let chunk: Chunk = [column; 5];
-            let mut lanes = [chunk; 54];
+            let mut lanes = [chunk_of(0.0); 54];
             eval_stores::decode(&mut lanes, store, m.d, scale::power(m.scale));
             run(store, &lanes, job, table, bounds)
         }
