@@ -40,7 +40,7 @@ fn lessen_others(
 }
 
 // The losses of a chunk's points over both halves of the box from `low` to `high`: line c of the left half goes from `low` to `middle`,
-// that of the right half from `next` to `high`.
+// that of the right half from `next` to `high`. They are lent side by side: structs would copy them.
 fn chunk_losses(
     s: &Chunk,
     low: &Coordinates,

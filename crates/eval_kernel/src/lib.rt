@@ -50,7 +50,8 @@ fn line(u: &Coordinates, b: usize) -> [f64; 4]
 }
 
 // Each lane becomes the smaller of itself and the size of its point under line j: the least size
-// over the box from `low` to `high`, or under the vector `low`.
+// over the box from `low` to `high`, or under the vector `low`. The two are lent side by side: a
+// vector is lent as both, and a struct would copy it.
 pub fn lessen_line<const OVER: bool>(
     least: &mut Lanes,
     s: &Chunk,
