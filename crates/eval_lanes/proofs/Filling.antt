@@ -8,7 +8,6 @@ use native.Mathlib.Omega.{arith}
 use lib.ListN.{length, set, length-set}
 use lib.Seq.{get_or-set_same, get_or-set_other}
 use lib.Ieee.{Float, nan}
-use Rattle.integers.proofs.Tests.{le_or_lt}
 use Rattle.eval_lanes.specs.Lanes.{lane}
 use Rattle.eval_lanes.specs.Inside.{Filled}
 
