@@ -2,14 +2,15 @@
 use mathlib.Core.Path.{◌≡◌, refl, sym, ap, subst, ◌∙◌}
 use mathlib.Core.Bool.{Bool, true, false, not, ◌&&◌}
 use mathlib.Core.List.{List}
-use Prim.Native.Nat.{ℕ, ◌<◌}
-use borrow.Author.Tests.{ltb-true}
+use Prim.Native.Nat.{ℕ, ◌/◌, ◌≤◌, ◌<◌}
+use native.Mathlib.Omega.{arith}
+use borrow.Author.Tests.{ltb-true, ne_eqb}
 use lib.Dec.{T, ltb}
 use lib.IntN.{ℤ}
 use lib.Ieee.{Float}
 use Rattle.boxes.specs.declared.Box.{Box}
 use Rattle.boxes.specs.declared.Halves.{Halves}
-use Rattle.boxes.specs.Split.{zero_box, cut_answer}
+use Rattle.boxes.specs.Split.{zero_box, longest_side, cut_answer}
 use Rattle.codes.specs.declared.Refusal.{Refusal}
 use Rattle.std.specs.Prelude.{Result, Ok, Err}
 use Rattle.std.specs.Result.{result_unwrap_or}
@@ -36,6 +37,10 @@ cut_inside m line e = by (ltb m.p 3) (ltb 1 m.n) (ltb line m.n) refl refl e
     by true true false p q h = absurd (subst T (sym h) tt)
     by true false z p q h = absurd (subst T (sym h) tt)
     by false y z p q h = absurd (subst T (sym h) tt)
+
+-- the line is the longest side's, which a checked model has
+pub longest_line : (m : Model) (b : Box) → 1 ≤ m.d → cut_line m b ≡ longest_side b / m.d
+longest_line m b some = let other : m.d ≡ 0 → ⊥ = λ e. omega arith in rw (ne_eqb m.d 0 other)
 
 module _ (store : List ℕ) (lanes : List (List (List Float))) (m : Model) where
   module _ (b left right : Box) (cap line x y : ℕ) (side : Bool) (is : line ≡ cut_line m b) (told : side ≡ side_by_side m line) where

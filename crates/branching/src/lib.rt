@@ -16,7 +16,7 @@ use incumbent::{Child, Mark, ahead, child_of};
 use jobs::Model;
 
 // A bound of each half of a box.
-#[derive(Clone, Copy)]
+#[derive(Clone, Copy, Debug, PartialEq, Eq)]
 pub struct HalfBounds {
     pub left: u64,
     pub right: u64,
@@ -47,20 +47,17 @@ const NO_HALVES: Halves = Halves {
 pub fn just_above(c: u64) -> u64
     ensures { result ≡ just_above c }
 {
-    if c < 18446744073709551615 { c + 1 } else { c }
+    c.saturating_add(1)
 }
 
 // The line whose side is cut; where lines have no coordinates, none of the n.
 fn cut_line(m: Model, b: Box) -> usize
     ensures { result ≡ cut_line m b }
 {
-    let low = b.low;
-    let high = b.high;
-    let side = boxes::longest(low, high);
-    if m.d == 0 {
-        return m.n as usize;
+    match m.d {
+        0 => usize::from(m.n),
+        d => boxes::longest(b.low, b.high) / usize::from(d),
     }
-    side / (m.d as usize)
 }
 
 // Whether the bounds of both halves are found side by side: they are sums, and there are other lines than the one that is cut. Of a box
@@ -68,12 +65,7 @@ fn cut_line(m: Model, b: Box) -> usize
 fn side_by_side(m: Model, line: usize) -> bool
     ensures { result ≡ side_by_side m line }
 {
-    if m.p < 3 {
-        if 1 < m.n {
-            return line < (m.n as usize);
-        }
-    }
-    false
+    m.p < 3 && 1 < m.n && line < usize::from(m.n)
 }
 
 // The bounds of both halves of b, each up to a cap. They have every line in common but that of the side that is cut; so, with other lines
@@ -128,17 +120,19 @@ fn tried(store: &[u8], lanes: &[Chunk], m: Model, mark: Mark, v: [i16; 8], neede
         (better (cost m (points_of store.now)) mark.t mark.best v))
         × (result.cost < 18446744073709551615) }
 {
-    if needed {
-        let c = costs::cost_in(store, lanes, m, v, just_above(mark.cost));
-        if ahead(mark, c, v) {
-            return Mark {
-                t: mark.t,
-                cost: c,
-                best: v,
-            };
-        }
+    if !needed {
+        return mark;
     }
-    mark
+    let cost = costs::cost_in(store, lanes, m, v, just_above(mark.cost));
+    if ahead(mark, cost, v) {
+        Mark {
+            cost,
+            best: v,
+            ..mark
+        }
+    } else {
+        mark
+    }
 }
 
 // Cuts a box, finds the halves' bounds, and tries the low vector of each half. The left half has the low vector of the box itself, which is
