@@ -9,12 +9,12 @@ use native.Mathlib.Omega.{arith}
 use lib.IntN.{ℤ}
 use borrow.Rule.Slice.PartMut.{put_mid}
 use lib.ListN.{length, get_or, take, drop, length-append, length-drop, take-append-drop, get_or-append}
-use lib.Seq.{take_all, take_at, take-add, take-append-le, drop-append-le, paste, drop_at, drop-drop, length-take-le, get_or_at}
+use lib.Seq.{take_all, take_at, take-add, take-append-le, drop-append-le, drop_at, drop-drop, length-take-le, get_or_at}
 use Rattle.integers.proofs.Tests.{le_or_lt}
 use Rattle.boxes.specs.declared.Box.{Box}
 use Rattle.boxes.specs.Split.{zero_box}
 use Rattle.list_rows.specs.Rows.{row_count, row_at, rows_of, with_row, with_moved, without_row}
-use Rattle.list_rows.proofs.Parts.{part_before, down, down_long, down_rest, down_before, down_moved}
+use Rattle.list_rows.proofs.Parts.{part_before, part_down, down, down_long, down_rest, down_before, down_moved}
 
 -- a box of sixteen numbers
 pub record Whole (b : Box) : Type 0 where
@@ -235,9 +235,14 @@ module _ (t : List ℤ) (i n : ℕ) (one : i < n) (there : n ≤ row_count t) wh
       rw (lt-ltb i n one, le-leb n (row_count t) there)
       (ap (λ (k : ℕ). take (16 * i) t ++ take moved (drop (16 * i + 16) t) ++ drop k t) ends)
 
-  -- the rows behind it that are copied to one row earlier
-  pub row_taken : paste t (16 * i) (drop (16 * i + 16) t) (16 * n - (16 * i + 16)) ≡ without_row t i n
-  row_taken = let rows : 16 * n - (16 * i + 16) ≡ moved = omega arith in rw rows without_there
+  -- the rows from it on that are lent, and slide to one row earlier
+  pub row_taken :
+      (part : List ℤ) →
+      part ≡ down (take (16 * n - 16 * i) (drop (16 * i) t)) 0 16 (length (take (16 * n - 16 * i) (drop (16 * i) t)) - 16) →
+      put_mid (16 * i) (16 * n - 16 * i) t part ≡ without_row t i n
+  row_taken part slid =
+      let left : 16 * n - 16 * i - 16 ≡ moved = omega arith in
+      rw slid (rw left at (part_down t (16 * i) 16 (16 * n) (omega arith) (omega arith)) ∙ without_there)
 
   pub without_long : length (without_row t i n) ≡ length t
   without_long = rw (← without_there) (down_long t (16 * i) 16 moved room)
