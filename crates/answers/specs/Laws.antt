@@ -1,6 +1,6 @@
 -- What holds of the record of a search's answer. The proofs stand in proofs/Records.antt.
 use Rattle.codes.specs.Codes.{pass}
-use Rattle.std.specs.Prelude.{List, ◌≡◌, ℕ, ℤ, Err}
+use Rattle.std.specs.Prelude.{List, ◌≡◌, ℕ, ℤ, Ok, Err}
 use Rattle.codes.specs.declared.Refusal.{Refusal}
 use Rattle.jobs.specs.declared.Job.{Job}
 use Rattle.search.specs.Search.{check_lent, search_answer}
@@ -25,4 +25,4 @@ module _ (store : List ℕ) (job : Job) (table : List ℤ) (bounds : List ℕ) w
     pub reads :
         check_lent store job table bounds ≡ pass →
         IsJob job →
-        read_answer (answer_bytes search_record) ≡ record { check = pass; answer = search_record }
+        read_answer (answer_bytes search_record) ≡ Ok search_record

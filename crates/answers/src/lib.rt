@@ -21,17 +21,17 @@ fn kind_number(kind: Kind) -> u8
 }
 
 // The record of an answer to a job with this model; check 9 refuses that of a refusal.
+#[tactic(auto, unfolding(crate::specs::Records::record_of))]
 pub fn record_of(model: Model, answer: Answer) -> AnswerRecord
     ensures { result ≡ record_of model answer }
 {
     let vector = answer.vector;
-    let kind = answer.kind;
     AnswerRecord {
         vector,
         cost: answer.cost,
         bound: answer.bound,
         count: answer.count,
-        kind: kind_number(kind),
+        kind: kind_number(answer.kind),
         n: model.n,
         d: model.d,
         scale: model.scale,
