@@ -1,18 +1,16 @@
 -- What a run comes to, and what it leaves in what it is lent.
-use Rattle.codes.specs.Codes.{Check, pass}
-use Rattle.std.specs.Prelude.{List, ◌≡◌, ℕ, ℤ, length}
+use Rattle.codes.specs.Codes.{Check, pass, unless_refused}
+use Rattle.codes.specs.declared.Refusal.{Refusal}
+use Rattle.std.specs.Prelude.{List, ◌≡◌, ℕ, ℤ, length, Result}
 use Rattle.jobs.specs.declared.Job.{Job}
 use Rattle.points.specs.Points.{points_of}
 use Rattle.residuals.specs.Cost.{bound}
 use Rattle.search.specs.Search.{TableAfter, BoundsAfter, CertifiedIn}
-use Rattle.registers.specs.Runs.{check_run, run_search, found_bytes, record_shown}
-use Rattle.bus_runs.specs.declared.Shown.{Shown}
+use Rattle.registers.specs.Runs.{check_run, run_search, found_bytes}
 
--- the check of a run in a table of so many numbers, with a list of so many entries, and its answer record, "zeros after a refusal"
-unfoldable pub shown_of : List ℕ → Job → ℕ → ℕ → Shown
-shown_of store job numbers entries =
-    let check = check_run store job numbers entries in
-    record { check = check; answer = record_shown check (found_bytes store job) }
+-- the answer record of a run in a table of so many numbers, with a list of so many entries, or what refuses it
+unfoldable pub shown_of : List ℕ → Job → ℕ → ℕ → Result (List ℕ) Refusal
+shown_of store job numbers entries = unless_refused (check_run store job numbers entries) (found_bytes store job)
 
 module _ (store : List ℕ) (job : Job) (table : List ℤ) (bounds : List ℕ) where
   abbrev pub check_of : Check

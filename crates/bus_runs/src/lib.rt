@@ -1,21 +1,13 @@
-// A run of the fitter on the data bus: the search of a job record, and what the registers show of it.
+// A run of the fitter on the data bus: the search of a job, and what the registers show of it.
 #![tactic(auto)]
 
-ghost use Rattle.std.specs.Prelude.{◌≡◌, length};
-ghost use Rattle.job_records.specs.Jobs.{read_job};
+ghost use Rattle.std.specs.Prelude.{◌≡◌, length, IfOk};
 ghost use Rattle.bus_runs.specs.Lent.{shown_of, TableRun, BoundsRun, RunCertified};
 ghost use Rattle.bus_runs.specs.Inside.{numbers_for, RunSearched, check_for, shown_for};
 
 use codes::Refusal;
 use jobs::{Job, Model};
 use search::{Answer, Kind};
-
-// What the registers show of a run: its check, and its answer record, zeros after a refusal.
-#[derive(Clone, Copy)]
-pub struct Shown {
-    pub check: Result<(), Refusal>,
-    pub answer: [u8; 40],
-}
 
 // How many numbers of a table the search of a job with so many rows is lent.
 #[tactic(auto, unfolding(crate::specs::Inside::numbers_for))]
@@ -41,14 +33,13 @@ fn check_for(kind: Kind) -> Result<(), Refusal>
     ensures { result ≡ check_for kind }
 {
     match kind {
-        Kind::Solved => Ok(()),
-        Kind::Spent => Ok(()),
-        Kind::Full => Ok(()),
+        Kind::Solved | Kind::Spent | Kind::Full => Ok(()),
         Kind::Refused(why) => Err(why),
     }
 }
 
 // The record of an answer, zeros for a refusal: check 9 refuses its record, and nothing is written.
+#[tactic(auto, unfolding(crate::specs::Inside::shown_for))]
 fn shown_for(m: Model, answer: Answer) -> [u8; 40]
     ensures { result ≡ shown_for m answer }
 {
@@ -57,21 +48,14 @@ fn shown_for(m: Model, answer: Answer) -> [u8; 40]
     out
 }
 
-// The run of the job record in the first 72 bytes; fewer are a job of zeros, which is refused.
-pub fn run(bytes: &[u8], store: &[u8], table: &mut [i16], bounds: &mut [u64]) -> Shown
-    ensures run { result
-        ≡ shown_of store.now (read_job bytes.now).job (length table.old) (length bounds.old) }
-    ensures table { TableRun store.now (read_job bytes.now).job table.old bounds.old table.new }
-    ensures bounds { BoundsRun store.now (read_job bytes.now).job table.old bounds.old
-        bounds.new }
-    ensures certificate { RunCertified store.now (read_job bytes.now).job table.old bounds.old result.answer }
+// The run of a job: its answer record, or the refusal.
+pub fn run(job: Job, store: &[u8], table: &mut [i16], bounds: &mut [u64]) -> Result<[u8; 40], Refusal>
+    ensures run { result ≡ shown_of store.now job (length table.old) (length bounds.old) }
+    ensures table { TableRun store.now job table.old bounds.old table.new }
+    ensures bounds { BoundsRun store.now job table.old bounds.old bounds.new }
+    ensures certificate { IfOk result (λ shown. RunCertified store.now job table.old bounds.old shown) }
 {
-    let read = job_records::read_job(bytes);
-    let job = read.job;
-    let m = job.model;
     let found = search_rows(store, job, table, bounds);
-    let kind = found.kind;
-    let check = check_for(kind);
-    let answer = shown_for(m, found);
-    Shown { check, answer }
+    check_for(found.kind)?;
+    Ok(shown_for(job.model, found))
 }
