@@ -1,6 +1,7 @@
 -- The line of an answer.
 use Rattle.std.specs.Prelude.{Bool, cond, List, [], ◌++◌, ℕ, ◌*◌, leb, length, take}
 use Prim.Native.String.{String}
+use Rattle.codes.specs.declared.Refusal.{Refusal}
 use Rattle.codes.specs.Codes.{number_of}
 use Rattle.decimal.specs.Text.{ascii, byte, decimal, joined}
 use Rattle.jobs.specs.declared.Model.{Model}
@@ -40,3 +41,7 @@ takes_lines out = leb 200 (length out)
 -- the line that goes into a buffer: none where some line would not fit
 unfoldable pub line_in : Model → Answer → List ℕ → List ℕ
 line_in m a out = cond (takes_lines out) (line m a) []
+
+-- the line of a refusal in a buffer: that of the answer to a job that is refused
+unfoldable pub refusal_in : Refusal → List ℕ → List ℕ
+refusal_in why out = cond (takes_lines out) (field "refused " (number_of why) ++ byte 10) []

@@ -6,7 +6,7 @@ ghost use Rattle.codes.specs.Codes.{number_of};
 ghost use Rattle.decimal.specs.Put.{Put};
 ghost use Rattle.decimal.specs.Text.{byte};
 ghost use Rattle.integers.specs.Lists.{over};
-ghost use Rattle.answer_line.specs.Line.{field, fields, numbers, worded, line_in};
+ghost use Rattle.answer_line.specs.Line.{field, fields, numbers, worded, line_in, refusal_in};
 
 use codes::Refusal;
 use decimal::Writer;
@@ -85,5 +85,19 @@ pub fn line(m: Model, a: Answer, out: &mut [u8]) -> usize
     }
     let mut text = Writer { buffer: out, at: 0 };
     put_line(&mut text, m, a);
+    text.at
+}
+
+// The line of a refusal, likewise.
+#[tactic(auto, using(decimal::proofs::Putting::at_front), unfolding(crate::specs::Line::refusal_in, integers::specs::Lists::over))]
+pub fn refusal_line(why: Refusal, out: &mut [u8]) -> usize
+    ensures length { result ≡ length (refusal_in why out.old) }
+    ensures line { out.new ≡ over (refusal_in why out.old) out.old }
+{
+    if out.len() < 200 {
+        return 0;
+    }
+    let mut text = Writer { buffer: out, at: 0 };
+    put_refusal(&mut text, why);
     text.at
 }

@@ -3,21 +3,24 @@ use mathlib.Core.Bool.{true, false}
 use mathlib.Core.List.{List, ◌++◌}
 use mathlib.Core.Path.{◌≡◌, refl, sym, ap, ◌∙◌, subst}
 use borrow.Author.Tests.{eq-eqb, ne_eqb, le-leb}
-use Prim.Native.Nat.{ℕ, ◌≤◌}
+use Prim.Native.Nat.{ℕ, ◌-◌, ◌≤◌}
 use native.Mathlib.Omega.{arith}
 use lib.Dec.{T, eqb}
 use lib.IntN.{ℤ}
 use lib.ListN.{length, set, take, drop, length-drop}
 use lib.Seq.{take_at, take_all, drop_at, drop-set-lt, length-take-le}
-use Rattle.std.specs.Prelude.{Ok, Err}
-use Rattle.codes.specs.Codes.{Check, if_passed}
+use Rattle.std.specs.Prelude.{Result, Ok, Err, IfOk}
+use Rattle.codes.specs.Codes.{Check, pass, if_passed, unless_refused}
+use Rattle.codes.specs.declared.Refusal.{Refusal}
 use Rattle.jobs.specs.declared.Job.{Job}
 use Rattle.job_records.specs.Jobs.{read_job}
 use Rattle.registers.specs.Registers.{ran, commanded, written, with_run, job_in}
 use Rattle.registers.proofs.Found.{shown_long}
-use Rattle.bus_runs.specs.declared.Shown.{Shown}
-use Rattle.bus_runs.specs.Lent.{shown_of, TableRun, BoundsRun, RunCertified}
-use Rattle.bus_registers.specs.Written.{is_run, AnswerCertified, TableWritten, BoundsWritten, WriteCertified}
+use Rattle.search.specs.Search.{CertifiedIn}
+use Rattle.job_records.proofs.Jobs.{accepted}
+use Rattle.registers.specs.Runs.{found_bytes, record_shown}
+use Rattle.bus_runs.specs.Lent.{shown_of, check_of, TableRun, BoundsRun, RunCertified}
+use Rattle.bus_registers.specs.Written.{is_run, with_shown, AnswerCertified, TableWritten, BoundsWritten, WriteCertified}
 
 pub flag_small : (c : Check) → if_passed c 1 2 ≤ 2
 flag_small (Ok _) = omega arith
@@ -34,12 +37,16 @@ replaced s x m n there long =
     ∙ take_at x (drop 48 s) 40 long
 
 -- the job record in 136 bytes is whole
-pub job_there : (s part : List ℕ) → length s ≡ 136 → part ≡ take 72 (drop 64 s) → (read_job part).job ≡ job_in s
-unfolding read_job
+pub job_there : (s part : List ℕ) → length s ≡ 136 → part ≡ take (length s - 64) (drop 64 s) → read_job part ≡ Ok (job_in s)
 job_there s part whole e =
     let l = length-drop 64 s in
-    let all : part ≡ drop 64 s = e ∙ take_all 72 (drop 64 s) (omega arith) in
-    rw (all, le-leb 72 (length (drop 64 s)) (omega arith))
+    let all : part ≡ drop 64 s = e ∙ take_all (length s - 64) (drop 64 s) (omega (arith, l)) in
+    rw all (accepted (drop 64 s) (omega arith))
+
+-- what is shown of a run is what the registers hold of it
+shown_run : (s : List ℕ) (c : Check) (found : List ℕ) → with_shown s (unless_refused c found) ≡ with_run s c (record_shown c found)
+shown_run s (Ok _) found = refl
+shown_run s (Err why) found = refl
 
 module _ (store s : List ℕ) (table : List ℤ) (bounds : List ℕ) where
   abbrev pub Ran : List ℕ → List ℤ → List ℕ → Type 0
@@ -48,27 +55,37 @@ module _ (store s : List ℕ) (table : List ℤ) (bounds : List ℕ) where
       × (TableRun store (job_in s) table bounds u
       × (BoundsRun store (job_in s) table bounds e × AnswerCertified store (job_in s) table bounds q))
 
-  module _ (r : Shown) (q : List ℕ) (u : List ℤ) (e : List ℕ) (whole : length s ≡ 136) (is : q ≡ with_run s r.check r.answer) where
+  module _ (r : Result (List ℕ) Refusal) (q : List ℕ) (u : List ℤ) (e : List ℕ) (whole : length s ≡ 136) (is : q ≡ with_shown s r) where
     -- what a run of a job says
     abbrev Said : Job → Type 0
     Said job =
         (r ≡ shown_of store job (length table) (length bounds))
         × (TableRun store job table bounds u
-        × (BoundsRun store job table bounds e × RunCertified store job table bounds r.answer))
+        × (BoundsRun store job table bounds e × IfOk r (λ shown. RunCertified store job table bounds shown)))
 
-    shown_here : Said (job_in s) → take 40 (drop 8 q) ≡ r.answer
-    unfolding with_run shown_of
-    shown_here said =
-        let forty : length r.answer ≡ 40 =
-        ap (λ (x : Shown). length x.answer) said.0
-        ∙ shown_long store (drop 64 s) (length table) (length bounds) (omega (arith, length-drop 64 s)) in
-        ap (λ (l : List ℕ). take 40 (drop 8 l)) is ∙ replaced s r.answer _ _ (omega arith) forty
+    -- the record of a run that is done
+    module _ (said : Said (job_in s)) (ok : check_of store (job_in s) table bounds ≡ pass) where
+      done : r ≡ Ok (found_bytes store (job_in s))
+      unfolding shown_of
+      done = said.0 ∙ rw ok refl
+
+      forty : length (found_bytes store (job_in s)) ≡ 40
+      forty = rw ok at (shown_long store (drop 64 s) (length table) (length bounds) (omega (arith, length-drop 64 s)))
+
+      here : take 40 (drop 8 q) ≡ found_bytes store (job_in s)
+      unfolding with_run
+      here =
+          ap (λ (l : List ℕ). take 40 (drop 8 l)) (is ∙ ap (with_shown s) done)
+          ∙ replaced s (found_bytes store (job_in s)) _ _ (omega arith) forty
+
+      certified : (take 40 (drop 8 q) ≡ found_bytes store (job_in s)) × CertifiedIn store (job_in s) (job_in s).rows
+      certified = (here, ((rw done at said.1.1.1) ok).1)
 
     ran_here : Said (job_in s) → Ran q u e
     unfolding ran shown_of
     ran_here said = (
-      is ∙ ap (λ (x : Shown). with_run s x.check x.answer) said.0,
-      (said.1.0, (said.1.1.0, rw (shown_here said) said.1.1.1)),
+      is ∙ ap (with_shown s) said.0 ∙ shown_run s _ _,
+      (said.1.0, (said.1.1.0, certified said)),
     )
 
     pub run_ran : (job : Job) → job ≡ job_in s → Said job → Ran q u e

@@ -4,14 +4,13 @@
 ghost use Rattle.std.specs.Prelude.{◌≡◌, ◌<◌, length, set};
 ghost use Rattle.codes.specs.Codes.{if_passed};
 ghost use Rattle.registers.specs.Runs.{refusal_number};
-ghost use Rattle.registers.specs.Registers.{cleared, read_at, flags_after, with_run, ran, commanded, written, job_in};
+ghost use Rattle.registers.specs.Registers.{cleared, read_at, flags_after, ran, commanded, written, job_in};
 ghost use Rattle.bus_runs.specs.Lent.{TableRun, BoundsRun};
-ghost use Rattle.bus_registers.specs.Written.{AnswerCertified, TableWritten, BoundsWritten, WriteCertified};
+ghost use Rattle.bus_registers.specs.Written.{with_shown, AnswerCertified, TableWritten, BoundsWritten, WriteCertified};
 
-use bus_runs::Shown;
 use codes::Refusal;
 
-#[derive(Clone, Copy)]
+#[derive(Clone, Copy, Debug, PartialEq, Eq)]
 pub struct Registers {
     pub bytes: [u8; 136],
 }
@@ -20,7 +19,7 @@ pub struct Registers {
 pub fn reset() -> Registers
     ensures { result.bytes ≡ cleared }
 {
-    Registers { bytes: [0u8; 136] }
+    Registers { bytes: [0; 136] }
 }
 
 // What a read of an offset gives, whatever the bytes hold.
@@ -28,28 +27,12 @@ pub fn reset() -> Registers
 pub fn read(r: Registers, offset: usize) -> u8
     ensures { result ≡ read_at r.bytes offset }
 {
-    if offset == 1 {
-        return r.bytes[1] % 8;
+    match offset {
+        1 => r.bytes[1] % 8,
+        2 => r.bytes[2] % 2,
+        3 | 8..=47 | 64..=135 => r.bytes[offset],
+        _ => 0,
     }
-    if offset == 2 {
-        return r.bytes[2] % 2;
-    }
-    if offset == 3 {
-        return r.bytes[3];
-    }
-    if offset < 8 {
-        return 0;
-    }
-    if offset <= 47 {
-        return r.bytes[offset];
-    }
-    if offset <= 63 {
-        return 0;
-    }
-    if offset <= 135 {
-        return r.bytes[offset];
-    }
-    0
 }
 
 // One byte set.
@@ -66,10 +49,7 @@ fn stored(r: Registers, at: usize, value: u8) -> Registers
 fn flag(check: Result<(), Refusal>) -> u8
     ensures { result ≡ if_passed check 1 2 }
 {
-    match check {
-        Ok(()) => 1,
-        Err(_) => 2,
-    }
+    if check.is_ok() { 1 } else { 2 }
 }
 
 fn refusal_number(check: Result<(), Refusal>) -> u8
@@ -82,32 +62,24 @@ fn refusal_number(check: Result<(), Refusal>) -> u8
 }
 
 // Byte 1 after a run.
+#[tactic(auto, using(crate::proofs::Writing::flag_small), unfolding(registers::specs::Registers::flags_after))]
 fn flags_after(check: Result<(), Refusal>, before: u8, enable: u8) -> u8
     ensures { result ≡ flags_after check before enable }
 {
-    let flag = flag(check);
-    if before / 4 % 2 == 1 {
-        return flag + 4;
-    }
-    if enable % 2 == 1 {
-        return flag + 4;
-    }
-    flag
+    let pending = before / 4 % 2 == 1 || enable % 2 == 1;
+    if pending { flag(check) + 4 } else { flag(check) }
 }
 
 // The registers with what they show of a run.
 #[tactic(auto, unfolding(registers::specs::Registers::with_run))]
-fn with_run(r: Registers, shown: Shown) -> Registers
-    ensures { result.bytes ≡ with_run r.bytes shown.check shown.answer }
+fn with_run(r: Registers, shown: Result<[u8; 40], Refusal>) -> Registers
+    ensures { result.bytes ≡ with_shown r.bytes shown }
 {
     let mut bytes = r.bytes;
-    let check = shown.check;
-    let answer = shown.answer;
-    let flags = flags_after(check, bytes[1], bytes[2]);
-    let refusal = refusal_number(check);
-    bytes[8..48].copy_from_slice(&answer);
-    bytes[3] = refusal;
-    bytes[1] = flags;
+    let check = shown.map(|_| ());
+    bytes[8..48].copy_from_slice(&shown.unwrap_or([0; 40]));
+    bytes[3] = refusal_number(check);
+    bytes[1] = flags_after(check, r.bytes[1], r.bytes[2]);
     Registers { bytes }
 }
 
@@ -119,11 +91,12 @@ fn run(r: Registers, store: &[u8], table: &mut [i16], bounds: &mut [u64]) -> Reg
     ensures bounds { BoundsRun store.now (job_in r.bytes) table.old bounds.old bounds.new }
     ensures certificate { AnswerCertified store.now (job_in r.bytes) table.old bounds.old result.bytes }
 {
-    let bytes = r.bytes;
-    with_run(r, bus_runs::run(&bytes[64..], store, table, bounds))
+    let job = job_records::read_job(&r.bytes[64..]).unwrap();
+    with_run(r, bus_runs::run(job, store, table, bounds))
 }
 
 // A write to byte 0.
+#[tactic(auto, using(crate::proofs::Writing::run_commanded, crate::proofs::Writing::idle_commanded), unfolding(registers::specs::Registers::commanded))]
 fn command(
     r: Registers,
     value: u8,
@@ -137,13 +110,11 @@ fn command(
     ensures bounds { BoundsWritten r.bytes 0 value store.now table.old bounds.old bounds.new }
     ensures certificate { WriteCertified r.bytes 0 value store.now table.old bounds.old result.bytes }
 {
-    if value == 2 {
-        return run(r, store, table, bounds);
+    match value {
+        2 => run(r, store, table, bounds),
+        3 => stored(r, 1, 0),
+        _ => r,
     }
-    if value == 3 {
-        return stored(r, 1, 0);
-    }
-    r
 }
 
 // A write: "Only bytes 0, 2 and 64 to 135 take writes; all other writes are ignored."
@@ -162,17 +133,10 @@ pub fn write(
     ensures bounds { BoundsWritten r.bytes offset value store.now table.old bounds.old bounds.new }
     ensures certificate { WriteCertified r.bytes offset value store.now table.old bounds.old result.bytes }
 {
-    if offset == 0 {
-        return command(r, value, store, table, bounds);
+    match offset {
+        0 => command(r, value, store, table, bounds),
+        2 => stored(r, 2, value % 2),
+        64..=135 => stored(r, offset, value),
+        _ => r,
     }
-    if offset == 2 {
-        return stored(r, 2, value % 2);
-    }
-    if offset < 64 {
-        return r;
-    }
-    if offset <= 135 {
-        return stored(r, offset, value);
-    }
-    r
 }
