@@ -1,7 +1,7 @@
 // All of the program fit on slices: the line of a job record and a store.
 #![tactic(auto)]
 
-ghost use Rattle.std.specs.Prelude.{◌≡◌, true, ◌≤◌, min, length, take};
+ghost use Rattle.std.specs.Prelude.{◌≡◌, true, ◌≤◌, length, take};
 ghost use Rattle.integers.specs.Lists.{over};
 ghost use Rattle.fit_line.specs.Inside.{Searched, numbers_lent};
 ghost use Rattle.fit_line.specs.Report.{FitTable, FitBounds, FitCertified, TableLent, BoundsLent, enough, fit_line, report_line};
@@ -10,6 +10,7 @@ use jobs::Job;
 use search::Answer;
 
 // How many numbers of the table a search in r rows is lent: none if r is over 2,048, so that check 8 refuses it, as it does for 0 rows.
+#[tactic(auto, unfolding(crate::specs::Inside::numbers_lent))]
 fn numbers_lent(rows: u32) -> usize
     ensures { result ≡ numbers_lent rows }
 {
@@ -29,13 +30,6 @@ fn search_rows(store: &[u8], job: Job, table: &mut [i16], bounds: &mut [u64]) ->
     search::search(store, job, &mut table[..n], bounds)
 }
 
-// Where the store begins: behind the job record, or at the end of a shorter input, whose store is empty then and refused by 1.
-fn store_start(bytes: usize) -> usize
-    ensures { result ≡ min 72 bytes }
-{
-    if bytes < 72 { bytes } else { 72 }
-}
-
 // The line, where there are 2,048 rows and entries, and every line fits.
 fn write_line(input: &[u8], table: &mut [i16], bounds: &mut [u64], out: &mut [u8]) -> usize
     requires { (32768 ≤ length table.old) × (2048 ≤ length bounds.old) × (200 ≤ length out.old) }
@@ -45,16 +39,18 @@ fn write_line(input: &[u8], table: &mut [i16], bounds: &mut [u64], out: &mut [u8
     ensures bounds { FitBounds input.now bounds.old bounds.new }
     ensures certificate { FitCertified input.now (take result out.new) }
 {
-    let read = job_records::read_job(input);
-    let job = read.job;
-    let m = job.model;
-    let start = store_start(input.len());
-    let answer = search_rows(&input[start..], job, table, bounds);
-    answer_line::line(m, answer, out)
+    match job_records::read_job(input) {
+        Ok(job) => {
+            let answer = search_rows(&input[72..], job, table, bounds);
+            answer_line::line(job.model, answer, out)
+        }
+        Err(why) => answer_line::refusal_line(why, out),
+    }
 }
 
 // The line of a job record and a store, at the front of a buffer: answers how long it is. With a table of fewer than 2,048 rows, a list of
 // fewer than 2,048 bounds, or a buffer that some line does not fit into, it does nothing and answers 0.
+#[tactic(auto, using(crate::proofs::Fitting::nothing_lent, crate::proofs::Fitting::all_lent), unfolding(crate::specs::Report::report_line, integers::specs::Lists::over))]
 pub fn report(input: &[u8], table: &mut [i16], bounds: &mut [u64], out: &mut [u8]) -> usize
     ensures length { result
         ≡ length (report_line input.now table.old bounds.old out.old) }
@@ -65,13 +61,7 @@ pub fn report(input: &[u8], table: &mut [i16], bounds: &mut [u64], out: &mut [u8
     ensures certificate { enough table.old bounds.old out.old ≡ true →
         FitCertified input.now (take result out.new) }
 {
-    if table.len() < 32768 {
-        return 0;
-    }
-    if bounds.len() < 2048 {
-        return 0;
-    }
-    if out.len() < 200 {
+    if table.len() < 32768 || bounds.len() < 2048 || out.len() < 200 {
         return 0;
     }
     write_line(input, table, bounds, out)
