@@ -36,7 +36,10 @@ returns-then-cap-right_sum-clause-left c =
     let part = front c.chunk_count-count.result a.lanes.now (omega (arith, c.chunk_count-count.ensures)) in
     let few : c.loop-chunk.chunk-index ≤ n = omega (arith, c.chunk_count-count.ensures) in
     let f = losses a.lanes.now c.coordinates-low.result c.coordinates-high.result c.coordinates-low.result c.coordinates-middle.result a.m a.c in
-    half_sum a.store.now a.lanes.now a.m (box_of a.left.low a.right.high) a.left a.c _ _ _ _ (both _ _ c.coordinates-low.ensures.value c.coordinates-low.ensures.whole) (both _ _ c.coordinates-high.ensures.value c.coordinates-high.ensures.whole) (both _ _ c.coordinates-low.ensures.value c.coordinates-low.ensures.whole) (both _ _ c.coordinates-middle.ensures.value c.coordinates-middle.ensures.whole) a.cap _
+    let low_is = both _ _ c.coordinates-low.ensures.value c.coordinates-low.ensures.whole in
+    let high_is = both _ _ c.coordinates-high.ensures.value c.coordinates-high.ensures.whole in
+    let middle_is = both _ _ c.coordinates-middle.ensures.value c.coordinates-middle.ensures.whole in
+    half_sum a.store.now a.lanes.now a.m (box_of a.left.low a.right.high) a.left a.c _ _ _ _ low_is high_is low_is middle_is a.cap _
     (cap_stays f c.loop-chunk.chunk-index n a.cap few (omega (arith, c.if-cap-left_sum.true, c.loop-chunk.invariant.left_is)))
 
 pub returns-then-cap-right_sum-clause-right : goal.returns-then-cap-right_sum-clause-right
@@ -46,7 +49,10 @@ returns-then-cap-right_sum-clause-right c =
     let part = front c.chunk_count-count.result a.lanes.now (omega (arith, c.chunk_count-count.ensures)) in
     let few : c.loop-chunk.chunk-index ≤ n = omega (arith, c.chunk_count-count.ensures) in
     let f = losses a.lanes.now c.coordinates-low.result c.coordinates-high.result c.coordinates-next.result c.coordinates-high.result a.m a.c in
-    half_sum a.store.now a.lanes.now a.m (box_of a.left.low a.right.high) a.right a.c _ _ _ _ (both _ _ c.coordinates-low.ensures.value c.coordinates-low.ensures.whole) (both _ _ c.coordinates-high.ensures.value c.coordinates-high.ensures.whole) (both _ _ c.coordinates-next.ensures.value c.coordinates-next.ensures.whole) (both _ _ c.coordinates-high.ensures.value c.coordinates-high.ensures.whole) a.cap _
+    let low_is = both _ _ c.coordinates-low.ensures.value c.coordinates-low.ensures.whole in
+    let high_is = both _ _ c.coordinates-high.ensures.value c.coordinates-high.ensures.whole in
+    let next_is = both _ _ c.coordinates-next.ensures.value c.coordinates-next.ensures.whole in
+    half_sum a.store.now a.lanes.now a.m (box_of a.left.low a.right.high) a.right a.c _ _ _ _ low_is high_is next_is high_is a.cap _
     (cap_stays f c.loop-chunk.chunk-index n a.cap few (omega (arith, c.if-cap-right_sum.true, c.loop-chunk.invariant.right_is)))
 
 pub loop-chunk-preserved : goal.loop-chunk-preserved
@@ -75,7 +81,10 @@ returns-clause-left c =
     let n : c.loop-chunk.chunk-index ≡ decoded_chunks a.store.now a.lanes.now = omega (arith, c.chunk_count-count.ensures) in
     let f = losses a.lanes.now c.coordinates-low.result c.coordinates-high.result c.coordinates-low.result c.coordinates-middle.result a.m a.c in
     let least : ℕ → ℕ = λ x. min x a.cap in
-    half_sum a.store.now a.lanes.now a.m (box_of a.left.low a.right.high) a.left a.c _ _ _ _ (both _ _ c.coordinates-low.ensures.value c.coordinates-low.ensures.whole) (both _ _ c.coordinates-high.ensures.value c.coordinates-high.ensures.whole) (both _ _ c.coordinates-low.ensures.value c.coordinates-low.ensures.whole) (both _ _ c.coordinates-middle.ensures.value c.coordinates-middle.ensures.whole) a.cap _
+    let low_is = both _ _ c.coordinates-low.ensures.value c.coordinates-low.ensures.whole in
+    let high_is = both _ _ c.coordinates-high.ensures.value c.coordinates-high.ensures.whole in
+    let middle_is = both _ _ c.coordinates-middle.ensures.value c.coordinates-middle.ensures.whole in
+    half_sum a.store.now a.lanes.now a.m (box_of a.left.low a.right.high) a.left a.c _ _ _ _ low_is high_is low_is middle_is a.cap _
     (c.min.ensures ∙ ap least (c.loop-chunk.invariant.left_is ∙ ap (sum_of f) n))
 
 pub returns-clause-right : goal.returns-clause-right
@@ -85,5 +94,8 @@ returns-clause-right c =
     let n : c.loop-chunk.chunk-index ≡ decoded_chunks a.store.now a.lanes.now = omega (arith, c.chunk_count-count.ensures) in
     let g = losses a.lanes.now c.coordinates-low.result c.coordinates-high.result c.coordinates-next.result c.coordinates-high.result a.m a.c in
     let least : ℕ → ℕ = λ x. min x a.cap in
-    half_sum a.store.now a.lanes.now a.m (box_of a.left.low a.right.high) a.right a.c _ _ _ _ (both _ _ c.coordinates-low.ensures.value c.coordinates-low.ensures.whole) (both _ _ c.coordinates-high.ensures.value c.coordinates-high.ensures.whole) (both _ _ c.coordinates-next.ensures.value c.coordinates-next.ensures.whole) (both _ _ c.coordinates-high.ensures.value c.coordinates-high.ensures.whole) a.cap _
+    let low_is = both _ _ c.coordinates-low.ensures.value c.coordinates-low.ensures.whole in
+    let high_is = both _ _ c.coordinates-high.ensures.value c.coordinates-high.ensures.whole in
+    let next_is = both _ _ c.coordinates-next.ensures.value c.coordinates-next.ensures.whole in
+    half_sum a.store.now a.lanes.now a.m (box_of a.left.low a.right.high) a.right a.c _ _ _ _ low_is high_is next_is high_is a.cap _
     (c.min-2.ensures ∙ ap least (c.loop-chunk.invariant.right_is ∙ ap (sum_of g) n))
