@@ -31,16 +31,12 @@ struct Progress {
 }
 
 // How many numbers of the table a write is lent: the rows of the job record as it stands, as far as they go.
+#[tactic(auto, using(crate::proofs::Replying::rows_there))]
 fn numbers_lent(registers: Registers) -> usize
     ensures { result ≡ numbers_lent (job_in registers.bytes).rows }
 {
-    let bytes = registers.bytes;
-    let rows = fields::get_number32(&bytes, 84);
-    if rows < 2048 {
-        16 * (rows as usize)
-    } else {
-        32768
-    }
+    let rows = fields::get_number32(&registers.bytes, 84);
+    16 * (rows.min(2048) as usize)
 }
 
 // A write with the job's r rows of the table.
@@ -75,23 +71,20 @@ fn access(
     requires { (32768 ≤ length table.old) × (state.count < length out.old) }
     ensures { Accessed store.now (length bounds.old) state kind offset value out.old result out.new }
 {
-    let registers = state.registers;
-    let count = state.count;
-    if kind == 0 {
-        out[count] = read(registers, offset as usize);
-        return Progress {
-            registers,
-            count: count + 1,
-        };
+    match kind {
+        0 => {
+            out[state.count] = read(state.registers, offset as usize);
+            Progress {
+                count: state.count + 1,
+                ..state
+            }
+        }
+        1 => Progress {
+            registers: write_rows(state.registers, offset as usize, value, store, table, bounds),
+            ..state
+        },
+        _ => state,
     }
-    if kind == 1 {
-        let after = write_rows(registers, offset as usize, value, store, table, bounds);
-        return Progress {
-            registers: after,
-            count,
-        };
-    }
-    state
 }
 
 // The replies to accesses of four bytes each, from reset on.
@@ -129,10 +122,7 @@ pub fn exchange(input: &[u8], out: &mut [u8]) -> usize
     ensures replies { out.new ≡ over (replies_of input.now (length out.old)) out.old }
 {
     let end = 2 + 12 * (fields::get_number(input, 0, 2) as usize);
-    if input.len() < end {
-        return 0;
-    }
-    if out.len() < (input.len() - end) / 4 {
+    if input.len() < end || out.len() < (input.len() - end) / 4 {
         return 0;
     }
     reply(&input[2..end], &input[end..], out)
