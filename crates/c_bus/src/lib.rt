@@ -14,18 +14,9 @@ fn registers_in(buffer: &[u8]) -> Registers
     requires { length buffer.now ≡ 136 }
     ensures { result.bytes ≡ buffer.now }
 {
-    let mut bytes = [0u8; 136];
-    bytes.copy_from_slice(buffer);
-    Registers { bytes }
-}
-
-// The registers into a buffer.
-fn put_registers(buffer: &mut [u8], r: Registers)
-    requires { length buffer.old ≡ 136 }
-    ensures { buffer.new ≡ r.bytes }
-{
-    let bytes = r.bytes;
-    buffer.copy_from_slice(&bytes);
+    Registers {
+        bytes: buffer.try_into().unwrap(),
+    }
 }
 
 // Resets the registers.
@@ -37,7 +28,7 @@ pub fn reset(registers: &mut [u8]) -> u32
     if registers.len() != 136 {
         return WRONG_LENGTH;
     }
-    put_registers(registers, bus_registers::reset());
+    registers.copy_from_slice(&bus_registers::reset().bytes);
     0
 }
 
@@ -77,6 +68,6 @@ pub fn write_register(
         return WRONG_LENGTH;
     }
     let after = bus_registers::write(registers_in(registers), offset, value, store, table, bounds);
-    put_registers(registers, after);
+    registers.copy_from_slice(&after.bytes);
     0
 }
