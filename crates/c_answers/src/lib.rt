@@ -4,18 +4,12 @@
 ghost use Rattle.std.specs.Prelude.{◌≡◌, length};
 ghost use Rattle.c_buffers.specs.Buffers.{filled};
 ghost use Rattle.c_boundary.specs.Boundary.{code_of};
-ghost use Rattle.c_answers.specs.Calls.{answer_lengths, answer_numbers, read_answer_call, answer_vector_after, answer_numbers_after};
+ghost use Rattle.c_answers.specs.Calls.{answer_numbers, read_answer_call, answer_vector_after, answer_numbers_after};
 ghost use Rattle.c_answers.specs.Calls.{write_answer_call, answer_record_after};
 
 use answer_records::AnswerRecord;
 use c_boundary::{WRONG_LENGTH, check_code, refusal_code};
 use c_buffers::{fill_coordinates, fill_numbers, vector_of};
-
-fn lengths_right(vector: usize, numbers: usize) -> bool
-    ensures { result ≡ answer_lengths vector numbers }
-{
-    vector == 8 && numbers == 7
-}
 
 // An answer into its two buffers.
 fn lay_answer(a: AnswerRecord, vector: &mut [i16], numbers: &mut [u64])
@@ -37,13 +31,13 @@ fn lay_answer(a: AnswerRecord, vector: &mut [i16], numbers: &mut [u64])
 }
 
 // Reads an answer record of 40 bytes.
-#[tactic(auto, using(crate::proofs::Lengths::answer_lengths_lem, c_buffers::proofs::Buffers::filled_whole))]
+#[tactic(auto, using(c_buffers::proofs::Buffers::filled_whole))]
 pub fn read_answer(bytes: &[u8], vector: &mut [i16], numbers: &mut [u64]) -> u32
     ensures code { result ≡ code_of (read_answer_call bytes.now vector.old numbers.old) }
     ensures vector { vector.new ≡ answer_vector_after bytes.now vector.old numbers.old }
     ensures numbers { numbers.new ≡ answer_numbers_after bytes.now vector.old numbers.old }
 {
-    if !lengths_right(vector.len(), numbers.len()) {
+    if vector.len() != 8 || numbers.len() != 7 {
         return WRONG_LENGTH;
     }
     match answer_records::read_answer(bytes) {

@@ -5,24 +5,12 @@ ghost use Rattle.std.specs.Prelude.{◌≡◌, length};
 ghost use Rattle.list_rows.specs.Rows.{with_row};
 ghost use Rattle.c_buffers.specs.Buffers.{filled};
 ghost use Rattle.c_boundary.specs.Boundary.{model_of, code_of};
-ghost use Rattle.c_jobs.specs.Calls.{job_lengths, job_numbers, read_job_call, job_numbers_after, corners_after, start_after};
-ghost use Rattle.c_jobs.specs.Calls.{region_lengths, write_job_call, job_record_after};
+ghost use Rattle.c_jobs.specs.Calls.{job_numbers, read_job_call, job_numbers_after, corners_after, start_after};
+ghost use Rattle.c_jobs.specs.Calls.{write_job_call, job_record_after};
 
 use c_boundary::{WRONG_LENGTH, check_code, job_of, model_of, refusal_code};
 use c_buffers::{fill_coordinates, fill_numbers};
 use jobs::Job;
-
-fn job_lengths_right(numbers: usize, corners: usize, start: usize) -> bool
-    ensures { result ≡ job_lengths numbers corners start }
-{
-    numbers == 8 && corners == 16 && start == 8
-}
-
-fn region_lengths_right(corners: usize, start: usize) -> bool
-    ensures { result ≡ region_lengths corners start }
-{
-    corners == 16 && start == 8
-}
 
 // A job into its three buffers.
 fn lay_job(j: Job, numbers: &mut [u64], corners: &mut [i16], start: &mut [i16])
@@ -48,7 +36,7 @@ fn lay_job(j: Job, numbers: &mut [u64], corners: &mut [i16], start: &mut [i16])
 }
 
 // Reads the job record in the first 72 bytes.
-#[tactic(auto, using(crate::proofs::Lengths::job_lengths_lem, c_buffers::proofs::Buffers::filled_whole))]
+#[tactic(auto, using(c_buffers::proofs::Buffers::filled_whole))]
 pub fn read_job(bytes: &[u8], numbers: &mut [u64], corners: &mut [i16], start: &mut [i16]) -> u32
     ensures code { result
         ≡ code_of (read_job_call bytes.now numbers.old corners.old start.old) }
@@ -59,7 +47,7 @@ pub fn read_job(bytes: &[u8], numbers: &mut [u64], corners: &mut [i16], start: &
     ensures start { start.new
         ≡ start_after bytes.now numbers.old corners.old start.old }
 {
-    if !job_lengths_right(numbers.len(), corners.len(), start.len()) {
+    if numbers.len() != 8 || corners.len() != 16 || start.len() != 8 {
         return WRONG_LENGTH;
     }
     match job_records::read_job(bytes) {
@@ -89,7 +77,7 @@ pub fn write_job(
     ensures bytes { bytes.new
         ≡ job_record_after (model_of n d scale p eps) t budget rows corners.now start.now bytes.old }
 {
-    if !region_lengths_right(corners.len(), start.len()) {
+    if corners.len() != 16 || start.len() != 8 {
         return WRONG_LENGTH;
     }
     let m = model_of(n, d, scale, p, eps);

@@ -3,24 +3,18 @@
 
 ghost use Rattle.std.specs.Prelude.{◌≡◌};
 ghost use Rattle.c_boundary.specs.Boundary.{code_of};
-ghost use Rattle.c_lines.specs.Calls.{line_lengths, write_line_call, patterns_after, read_line_call, coordinates_after};
+ghost use Rattle.c_lines.specs.Calls.{write_line_call, patterns_after, read_line_call, coordinates_after};
 
 use c_boundary::{WRONG_LENGTH, refusal_code};
 use c_buffers::{coordinates_of, fill_coordinates, fill_patterns, patterns_of};
 
-fn lengths_right(coordinates: usize, patterns: usize) -> bool
-    ensures { result ≡ line_lengths coordinates patterns }
-{
-    coordinates == 4 && patterns == 4
-}
-
 // Writes a line: the patterns of its four coefficients.
-#[tactic(auto, using(crate::proofs::Lengths::line_lengths_lem, c_buffers::proofs::Buffers::exactly_all, c_buffers::proofs::Buffers::filled_whole))]
+#[tactic(auto, using(c_buffers::proofs::Buffers::exactly_all, c_buffers::proofs::Buffers::filled_whole))]
 pub fn write_line(d: u8, scale: u8, coordinates: &[i16], patterns: &mut [u32]) -> u32
     ensures code { result ≡ code_of (write_line_call d scale coordinates.now patterns.old) }
     ensures patterns { patterns.new ≡ patterns_after d scale coordinates.now patterns.old }
 {
-    if !lengths_right(coordinates.len(), patterns.len()) {
+    if coordinates.len() != 4 || patterns.len() != 4 {
         return WRONG_LENGTH;
     }
     match coefficients::write_line(d, scale, coordinates_of(coordinates)) {
@@ -33,12 +27,12 @@ pub fn write_line(d: u8, scale: u8, coordinates: &[i16], patterns: &mut [u32]) -
 }
 
 // Reads a line from the patterns of its four coefficients.
-#[tactic(auto, using(crate::proofs::Lengths::line_lengths_lem, c_buffers::proofs::Buffers::exactly_all, c_buffers::proofs::Buffers::filled_whole))]
+#[tactic(auto, using(c_buffers::proofs::Buffers::exactly_all, c_buffers::proofs::Buffers::filled_whole))]
 pub fn read_line(d: u8, scale: u8, patterns: &[u32], coordinates: &mut [i16]) -> u32
     ensures code { result ≡ code_of (read_line_call d scale coordinates.old patterns.now) }
     ensures coordinates { coordinates.new ≡ coordinates_after d scale coordinates.old patterns.now }
 {
-    if !lengths_right(coordinates.len(), patterns.len()) {
+    if patterns.len() != 4 || coordinates.len() != 4 {
         return WRONG_LENGTH;
     }
     match coefficients::read_patterns(d, scale, patterns_of(patterns)) {
