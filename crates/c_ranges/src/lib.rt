@@ -1,7 +1,7 @@
 // The ranges of all coefficients for C.
 #![tactic(auto)]
 
-ghost use Rattle.std.specs.Prelude.{◌≡◌, ◌<◌, length};
+ghost use Rattle.std.specs.Prelude.{◌≡◌, ◌<◌, ◌/◌, ◌%◌, cond, eqb, length};
 ghost use Rattle.c_buffers.specs.Buffers.{filled};
 ghost use Rattle.c_boundary.specs.Boundary.{model_of, answered, code_of, value_after, if_accepted};
 ghost use Rattle.c_ranges.specs.Calls.{outcome_of, case_of, low_bits, high_bits, range_at, cases_of, patterns_of};
@@ -12,8 +12,9 @@ use c_boundary::{WRONG_LENGTH, job_of, model_of, settle};
 use c_buffers::{fill_bytes, fill_numbers, fill_patterns};
 use codes::Refusal;
 use coefficients::pattern;
-use range_hulls::{Range, Slot};
+use range_hulls::Range;
 use ranges::{Answer, Kind};
+use std::array;
 
 fn outcome_of(k: Kind) -> Result<u64, Refusal>
     ensures { result ≡ outcome_of k }
@@ -26,90 +27,65 @@ fn outcome_of(k: Kind) -> Result<u64, Refusal>
     }
 }
 
-fn case_of(r: Range) -> u8
+fn case_of(r: Option<Range>) -> u8
     ensures { result ≡ case_of r }
 {
     match r {
-        Range::One(_) => 1,
-        Range::Between(_, _) => 2,
-        Range::Nothing => 0,
+        Some(Range::One(_)) => 1,
+        Some(Range::Between(_, _)) => 2,
+        None => 0,
     }
 }
 
-fn low_bits(r: Range) -> u32
+fn low_bits(r: Option<Range>) -> u32
     ensures { result ≡ low_bits r }
 {
     match r {
-        Range::One(w) => pattern(w),
-        Range::Between(low, _) => pattern(low),
-        Range::Nothing => 0,
+        Some(Range::One(w)) => pattern(w),
+        Some(Range::Between(low, _)) => pattern(low),
+        None => 0,
     }
 }
 
-fn high_bits(r: Range) -> u32
+fn high_bits(r: Option<Range>) -> u32
     ensures { result ≡ high_bits r }
 {
     match r {
-        Range::One(w) => pattern(w),
-        Range::Between(_, high) => pattern(high),
-        Range::Nothing => 0,
+        Some(Range::One(w)) => pattern(w),
+        Some(Range::Between(_, high)) => pattern(high),
+        None => 0,
     }
 }
 
-fn range_at(slots: [Slot; 8], k: usize) -> Range
-    requires { k < 8 }
-    ensures { result ≡ range_at slots k }
-{
-    let slot = slots[k];
-    slot.range
-}
-
 // The case of each coordinate.
-fn cases_of(slots: [Slot; 8]) -> [u8; 8]
+fn cases_of(slots: [Option<Range>; 8]) -> [u8; 8]
     ensures { result ≡ cases_of slots }
 {
-    [
-        case_of(range_at(slots, 0)),
-        case_of(range_at(slots, 1)),
-        case_of(range_at(slots, 2)),
-        case_of(range_at(slots, 3)),
-        case_of(range_at(slots, 4)),
-        case_of(range_at(slots, 5)),
-        case_of(range_at(slots, 6)),
-        case_of(range_at(slots, 7)),
-    ]
+    array::from_fn(|k| case_of(slots[k]))
+}
+
+// The bits of a coordinate's low end, at an even place, or of its high end.
+fn end_bits(slots: [Option<Range>; 8], i: usize) -> u32
+    requires { i < 16 }
+    ensures { result
+        ≡ cond (eqb (i % 2) 0) (low_bits (range_at slots (i / 2))) (high_bits (range_at slots (i / 2))) }
+{
+    if i % 2 == 0 {
+        low_bits(slots[i / 2])
+    } else {
+        high_bits(slots[i / 2])
+    }
 }
 
 // The bits of the low and of the high end of each coordinate.
-fn patterns_of(slots: [Slot; 8]) -> [u32; 16]
+fn patterns_of(slots: [Option<Range>; 8]) -> [u32; 16]
     ensures { result ≡ patterns_of slots }
 {
-    let r1 = range_at(slots, 0);
-    let r2 = range_at(slots, 1);
-    let r3 = range_at(slots, 2);
-    let r4 = range_at(slots, 3);
-    let r5 = range_at(slots, 4);
-    let r6 = range_at(slots, 5);
-    let r7 = range_at(slots, 6);
-    let r8 = range_at(slots, 7);
-    [
-        low_bits(r1),
-        high_bits(r1),
-        low_bits(r2),
-        high_bits(r2),
-        low_bits(r3),
-        high_bits(r3),
-        low_bits(r4),
-        high_bits(r4),
-        low_bits(r5),
-        high_bits(r5),
-        low_bits(r6),
-        high_bits(r6),
-        low_bits(r7),
-        high_bits(r7),
-        low_bits(r8),
-        high_bits(r8),
-    ]
+    let mut bits = [0; 16];
+    for (i, w) in bits.iter_mut().enumerate() {
+        *w = end_bits(slots, i);
+    }
+    bits
 }
 
 fn lengths_right(
@@ -121,7 +97,7 @@ fn lengths_right(
 ) -> bool
     ensures { result ≡ ranges_lengths corners start patterns cases numbers }
 {
-    (corners == 16) & (start == 8) & (patterns == 16) & (cases == 8) & (numbers == 3)
+    corners == 16 && start == 8 && patterns == 16 && cases == 8 && numbers == 3
 }
 
 // An answer as this interface hands it over.
@@ -141,17 +117,12 @@ fn hand_over(
     ensures numbers { numbers.new
         ≡ if_accepted (answered (outcome_of a.kind)) (filled numbers.old (ranges_numbers a)) numbers.old }
 {
-    let kind = a.kind;
-    let slots = a.slots;
-    let outcome = outcome_of(kind);
+    let outcome = outcome_of(a.kind);
     match outcome {
         Ok(_) => {
-            let bits = patterns_of(slots);
-            let which = cases_of(slots);
-            let told = [a.count as u64, a.open as u64, a.peak as u64];
-            fill_patterns(patterns, &bits);
-            fill_bytes(cases, &which);
-            fill_numbers(numbers, &told);
+            fill_patterns(patterns, &patterns_of(a.slots));
+            fill_bytes(cases, &cases_of(a.slots));
+            fill_numbers(numbers, &[u64::from(a.count), a.open as u64, a.peak as u64]);
             settle(outcome, value)
         }
         Err(_) => settle(outcome, value),

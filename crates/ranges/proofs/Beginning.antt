@@ -16,24 +16,24 @@ use Rattle.range_hulls.specs.Hulls.{found_of}
 use Rattle.branching.specs.Branching.{just_above}
 use Rattle.ranges.specs.declared.step.State.{State}
 use Rattle.ranges.specs.declared.step.Tested.{Tested}
-use Rattle.ranges.specs.Inside.{tested_by, pushed, Within, Begun}
+use Rattle.ranges.specs.Inside.{tested_by, is_counted, is_kept, pushed, Within, Begun}
 use Rattle.ranges.proofs.Testing.{kept_same, costed_same}
 use Rattle.ranges.proofs.Pushing.{push_rows, push_within}
 
 module _ (cost : List ℤ → ℕ) (bound : Box → ℕ) (laws : Bounds cost bound) (K : ℕ) (box : Box) (some : 1 ≤ volume box) (w : Whole box)
     (small : bound box < 18446744073709551615) (t : List ℤ) (room : 1 ≤ row_count t) (x : ℕ)
     (is_x : x ≡ min (bound box) (just_above K)) (p : Tested) (is-p : p ≡ tested_by box x K) where
-  kept : p.kept ≡ keeps bound K box
-  kept = ap (λ (d : Tested). d.kept) is-p ∙ kept_same cost bound laws K box some x is_x small
+  kept : is_kept p ≡ keeps bound K box
+  kept = ap is_kept is-p ∙ kept_same cost bound laws K box some x is_x small
 
   -- the box alone, or nothing
-  begin_list : (begin cost bound K box).list ≡ cond p.kept (box ∷ []) []
+  begin_list : (begin cost bound K box).list ≡ cond (is_kept p) (box ∷ []) []
   unfolding begin
   begin_list = rw kept
 
-  rows : rows_of (pushed t 0 box p.kept) (cond p.kept 1 0) ≡ cond p.kept (box ∷ []) []
+  rows : rows_of (pushed t 0 box (is_kept p)) (cond (is_kept p) 1 0) ≡ cond (is_kept p) (box ∷ []) []
   unfolding rows_of
-  rows = by p.kept
+  rows = by (is_kept p)
     where
       by : (k : Bool) → rows_of (pushed t 0 box k) (cond k 1 0) ≡ cond k (box ∷ []) []
       by true = push_rows t 0 box w true (omega arith)
@@ -43,18 +43,18 @@ module _ (cost : List ℤ → ℕ) (bound : Box → ℕ) (laws : Bounds cost bou
   first_within true = push_within t 0 box w true
   first_within false = push_within t 0 box w false
 
-  pub begun : (r : State) → found_of r.hull ≡ cond p.counts (widen nothing box.low) nothing → r.«open» ≡ cond p.kept 1 0 →
-      r.count ≡ 0 → r.peak ≡ cond p.kept 1 0 → Begun cost bound K box t r (pushed t 0 box p.kept)
+  pub begun : (r : State) → found_of r.hull ≡ cond (is_counted p) (widen nothing box.low) nothing → r.«open» ≡ cond (is_kept p) 1 0 →
+      r.count ≡ 0 → r.peak ≡ cond (is_kept p) 1 0 → Begun cost bound K box t r (pushed t 0 box (is_kept p))
   unfolding begin
   begun r found is_open count peak =
       let is_found : found_of r.hull ≡ costed cost K nothing box =
-      found ∙ subst (λ (d : Tested). cond d.counts (widen nothing box.low) nothing ≡ costed cost K nothing box) (sym is-p)
+      found ∙ subst (λ (d : Tested). cond (is_counted d) (widen nothing box.low) nothing ≡ costed cost K nothing box) (sym is-p)
       (costed_same cost bound laws K box some x is_x small nothing) in
-      let list : rows_of (pushed t 0 box p.kept) r.«open» ≡ (begin cost bound K box).list = rw is_open rows ∙ sym begin_list in
-      let long : r.peak ≡ length (begin cost bound K box).list = peak ∙ by p.kept ∙ ap length (sym begin_list) in
+      let list : rows_of (pushed t 0 box (is_kept p)) r.«open» ≡ (begin cost bound K box).list = rw is_open rows ∙ sym begin_list in
+      let long : r.peak ≡ length (begin cost bound K box).list = peak ∙ by (is_kept p) ∙ ap length (sym begin_list) in
       record {
         state = rw (is_found, list, count, long);
-        within = rw peak (first_within p.kept);
+        within = rw peak (first_within (is_kept p));
       }
     where
       by : (k : Bool) → cond k 1 0 ≡ length (cond k (box ∷ []) [])

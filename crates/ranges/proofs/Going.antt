@@ -1,11 +1,9 @@
 -- The run of a search for ranges: the definition's run has come to the state, with its list in the first rows. Assumes nothing.
-use mathlib.Core.Path.{◌≡◌, refl, sym, ap, subst, ◌∙◌}
-use mathlib.Core.Bool.{true, false}
+use mathlib.Core.Path.{◌≡◌, refl, sym, ap, subst}
 use mathlib.Core.List.{List}
 use Prim.Native.Nat.{ℕ, ◌-◌, ◌/◌, ◌≤◌, ◌<◌}
 use native.Mathlib.Omega.{arith}
 use native.Mathlib.Nat.{le_refl}
-use borrow.Author.Tests.{ltb-true, ltb-false}
 use lib.IntN.{ℤ}
 use lib.ListN.{length}
 use Rattle.boxes.specs.declared.Box.{Box}
@@ -26,7 +24,7 @@ use Rattle.range_search.specs.Laws.{Sound}
 use Rattle.range_search.proofs.Running.{Running, running_begins, running_sound, running_finished, running_spent, running_full, running_goes}
 use Rattle.ranges.specs.declared.Kind.TheVariants.{Finished, Spent, Full}
 use Rattle.ranges.specs.declared.step.State.{State}
-use Rattle.ranges.specs.declared.step.Stepped.{Stepped}
+use Rattle.std.specs.Prelude.{Some, None}
 use Rattle.ranges.specs.Ranges.{kind_of}
 use Rattle.ranges.specs.Inside.{state_in, last_in, Within, Limited, Steppable, StepOutcome, Ended}
 use Rattle.ranges.proofs.Pushing.{within_later, within_along}
@@ -114,26 +112,26 @@ module _ (cost : List ℤ → ℕ) (bound : Box → ℕ) (K budget : ℕ) (box :
               countable = omega (arith, below);
             }
 
-        module _ (r : Stepped) (u : List ℤ) (o : StepOutcome cost bound K t s r u) where
-          pub going_full : r.full ≡ true → Ended def t₀ (record { kind = Full; state = s }) u
-          going_full is =
-              let many : row_count t < length (split cost bound K st).list = ltb-true _ _ (sym o.full ∙ is) in
-              rw (o.kept is)
-              (ended full (running_full cost bound K budget rows box st g.running more below (omega (arith, same_rows))))
+        pub going_full : (u : List ℤ) → StepOutcome cost bound K t s None u → Ended def t₀ (record { kind = Full; state = s }) u
+        going_full u o =
+            let many : row_count t < length (split cost bound K st).list = o.full in
+            rw o.kept
+            (ended full (running_full cost bound K budget rows box st g.running more below (omega (arith, same_rows))))
 
-          pub going_on : r.full ≡ false → Going r.state u
+        module _ (next : State) (u : List ℤ) (o : StepOutcome cost bound K t s (Some next) u) where
+          pub going_on : Going next u
           unfolding split
-          going_on is =
-              let few : length (split cost bound K st).list ≤ row_count t = ltb-false _ _ (sym o.full ∙ is) in
-              let peaks : r.state.peak ≡ (split cost bound K st).peak = ap (λ (x : Search.State). x.peak) (o.state is) in
+          going_on =
+              let few : length (split cost bound K st).list ≤ row_count t = o.room in
+              let peaks : next.peak ≡ (split cost bound K st).peak = ap (λ (x : Search.State). x.peak) o.state in
               record {
                 running =
-                    rw (o.state is) (running_goes cost bound K budget rows box st g.running more below (omega (arith, same_rows)));
-                within = within_along (within_later (omega arith) g.within) (o.within is);
+                    rw o.state (running_goes cost bound K budget rows box st g.running more below (omega (arith, same_rows)));
+                within = within_along (within_later (omega arith) g.within) o.within;
               }
 
-          pub going_counts : r.full ≡ false → budget - r.state.count < budget - s.count
+          pub going_counts : budget - next.count < budget - s.count
           unfolding split
-          going_counts is =
-              let counts : r.state.count ≡ (split cost bound K st).count = ap (λ (x : Search.State). x.count) (o.state is) in
+          going_counts =
+              let counts : next.count ≡ (split cost bound K st).count = ap (λ (x : Search.State). x.count) o.state in
               omega (arith, below)

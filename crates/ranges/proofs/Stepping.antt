@@ -1,12 +1,12 @@
 -- A step leaves the definition's state after a split: the rows before the last are all kept, and of the halves those that are, behind them.
 -- Assumes nothing.
 use mathlib.Core.Path.{◌≡◌, refl, sym, ap, subst, ◌∙◌}
-use mathlib.Core.Bool.{Bool, true, false, cond, true≢false}
+use mathlib.Core.Bool.{Bool, true, false, cond}
 use mathlib.Core.List.{List, [], ◌∷◌, ◌++◌, append_assoc}
 use Prim.Native.Nat.{ℕ, suc, ◌+◌, ◌-◌, ◌/◌, ◌≤◌, ◌<◌, min, max}
 use native.Mathlib.Omega.{arith}
-use borrow.Author.Tests.{lt-ltb, le-ltb}
 use lib.Dec.{T}
+use Rattle.std.specs.Prelude.{Option, Some, None}
 use lib.IntN.{ℤ}
 use lib.ListN.{length, length-append}
 use Rattle.integers.specs.Lists.{All, none, also}
@@ -22,13 +22,11 @@ use Rattle.certificate.specs.Search.{keep_if}
 use Rattle.certificate.proofs.Lists.{append_kept}
 use Rattle.range_search.specs.RangeSearch.{Found, keeps, widen, costed, split}
 use Rattle.range_search.proofs.Last.{cuts_last}
-use Rattle.range_hulls.specs.declared.Hull.{Hull}
 use Rattle.range_hulls.specs.Hulls.{found_of}
 use Rattle.branching.specs.Branching.{just_above}
 use Rattle.ranges.specs.declared.step.State.{State}
-use Rattle.ranges.specs.declared.step.Stepped.{Stepped}
 use Rattle.ranges.specs.declared.step.Tested.{Tested}
-use Rattle.ranges.specs.Inside.{tested_by, pushed, place_after, state_in, last_in, Within, Steppable, StepOutcome}
+use Rattle.ranges.specs.Inside.{tested_by, is_counted, is_kept, pushed, place_after, state_in, last_in, Within, Steppable, StepOutcome}
 use Rattle.ranges.proofs.Testing.{kept_same, costed_same}
 use Rattle.ranges.proofs.Pushing.{left_whole, right_whole, within_later, within_along, push_rows, push_within}
 
@@ -160,25 +158,25 @@ module _ (cost : List ℤ → ℕ) (bound : Box → ℕ) (K : ℕ) (t : List ℤ
     q_half : q ≡ tested_by (right_half b) y K
     q_half = is-q ∙ ap (λ (d : Box). tested_by d y K) is_right
 
-    left_kept : p.kept ≡ kl
+    left_kept : is_kept p ≡ kl
     left_kept =
-        ap (λ (d : Tested). d.kept) p_half
+        ap is_kept p_half
         ∙ kept_same cost bound laws K (left_half b) halves.left_some x fx_half h.left_limit
 
-    right_kept : q.kept ≡ kr
+    right_kept : is_kept q ≡ kr
     right_kept =
-        ap (λ (d : Tested). d.kept) q_half
+        ap is_kept q_half
         ∙ kept_same cost bound laws K (right_half b) halves.right_some y fy_half h.right_limit
 
-    left_found : (found : Found) → cond p.counts (widen found left.low) found ≡ costed cost K found (left_half b)
+    left_found : (found : Found) → cond (is_counted p) (widen found left.low) found ≡ costed cost K found (left_half b)
     left_found found =
         rw (p_half, is-left) (costed_same cost bound laws K (left_half b) halves.left_some x fx_half h.left_limit found)
 
-    right_found : (found : Found) → cond q.counts (widen found right.low) found ≡ costed cost K found (right_half b)
+    right_found : (found : Found) → cond (is_counted q) (widen found right.low) found ≡ costed cost K found (right_half b)
     right_found found =
         rw (q_half, is_right) (costed_same cost bound laws K (right_half b) halves.right_some y fy_half h.right_limit found)
 
-    module _ (i j : ℕ) (is-i : i ≡ cond p.kept 1 0) (is-j : j ≡ cond q.kept 1 0) where
+    module _ (i j : ℕ) (is-i : i ≡ cond (is_kept p) 1 0) (is-j : j ≡ cond (is_kept q) 1 0) where
       between_is : at + i ≡ between
       between_is = ap (λ (n : ℕ). at + n) (is-i ∙ ap (λ (k : Bool). cond k 1 0) left_kept)
 
@@ -186,35 +184,28 @@ module _ (cost : List ℤ → ℕ) (bound : Box → ℕ) (K : ℕ) (t : List ℤ
       number_is =
           ap (λ (n : ℕ). n + j) between_is ∙ ap (λ (n : ℕ). between + n) (is-j ∙ ap (λ (k : Bool). cond k 1 0) right_kept)
 
-      pub full_step : row_count t < at + i + j → (r : Stepped) → r.full ≡ true → StepOutcome cost bound K t s r t
-      full_step many r is-full =
-          record {
-            full = is-full ∙ sym (lt-ltb (row_count t) _ (omega (arith, number_is, split_number)));
-            kept = λ e. refl;
-            state = λ e. absurd (true≢false (sym is-full ∙ e));
-            within = λ e. absurd (true≢false (sym is-full ∙ e));
-          }
+      pub full_step : row_count t < at + i + j → StepOutcome cost bound K t s None t
+      full_step many = record { full = omega (arith, number_is, split_number); kept = refl }
 
       pub made_step :
           at + i + j ≤ row_count t →
-          (u₁ u : List ℤ) → u₁ ≡ pushed t at left p.kept → u ≡ pushed u₁ (at + i) right q.kept →
-          (h₁ : Hull) → found_of h₁ ≡ cond p.counts (widen (found_of s.hull) left.low) (found_of s.hull) →
-          (r : Stepped) → r.full ≡ false →
-          found_of r.state.hull ≡ cond q.counts (widen (found_of h₁) right.low) (found_of h₁) →
-          r.state.«open» ≡ at + i + j → r.state.count ≡ s.count + 1 → r.state.peak ≡ max s.peak (at + i + j) →
-          StepOutcome cost bound K t s r u
-      made_step few u₁ u is_one is-u h₁ found-one r not_full found is_open is-count is-peak =
+          (u₁ u : List ℤ) → u₁ ≡ pushed t at left (is_kept p) → u ≡ pushed u₁ (at + i) right (is_kept q) →
+          (h₁ : Option Box) → found_of h₁ ≡ cond (is_counted p) (widen (found_of s.hull) left.low) (found_of s.hull) →
+          (r : State) →
+          found_of r.hull ≡ cond (is_counted q) (widen (found_of h₁) right.low) (found_of h₁) →
+          r.«open» ≡ at + i + j → r.count ≡ s.count + 1 → r.peak ≡ max s.peak (at + i + j) →
+          StepOutcome cost bound K t s (Some r) u
+      made_step few u₁ u is_one is-u h₁ found-one r found is_open is-count is-peak =
           let room : number ≤ row_count t = omega (arith, number_is) in
           let is_both : u ≡ both room =
           is-u ∙ rw (is_one, left_kept, right_kept, is-left, is_right, between_is) in
-          let found_both : found_of r.state.hull ≡ costed cost K (costed cost K (found_of s.hull) (left_half b)) (right_half b) =
+          let found_both : found_of r.hull ≡ costed cost K (costed cost K (found_of s.hull) (left_half b)) (right_half b) =
           found ∙ right_found (found_of h₁)
           ∙ ap (λ (f : Found). costed cost K f (right_half b)) (found-one ∙ left_found (found_of s.hull)) in
           record {
-            full = not_full ∙ sym (le-ltb (row_count t) _ (omega (arith, number_is, split_number)));
-            kept = λ e. absurd (true≢false (sym e ∙ not_full));
+            room = omega (arith, number_is, split_number);
             state =
-                λ e. rw is_both (split_state room r.state found_both (is_open ∙ number_is) is-count
+                rw is_both (split_state room r found_both (is_open ∙ number_is) is-count
                 (is-peak ∙ ap (max s.peak) number_is));
-            within = λ e. rw is_both (within_later (omega (arith, number_is)) (both_within room));
+            within = rw is_both (within_later (omega (arith, number_is)) (both_within room));
           }

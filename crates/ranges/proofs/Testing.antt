@@ -1,6 +1,6 @@
 -- A box by a number that was found of its bound, up to one more than the ceiling. Assumes nothing.
 use mathlib.Core.Path.{◌≡◌, refl, sym, ap, ◌∙◌}
-use mathlib.Core.Bool.{Bool, true, false, cond, not, ◌&&◌}
+use mathlib.Core.Bool.{Bool, true, false, cond, ◌&&◌}
 use mathlib.Core.List.{List}
 use mathlib.Core.Logic.{⊎_elim}
 use Prim.Native.Nat.{ℕ, ◌≤◌, ◌<◌, min}
@@ -14,7 +14,8 @@ use Rattle.boxes.specs.Boxes.{volume}
 use Rattle.boxes.specs.Laws.{Bounds}
 use Rattle.range_search.specs.RangeSearch.{Found, keeps, widen, costed}
 use Rattle.branching.specs.Branching.{just_above}
-use Rattle.ranges.specs.Inside.{tested_by}
+use Rattle.ranges.specs.declared.step.Tested.TheVariants.{Counted, Kept, Dropped}
+use Rattle.ranges.specs.Inside.{tested_by, is_counted, is_kept}
 
 -- as far as one more than the ceiling decides as the whole bound does
 same_test : (a x K : ℕ) → x ≡ min a (just_above K) → a < 18446744073709551615 → leb x K ≡ leb a K
@@ -28,24 +29,28 @@ module _ (cost : List ℤ → ℕ) (bound : Box → ℕ) (laws : Bounds cost bou
   test = same_test (bound b) x K is small
 
   -- it is kept
-  pub kept_same : (tested_by b x K).kept ≡ keeps bound K b
+  pub kept_same : is_kept (tested_by b x K) ≡ keeps bound K b
   unfolding keeps
-  kept_same = rw test (by (eqb (volume b) 1) refl)
+  kept_same = rw test (by (leb (bound b) K) (eqb (volume b) 1) refl)
     where
-      by : (t : Bool) → eqb (volume b) 1 ≡ t → (leb (bound b) K && not t) ≡ (leb (bound b) K && leb 2 (volume b))
-      by true e = let one = eqb-true (volume b) 1 e in rw (lt-leb 2 (volume b) (omega arith))
-      by false e =
+      by : (low one : Bool) → eqb (volume b) 1 ≡ one → is_kept (cond low (cond one Counted Kept) Dropped) ≡ (low && leb 2 (volume b))
+      by false one e = refl
+      by true true e = let volume-one = eqb-true (volume b) 1 e in sym (lt-leb 2 (volume b) (omega arith))
+      by true false e =
           let other : volume b ≡ 1 → ⊥ = eqb-false (volume b) 1 e in
-          rw (le-leb 2 (volume b) (omega arith))
+          sym (le-leb 2 (volume b) (omega arith))
 
   -- its one vector is found
-  pub costed_same : (found : Found) → cond (tested_by b x K).counts (widen found b.low) found ≡ costed cost K found b
+  pub costed_same : (found : Found) → cond (is_counted (tested_by b x K)) (widen found b.low) found ≡ costed cost K found b
   unfolding costed
   costed_same found = ap (λ (t : Bool). cond t (widen found b.low) found) counts
     where
-      by : (t : Bool) → eqb (volume b) 1 ≡ t → (t && leb (bound b) K) ≡ (t && leb (cost b.low) K)
-      by true e = rw (laws.tight b (eqb-true (volume b) 1 e))
-      by false e = refl
+      by : (low one : Bool) → leb (bound b) K ≡ low → eqb (volume b) 1 ≡ one →
+          is_counted (cond low (cond one Counted Kept) Dropped) ≡ (one && leb (cost b.low) K)
+      by true true l e = sym (rw (← laws.tight b (eqb-true (volume b) 1 e)) l)
+      by true false l e = refl
+      by false true l e = sym (rw (← laws.tight b (eqb-true (volume b) 1 e)) l)
+      by false false l e = refl
 
-      counts : (tested_by b x K).counts ≡ (eqb (volume b) 1 && leb (cost b.low) K)
-      counts = rw test (by (eqb (volume b) 1) refl)
+      counts : is_counted (tested_by b x K) ≡ (eqb (volume b) 1 && leb (cost b.low) K)
+      counts = rw test (by (leb (bound b) K) (eqb (volume b) 1) refl refl)

@@ -1,30 +1,35 @@
 -- What the functions behind a search for ranges say to each other of its state.
-use Rattle.std.specs.Prelude.{◌≡◌, Bool, true, false, cond, not, ◌&&◌, List, ℕ, ◌+◌, ◌-◌, ◌*◌, ◌≤◌, ◌<◌, T, ltb, leb, eqb, ℤ, length, drop}
+use Rattle.std.specs.Prelude.{◌≡◌, Bool, true, false, cond, List, ℕ, ◌+◌, ◌-◌, ◌*◌, ◌≤◌, ◌<◌, T, leb, eqb, ℤ, length, drop, Option, Some, None}
 use Rattle.integers.specs.Lists.{All}
 use Rattle.boxes.specs.declared.Box.{Box}
 use Rattle.boxes.specs.Boxes.{InBox, volume}
-use Rattle.boxes.specs.Split.{left_half, right_half, zero_box}
+use Rattle.boxes.specs.Split.{left_half, right_half}
 use Rattle.jobs.specs.declared.Model.{Model}
 use Rattle.list_rows.specs.Rows.{row_count, row_at, rows_of, with_row}
 use Rattle.coefficients.specs.Coefficient.{coefficient_or_zero}
 use Rattle.range_search.specs.RangeSearch as Search
 use Rattle.range_search.specs.RangeSearch.{keeps, begin, split}
-use Rattle.range_hulls.specs.declared.Hull.{Hull}
 use Rattle.range_hulls.specs.Hulls.{found_of, slots_of}
 use Rattle.ranges.specs.declared.Answer.{Answer}
 use Rattle.ranges.specs.declared.step.State.{State}
-use Rattle.ranges.specs.declared.step.Stepped.{Stepped}
 use Rattle.ranges.specs.declared.step.Tested.{Tested}
+use Rattle.ranges.specs.declared.step.Tested.TheVariants.{Counted, Kept, Dropped}
 use Rattle.ranges.specs.declared.run.End.{End}
 use Rattle.ranges.specs.Ranges.{kind_of, given_by}
 
--- nothing is found
-abbrev pub no_hull : Hull
-no_hull = record { found = false; ends = zero_box }
-
 -- what a number x says of the box b, where it is found as far as it decides of the bound: whether its one vector counts, or it is kept
 abbrev pub tested_by : Box → ℕ → ℕ → Tested
-tested_by b x K = record { counts = eqb (volume b) 1 && leb x K; kept = leb x K && not (eqb (volume b) 1) }
+tested_by b x K = cond (leb x K) (cond (eqb (volume b) 1) Counted Kept) Dropped
+
+abbrev pub is_counted : Tested → Bool
+is_counted Counted = true
+is_counted Kept = false
+is_counted Dropped = false
+
+abbrev pub is_kept : Tested → Bool
+is_kept Counted = false
+is_kept Kept = true
+is_kept Dropped = false
 
 -- the table with a box written as row `at`, if it is kept, and the place behind it
 abbrev pub pushed : List ℤ → ℕ → Box → Bool → List ℤ
@@ -65,12 +70,20 @@ pub record Steppable (bound : Box → ℕ) (K : ℕ) (t : List ℤ) (s : State) 
   pub right_limit : bound (right_half (last_in t s)) < 18446744073709551615
   pub countable : s.count < 4294967295
 
--- what a step says: there is no room for the split and nothing changed, or the split is made
-pub record StepOutcome (cost : List ℤ → ℕ) (bound : Box → ℕ) (K : ℕ) (t : List ℤ) (s : State) (r : Stepped) (u : List ℤ) : Type 0 where
-  pub full : r.full ≡ ltb (row_count t) (length (split cost bound K (state_in t s)).list)
-  pub kept : r.full ≡ true → u ≡ t
-  pub state : r.full ≡ false → state_in u r.state ≡ split cost bound K (state_in t s)
-  pub within : r.full ≡ false → Within r.state.peak t u
+-- what a step says: there is no room for the split and nothing changed
+pub record NoRoom (cost : List ℤ → ℕ) (bound : Box → ℕ) (K : ℕ) (t : List ℤ) (s : State) (u : List ℤ) : Type 0 where
+  pub full : row_count t < length (split cost bound K (state_in t s)).list
+  pub kept : u ≡ t
+
+-- or the split is made
+pub record Split (cost : List ℤ → ℕ) (bound : Box → ℕ) (K : ℕ) (t : List ℤ) (s next : State) (u : List ℤ) : Type 0 where
+  pub room : length (split cost bound K (state_in t s)).list ≤ row_count t
+  pub state : state_in u next ≡ split cost bound K (state_in t s)
+  pub within : Within next.peak t u
+
+abbrev pub StepOutcome : (List ℤ → ℕ) → (Box → ℕ) → ℕ → List ℤ → State → Option State → List ℤ → Type 0
+StepOutcome cost bound K t s None u = NoRoom cost bound K t s u
+StepOutcome cost bound K t s (Some next) u = Split cost bound K t s next u
 
 -- what the steps end with is the answer `def`, where the table was t
 pub record Ended (def : Search.Answer) (t : List ℤ) (z : End) (u : List ℤ) : Type 0 where

@@ -11,14 +11,15 @@ ghost use Rattle.range_hulls.specs.Hulls.{found_of};
 ghost use Rattle.ranges.specs.Ranges.{check_ranges, given_by, refused, ranges_answer, TableRanged, RangesCertified};
 ghost use Rattle.ranges.specs.Inside.{told_of};
 
-use crate::run::{End, begin, no_hull, steps};
+use crate::run::{End, begin, steps};
+use boxes::Box;
 use codes::Refusal;
 use eval_lanes::{Chunk, Lanes};
 use jobs::{Job, Model};
-use range_hulls::{Hull, Range, Slot, slots};
+use range_hulls::{Range, slots};
 
 // What the search comes to. "The search is finished when no box is open"; "a search that isn't finished answers spent or full".
-#[derive(Clone, Copy)]
+#[derive(Clone, Copy, Debug, PartialEq, Eq)]
 pub enum Kind {
     Finished,
     Spent,
@@ -28,10 +29,10 @@ pub enum Kind {
 
 // The range of each coordinate, with the splits counted, the open boxes and the peak of their number. Only a finished search tells ranges;
 // at a refusal the numbers are 0.
-#[derive(Clone, Copy)]
+#[derive(Clone, Copy, Debug, PartialEq)]
 pub struct Answer {
     pub kind: Kind,
-    pub slots: [Slot; 8],
+    pub slots: [Option<Range>; 8],
     pub count: u32,
     pub open: usize,
     pub peak: usize,
@@ -49,12 +50,9 @@ pub fn check_ranges(store: &[u8], job: Job, numbers: usize) -> Result<(), Refusa
 fn refusal(why: Refusal) -> Answer
     ensures { result ≡ refused why }
 {
-    let none = Slot {
-        range: Range::Nothing,
-    };
     Answer {
         kind: Kind::Refused(why),
-        slots: [none; 8],
+        slots: [None; 8],
         count: 0,
         open: 0,
         peak: 0,
@@ -62,14 +60,12 @@ fn refusal(why: Refusal) -> Answer
 }
 
 // What is told of what was found: all, if the search is finished.
-fn given_by(kind: Kind, hull: Hull) -> Hull
+fn given_by(kind: Kind, hull: Option<Box>) -> Option<Box>
     ensures { found_of result ≡ given_by kind (found_of hull) }
 {
     match kind {
         Kind::Finished => hull,
-        Kind::Spent => no_hull(),
-        Kind::Full => no_hull(),
-        Kind::Refused(_) => no_hull(),
+        _ => None,
     }
 }
 
@@ -77,33 +73,30 @@ fn given_by(kind: Kind, hull: Hull) -> Hull
 fn used_by(n: u8, d: u8) -> usize
     ensures { result ≡ n * d }
 {
-    (n as usize) * (d as usize)
+    usize::from(n) * usize::from(d)
 }
 
 // An answer with a kind and a state.
 fn tell(m: Model, end: End) -> Answer
     ensures { result ≡ told_of m end }
 {
-    let kind = end.kind;
     let s = end.state;
-    let hull = s.hull;
     Answer {
-        kind,
-        slots: slots(m.scale, used_by(m.n, m.d), given_by(kind, hull)),
+        kind: end.kind,
+        slots: slots(m.scale, used_by(m.n, m.d), given_by(end.kind, s.hull)),
         count: s.count,
         open: s.open,
         peak: s.peak,
     }
 }
 
-// Every coordinate has the size of a signed 16-bit number: to read them is to know it. For the proof's sake, nothing else.
+// Every coordinate has the size of a signed 16-bit number. That is for the proof's sake alone: it knows
+// so of a signed number only where the number is read (of an unsigned one its type tells).
 fn sixteen_bits(v: &[i16])
     ensures { Small v.now }
 {
-    let mut k = 0;
-    while k < v.len() {
-        let size = v[k];
-        k += 1;
+    for k in 0..v.len() {
+        let _size = v[k];
     }
 }
 
@@ -114,21 +107,16 @@ pub fn ranges(store: &[u8], job: Job, ceiling: u64, table: &mut [i16]) -> Answer
     ensures table { TableRanged store.now job ceiling table.old table.new }
     ensures ranges { RangesCertified store.now job ceiling table.old result }
 {
-    match check_ranges(store, job, table.len()) {
-        Ok(()) => {
-            let m = job.model;
-            let domain = job.domain;
-            let low = domain.low;
-            let high = domain.high;
-            sixteen_bits(&low);
-            sixteen_bits(&high);
-            let column: Lanes = [0.0; 80];
-            let chunk: Chunk = [column; 5];
-            let mut lanes = [chunk; 54];
-            eval_stores::decode(&mut lanes, store, m.d, scale::power(m.scale));
-            let first = begin(store, &lanes, m, ceiling, table, domain);
-            tell(m, steps(store, &lanes, job, ceiling, table, first))
-        }
-        Err(why) => refusal(why),
+    if let Err(why) = check_ranges(store, job, table.len()) {
+        return refusal(why);
     }
+    sixteen_bits(&job.domain.low);
+    sixteen_bits(&job.domain.high);
+    let m = job.model;
+    let column: Lanes = [0.0; 80];
+    let chunk: Chunk = [column; 5];
+    let mut lanes = [chunk; 54];
+    eval_stores::decode(&mut lanes, store, m.d, scale::power(m.scale));
+    let first = begin(store, &lanes, m, ceiling, table, job.domain);
+    tell(m, steps(store, &lanes, job, ceiling, table, first))
 }

@@ -7,35 +7,20 @@ ghost use Rattle.list_rows.specs.Rows.{row_count};
 ghost use Rattle.range_search.specs.RangeSearch.{begin};
 ghost use Rattle.branching.specs.Branching.{Evaluable};
 ghost use Rattle.ranges.specs.Ranges.{ranges_in};
-ghost use Rattle.ranges.specs.Inside.{no_hull, state_in, Limited, Begun, Ended};
+ghost use Rattle.ranges.specs.Inside.{state_in, Limited, Begun, Ended};
 
 use crate::Kind;
-use crate::step::{State, costed, one_if, push, step, test};
+use crate::step::{State, costed, push, step, test};
 use boxes::Box;
 use branching::just_above;
 use eval_lanes::Chunk;
 use jobs::{Job, Model};
-use range_hulls::Hull;
 
 // What the steps come to.
 #[derive(Clone, Copy)]
 pub struct End {
     pub kind: Kind,
     pub state: State,
-}
-
-// Nothing is found.
-pub fn no_hull() -> Hull
-    ensures { result ≡ no_hull }
-{
-    let zero = [0i16; 8];
-    Hull {
-        found: false,
-        ends: Box {
-            low: zero,
-            high: zero,
-        },
-    }
 }
 
 // The given box is open if it is kept, and costed if it is one vector.
@@ -54,20 +39,14 @@ pub fn begin(
 {
     let x = costs::bound_in(store, lanes, m, domain, just_above(ceiling));
     let given = test(domain, x, ceiling);
-    push(table, 0, domain, given.kept);
-    let number = one_if(given.kept);
+    push(table, 0, domain, given.is_kept());
+    let number = usize::from(given.is_kept());
     State {
-        hull: costed(no_hull(), domain, given.counts),
+        hull: costed(None, domain, given.is_counted()),
         open: number,
         count: 0,
         peak: number,
     }
-}
-
-fn ended(kind: Kind, state: State) -> End
-    ensures { result ≡ record { kind = kind; state = state } }
-{
-    End { kind, state }
 }
 
 // Step after step, from the beginning: finished where no box is open, (b) spent, and `step` is (c).
@@ -85,21 +64,28 @@ pub fn steps(
         ≡ begin (cost job.model (points_of store.now)) (bound job.model (points_of store.now)) ceiling job.domain }
     ensures { Ended (ranges_in store.now job ceiling (row_count table.old)) table.old result table.new }
 {
-    let m = job.model;
     let mut s = first;
     loop {
-        let done = s.open == 0;
-        let spent = s.count == job.budget;
-        if done {
-            return ended(Kind::Finished, s);
+        if s.open == 0 {
+            return End {
+                kind: Kind::Finished,
+                state: s,
+            };
         }
-        if spent {
-            return ended(Kind::Spent, s);
+        if s.count == job.budget {
+            return End {
+                kind: Kind::Spent,
+                state: s,
+            };
         }
-        let next = step(store, lanes, m, ceiling, table, s);
-        if next.full {
-            return ended(Kind::Full, s);
+        match step(store, lanes, job.model, ceiling, table, s) {
+            Some(next) => s = next,
+            None => {
+                return End {
+                    kind: Kind::Full,
+                    state: s,
+                };
+            }
         }
-        s = next.state;
     }
 }
