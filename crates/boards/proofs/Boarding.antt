@@ -8,9 +8,9 @@ use native.Mathlib.Numerals.{add-one}
 use native.Mathlib.Omega.{arith}
 use lib.Dec.{T, leb, leb→le}
 use lib.IntN.{ℤ}
-use lib.ListN.{length, take, drop, get_or, set, replicate, length-append, length-replicate}
-use lib.Seq.{set_at, drop-cons, get_or_at}
-use Rattle.std.specs.Prelude.{Ok, Err}
+use lib.ListN.{length, take, drop, get_or, set, replicate, length-append, length-drop, length-replicate}
+use lib.Seq.{set_at, drop-cons, get_or_at, length-take-le}
+use Rattle.std.specs.Prelude.{Result, Ok, Err, IfOk}
 use Rattle.integers.specs.Lists.{over}
 use Rattle.integers.proofs.Tests.{and_parts, le_or_lt}
 use Rattle.codes.specs.declared.Refusal.{Refusal}
@@ -21,7 +21,8 @@ use Rattle.list_rows.specs.Rows.{row_count}
 use Rattle.certificate.specs.Search as Search
 use Rattle.search.specs.declared.Answer.{Answer}
 use Rattle.search.specs.Search.{searched, refused, answer_unless_refused}
-use Rattle.job_records.specs.Jobs.{job_of}
+use Rattle.job_records.specs.Jobs.{job_of, read_job}
+use Rattle.job_records.proofs.Jobs.{accepted}
 use Rattle.sharing.specs.Sharing.{Run, SharedTable, SharedBounds}
 use Rattle.sharing.proofs.Sharing.{table_shared, bounds_shared}
 use Rattle.shares.specs.Shares.{left_before, splits_of}
@@ -32,7 +33,7 @@ use Rattle.one_board.specs.Board.{under, check_board, board_answer, BoardTable, 
 use Rattle.one_board.proofs.Alone.{within_budget, any_budget, board_certified}
 use Rattle.boards.specs.Boards.{check_jobs, job_at, begin_of, in_turn, splits_in}
 use Rattle.boards.specs.Boards.{check_call, store_at, check_at, search_at, own_at, spent_at, budget_at, answer_at, run_at, runs_of}
-use Rattle.boards.specs.Boards.{boards_answer, searches_run, BoardsShared, BoardCertified, BoardsCertified}
+use Rattle.boards.specs.Boards.{boards_found, boards_answer, searches_run, BoardsShared, BoardCertified, BoardsCertified}
 use Rattle.boards.specs.Inside.{Answered, Turn}
 
 -- what check 18 lets through
@@ -121,6 +122,14 @@ record_lent jobs i =
     let e : (72 * i + 72) - 72 * i ≡ 72 = omega arith in
     rw e refl
 
+-- and as it is read
+pub record_read : (jobs : List ℕ) (i : ℕ) → 72 * i + 72 ≤ length jobs
+    → read_job (take ((72 * i + 72) - 72 * i) (drop (72 * i) jobs)) ≡ Ok (job_of (take 72 (drop (72 * i) jobs)))
+record_read jobs i there =
+    let long : length (take 72 (drop (72 * i) jobs)) ≡ 72 =
+    length-take-le 72 (drop (72 * i) jobs) (omega (arith, length-drop (72 * i) jobs, there)) in
+    rw (record_lent jobs i) (accepted (take 72 (drop (72 * i) jobs)) (omega (arith, long)))
+
 module _ (count total : ℕ) (jobs stores lengths : List ℕ) (table : List ℤ) (bounds : List ℕ) where
   abbrev own : ℕ → ℕ
   own i = own_at count total jobs stores lengths table bounds i
@@ -160,10 +169,10 @@ module _ (count total : ℕ) (jobs stores lengths : List ℕ) (table : List ℤ)
   all_splits (suc n) = omega (arith, splits_append (in_turn answer n) (answer n ∷ []), all_splits n, answer_splits n)
 
   -- what job i is given, as the code has it
-  pub given : (i l waiting : ℕ) (lent : List ℕ) (job : Job) → lent ≡ take 72 (drop (72 * i) jobs) → waiting ≡ count - i → l ≡ left i
-      → job ≡ under (job_of lent) (min (job_of lent).budget (l / waiting)) → job ≡ under (job_at jobs i) (budget i)
+  pub given : (i l waiting : ℕ) (own job : Job) → own ≡ job_of (take 72 (drop (72 * i) jobs)) → waiting ≡ count - i → l ≡ left i
+      → job ≡ under own (min own.budget (l / waiting)) → job ≡ under (job_at jobs i) (budget i)
   unfolding job_at
-  given i l waiting lent job part more same e = e ∙ rw (part, more, same) refl
+  given i l waiting own job read more same e = e ∙ rw (read, more, same) refl
 
   -- one job, as its search promises
   abbrev Searched : ℕ → ℕ → Job → List ℤ → List ℕ → Answer → List ℤ → List ℕ → Type 0
@@ -246,19 +255,19 @@ module _ (count total : ℕ) (jobs stores lengths : List ℕ) (table : List ℤ)
     };
   }
 
-  -- what the answer holds, where the call is accepted
-  module _ (ok : check_call count total jobs stores lengths table bounds ≡ pass) (i : ℕ) (below : i < count) where
-    pub slot_answer : get_or (boards_answer count total jobs stores lengths table bounds).answers i (refused Refusal.Jobs) ≡ answer i
-    unfolding boards_answer over
-    slot_answer = rw ok (in_turn_at answer count i _ (refused Refusal.Jobs) below)
+  -- what the answers hold, unless the call is refused
+  module _ (i : ℕ) (below : i < count) where
+    pub slot_answer : get_or (boards_found count total jobs stores lengths table bounds).answers i (refused Refusal.Jobs) ≡ answer i
+    unfolding boards_found over
+    slot_answer = in_turn_at answer count i _ (refused Refusal.Jobs) below
 
-    slot_budget : get_or (boards_answer count total jobs stores lengths table bounds).budgets i 0 ≡ budget i
-    unfolding boards_answer over
-    slot_budget = rw ok (in_turn_at budget count i _ 0 below)
+    slot_budget : get_or (boards_found count total jobs stores lengths table bounds).budgets i 0 ≡ budget i
+    unfolding boards_found over
+    slot_budget = in_turn_at budget count i _ 0 below
 
     -- "Each answer is certified for its own job under the budget it got."
     certified : check i ≡ pass
-        → BoardCertified count total jobs stores lengths table bounds (boards_answer count total jobs stores lengths table bounds) i
+        → BoardCertified count total jobs stores lengths table bounds (boards_found count total jobs stores lengths table bounds) i
     certified accepted =
         let job = under (job_at jobs i) (budget i) in
         let own_check : check_board stores (begin_of lengths i) (get_or lengths i 0) job (length table) (length bounds) ≡ pass =
@@ -270,9 +279,9 @@ module _ (count total : ℕ) (jobs stores lengths : List ℕ) (table : List ℤ)
               (board_certified stores (begin_of lengths i) (get_or lengths i 0) job table bounds own_check);
         }
 
-  splits_by : (c : Check) → splits_in (over (if_passed c (in_turn answer count) []) (replicate 8 (refused Refusal.Jobs))) ≤ total
+  splits_few : splits_in (over (in_turn answer count) (replicate 8 (refused Refusal.Jobs))) ≤ total
   unfolding over
-  splits_by (Ok _) =
+  splits_few =
       let xs = in_turn answer count in
       omega (
         arith,
@@ -281,39 +290,37 @@ module _ (count total : ℕ) (jobs stores lengths : List ℕ) (table : List ℤ)
         all_splits count,
         shared.together,
       )
-  splits_by (Err why) = omega (arith, no_splits 8 0 Refusal.Jobs)
 
-  shares_out : BoardsShared count total jobs stores lengths table bounds (boards_answer count total jobs stores lengths table bounds)
-  unfolding boards_answer
+  shares_out : BoardsShared count total jobs stores lengths table bounds (boards_found count total jobs stores lengths table bounds)
+  unfolding boards_found
   shares_out = record {
-    together = splits_by (check_call count total jobs stores lengths table bounds);
-    fair = λ ok i below. rw (slot_budget ok i below) (shared.fair i below);
+    together = splits_few;
+    fair = λ ok i below. rw (slot_budget i below) (shared.fair i below);
   }
 
-  abbrev Promised : BoardAnswers → List ℤ → List ℕ → Type 0
+  abbrev Promised : Result BoardAnswers Refusal → List ℤ → List ℕ → Type 0
   Promised r u e =
       (r ≡ boards_answer count total jobs stores lengths table bounds)
       × (SharedTable (searches_run count total jobs stores lengths table bounds) table u
       × (SharedBounds (searches_run count total jobs stores lengths table bounds) bounds e
-      × (BoardsShared count total jobs stores lengths table bounds r × BoardsCertified count total jobs stores lengths table bounds r)))
+      × (IfOk r (BoardsShared count total jobs stores lengths table bounds)
+      × IfOk r (BoardsCertified count total jobs stores lengths table bounds))))
 
-  promised : (r : BoardAnswers) (u : List ℤ) (e : List ℕ) → r ≡ boards_answer count total jobs stores lengths table bounds
-      → SharedTable (searches_run count total jobs stores lengths table bounds) table u
-      → SharedBounds (searches_run count total jobs stores lengths table bounds) bounds e → Promised r u e
-  promised r u e same rows entries = (same, (rows, (entries, rw same (shares_out, certified))))
+  same_found : (r : BoardAnswers) (u : List ℤ) (e : List ℕ)
+      → Answered count total jobs stores lengths table bounds count r.answers r.budgets u e
+      → r ≡ boards_found count total jobs stores lengths table bounds
+  unfolding boards_found
+  same_found r u e done = λ i. record { answers = done.told i; budgets = done.given i }
 
   pub promised_pass : (r : BoardAnswers) (u : List ℤ) (e : List ℕ) → check_call count total jobs stores lengths table bounds ≡ pass
-      → (r.check ≡ pass) × Answered count total jobs stores lengths table bounds count r.answers r.budgets u e → Promised r u e
-  unfolding boards_answer
+      → Answered count total jobs stores lengths table bounds count r.answers r.budgets u e → Promised (Ok r) u e
   promised_pass r u e ok done =
-      promised r u e
-      (rw ok (λ i. record { check = done.0 i; answers = done.1.told i; budgets = done.1.given i }))
-      (rw ok done.1.rows) (rw ok done.1.entries)
+      let same = same_found r u e done in (
+        rw (ok, same) refl,
+        (rw ok done.rows, (rw ok done.entries, (rw same shares_out, rw same (λ ok i below accepted. certified i below accepted)))),
+      )
 
-  pub promised_refused : (why : Refusal) (a : Answer) → check_call count total jobs stores lengths table bounds ≡ Err why
-      → a ≡ refused Refusal.Jobs → Promised (record { check = Err why; answers = replicate 8 a; budgets = replicate 8 0 }) table bounds
-  unfolding boards_answer over
-  promised_refused why a no_call e =
-      promised (record { check = Err why; answers = replicate 8 a; budgets = replicate 8 0 }) table bounds
-      (rw no_call (λ i. record { check = Err why; answers = replicate 8 (e i); budgets = replicate 8 0 }))
-      (rw no_call (table_shared.none table)) (rw no_call (bounds_shared.none bounds))
+  pub promised_refused : (why : Refusal) → check_call count total jobs stores lengths table bounds ≡ Err why
+      → Promised (Err why) table bounds
+  promised_refused why no_call =
+      (rw no_call refl, (rw no_call (table_shared.none table), (rw no_call (bounds_shared.none bounds), (tt, tt))))

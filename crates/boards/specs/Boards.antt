@@ -1,8 +1,8 @@
 -- Document 02, request 11: "Take a count of 1 to 8 jobs, each with its store, and a total budget T, unsigned 32-bit."
-use Rattle.std.specs.Prelude.{◌≡◌, ◌&&◌, List, [], ◌∷◌, ◌++◌, ℕ, zero, suc, ◌+◌, ◌*◌, ◌/◌, ◌≤◌, ◌<◌, min, leb, ℤ, length, take, drop, get_or, replicate}
+use Rattle.std.specs.Prelude.{◌≡◌, ◌&&◌, List, [], ◌∷◌, ◌++◌, ℕ, zero, suc, ◌+◌, ◌*◌, ◌/◌, ◌≤◌, ◌<◌, min, leb, ℤ, length, take, drop, get_or, replicate, Result}
 use Rattle.integers.specs.Lists.{over}
 use Rattle.codes.specs.declared.Refusal.{Refusal}
-use Rattle.codes.specs.Codes.{Check, pass, pass_if, if_passed, within}
+use Rattle.codes.specs.Codes.{Check, pass, pass_if, unless_refused, if_passed, within}
 use Rattle.jobs.specs.declared.Job.{Job}
 use Rattle.points.specs.Points.{points_of}
 use Rattle.residuals.specs.Cost.{bound}
@@ -76,12 +76,14 @@ module _ (count total : ℕ) (jobs stores lengths : List ℕ) (table : List ℤ)
   runs_of (suc n) = runs_of n ++ run_if (check_at n) (run_at n)
 
   -- "Each job's answer or refusal is given, in order", with the budgets. Slots without a job are refused by 18, with the budget 0.
-  unfoldable pub boards_answer : BoardAnswers
-  boards_answer = record {
-    check = check_call;
-    answers = over (if_passed check_call (in_turn answer_at count) []) (replicate 8 (refused Refusal.Jobs));
-    budgets = over (if_passed check_call (in_turn budget_at count) []) (replicate 8 0);
+  unfoldable pub boards_found : BoardAnswers
+  boards_found = record {
+    answers = over (in_turn answer_at count) (replicate 8 (refused Refusal.Jobs));
+    budgets = over (in_turn budget_at count) (replicate 8 0);
   }
+
+  abbrev pub boards_answer : Result BoardAnswers Refusal
+  boards_answer = unless_refused check_call boards_found
 
   -- "18 .. keeps everything lent": no search is run then
   abbrev pub searches_run : List Run

@@ -1,8 +1,7 @@
 // One split budget for several boards: job after job, each with its store and its share of the splits, in one table.
 #![tactic(auto)]
 
-ghost use Rattle.std.specs.Prelude.{◌≡◌, length};
-ghost use Rattle.codes.specs.Codes.{pass};
+ghost use Rattle.std.specs.Prelude.{◌≡◌, ◌*◌, ◌≤◌, IfOk, length};
 ghost use Rattle.sharing.specs.Sharing.{SharedTable, SharedBounds};
 ghost use Rattle.boards.specs.Boards.{check_jobs, boards_answer, searches_run, BoardsShared, BoardsCertified};
 ghost use Rattle.boards.specs.Inside.{Answered};
@@ -10,10 +9,9 @@ ghost use Rattle.boards.specs.Inside.{Answered};
 use codes::Refusal;
 use search::Answer;
 
-// What a call comes to: each job's answer or refusal, and the budget that it got. Slots without a job are refused by 18.
-#[derive(Clone, Copy)]
+// What an accepted call comes to: each job's answer or refusal, and the budget that it got. Slots without a job are refused by 18.
+#[derive(Clone, Copy, Debug, PartialEq, Eq)]
 pub struct BoardAnswers {
-    pub check: Result<(), Refusal>,
     pub answers: [Answer; 8],
     pub budgets: [u32; 8],
 }
@@ -41,34 +39,25 @@ fn each_board(
     table: &mut [i16],
     bounds: &mut [u64],
 ) -> BoardAnswers
-    requires { check_jobs count (length jobs.now) (length lengths.now) ≡ pass }
-    ensures { (result.check ≡ pass)
-        × Answered count total jobs.now stores.now lengths.now table.old bounds.old
+    requires { (count ≤ 8) × (72 * count ≤ length jobs.now) × (count ≤ length lengths.now) }
+    ensures { Answered count total jobs.now stores.now lengths.now table.old bounds.old
         count result.answers result.budgets table.new bounds.new }
 {
-    let mut answers = [one_board::refusal(Refusal::Jobs); 8];
-    let mut budgets = [0u32; 8];
+    let mut answers = [Answer::refused(Refusal::Jobs); 8];
+    let mut budgets = [0; 8];
     let mut left = total;
     let mut from: usize = 0;
-    let mut i: usize = 0;
-    while i < count {
-        let at = 72 * i;
-        let end = at + 72;
+    for i in 0..count {
         let size = lengths[i] as usize;
-        let own = job_records::read_job(&jobs[at..end]).unwrap();
+        let own = job_records::read_job(&jobs[72 * i..72 * i + 72]).unwrap();
         let job = one_board::allotted(own, left, (count - i) as u32);
         let answer = one_board::search_part(stores, from, size, job, table, bounds);
         answers[i] = answer;
         budgets[i] = job.budget;
         left -= answer.count;
         from += size;
-        i += 1;
     }
-    BoardAnswers {
-        check: Ok(()),
-        answers,
-        budgets,
-    }
+    BoardAnswers { answers, budgets }
 }
 
 // Searches the stores of 1 to 8 jobs in order, in one table, within one split budget.
@@ -80,7 +69,7 @@ pub fn boards(
     lengths: &[u32],
     table: &mut [i16],
     bounds: &mut [u64],
-) -> BoardAnswers
+) -> Result<BoardAnswers, Refusal>
     ensures answer { result
         ≡ boards_answer count total jobs.now stores.now lengths.now table.old
         bounds.old }
@@ -88,17 +77,19 @@ pub fn boards(
         bounds.old) table.old table.new }
     ensures bounds { SharedBounds (searches_run count total jobs.now stores.now lengths.now table.old
         bounds.old) bounds.old bounds.new }
-    ensures shares { BoardsShared count total jobs.now stores.now lengths.now table.old
-        bounds.old result }
-    ensures certificate { BoardsCertified count total jobs.now stores.now lengths.now table.old
-        bounds.old result }
+    ensures shares { IfOk result
+        (BoardsShared count total jobs.now stores.now lengths.now table.old bounds.old) }
+    ensures certificate { IfOk result
+        (BoardsCertified count total jobs.now stores.now lengths.now table.old bounds.old) }
 {
-    match check_jobs(count, jobs.len(), lengths.len()) {
-        Ok(()) => each_board(count as usize, total, jobs, stores, lengths, table, bounds),
-        Err(why) => BoardAnswers {
-            check: Err(why),
-            answers: [one_board::refusal(Refusal::Jobs); 8],
-            budgets: [0u32; 8],
-        },
-    }
+    check_jobs(count, jobs.len(), lengths.len())?;
+    Ok(each_board(
+        count as usize,
+        total,
+        jobs,
+        stores,
+        lengths,
+        table,
+        bounds,
+    ))
 }

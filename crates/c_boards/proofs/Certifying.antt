@@ -1,71 +1,38 @@
 -- What is handed over by the outcome of check 18; a job whose code is 0 was accepted. Assumes nothing.
-use mathlib.Core.Path.{◌≡◌, refl, sym, ap, ◌∙◌}
-use mathlib.Core.Bool.{true, true≢false, ◌&&◌}
+use mathlib.Core.Path.{◌≡◌, refl, sym, ap, subst, ◌∙◌}
+use mathlib.Core.Bool.{true, false, true≢false}
 use mathlib.Core.List.{List, [], append-nil}
 use Prim.Native.Nat.{ℕ, ◌<◌}
 use native.Mathlib.Omega.{arith}
 use borrow.Author.Tests.{lt-ltb}
-use lib.Dec.{eqb, eqb→eq}
 use lib.IntN.{ℤ}
 use lib.ListN.{length, get_or}
 use Rattle.std.specs.Prelude.{Ok, Err}
-use Rattle.integers.proofs.Tests.{and_parts}
 use Rattle.codes.specs.declared.Refusal.{Refusal}
-use Rattle.codes.specs.Codes.{Check, pass, unless_refused}
+use Rattle.codes.specs.Codes.{Check, pass}
+use Rattle.codes.proofs.Checks as checks
 use Rattle.certificate.specs.Search as Search
-use Rattle.search.specs.Search.{answer_unless_refused}
+use Rattle.search.specs.declared.Kind.{Kind}
+use Rattle.search.specs.declared.Kind.TheVariants.{Solved, Spent, Full, Refused}
+use Rattle.search.specs.Search.{check_of, answer_unless_refused}
 use Rattle.boards.specs.declared.BoardAnswers.{BoardAnswers}
-use Rattle.boards.specs.Boards.{check_jobs, boards_answer, searches_run, check_at, answer_at, search_at, budget_at, BoardsShared, BoardsCertified}
+use Rattle.boards.specs.Boards.{check_jobs, boards_found, boards_answer, searches_run, check_at, answer_at, search_at, budget_at, BoardsShared, BoardsCertified}
 use Rattle.sharing.specs.Sharing.{SharedTable, SharedBounds}
 use Rattle.boards.proofs.Boarding.{counted, in_turn_at, slot_answer}
-use Rattle.c_buffers.specs.Buffers.{filled}
-use Rattle.c_buffers.proofs.Buffers.{filled_whole}
-use Rattle.c_boundary.specs.Boundary.{check_call, code_of, if_accepted}
-use Rattle.c_boundary.proofs.Lengths.{both}
-use Rattle.c_boundary.proofs.Codes.{refusal_not_0, given_at_0}
-use Rattle.c_boards.specs.Calls.{boards_lengths, answer_code, slot, slot_code, codes_of, vectors_of, numbers_of, right, boards_call}
+use Rattle.c_boundary.specs.Boundary.{answered, check_call, code_of}
+use Rattle.c_boundary.proofs.Codes.{refusal_not_0}
+use Rattle.c_search.specs.Calls.{outcome_of}
+use Rattle.c_boards.specs.Calls.{answer_code, slot, slot_code, codes_of, vectors_of, numbers_of, right, boards_call}
 use Rattle.c_boards.specs.Calls.{codes_after, budgets_after, vectors_after, numbers_after, TableAfterCall, BoundsAfterCall, CertifiedCall}
 
--- what the test of lengths tells
-pub boards_lengths_lem : (codes budgets vectors numbers : ℕ) → boards_lengths codes budgets vectors numbers ≡ true
-    → (codes ≡ 8) × ((budgets ≡ 8) × ((vectors ≡ 64) × (numbers ≡ 48)))
-boards_lengths_lem codes budgets vectors numbers right =
-    let c = eqb codes 8 in
-    let b = eqb budgets 8 in
-    let v = eqb vectors 64 in
-    let all = both (c && b && v) (eqb numbers 48) right in
-    let three = and_parts (c && b) v all.0 in
-    let two = and_parts c b three.0 in
-    (eqb→eq codes 8 two.0, (eqb→eq budgets 8 two.1, (eqb→eq vectors 64 three.1, eqb→eq numbers 48 all.1)))
-
-module _ (count : ℕ) (b : BoardAnswers) (codes budgets : List ℕ) (vectors : List ℤ) (numbers : List ℕ) where
-  abbrev HandedOver : ℕ → List ℕ → List ℕ → List ℤ → List ℕ → Type 0
-  HandedOver k c' b' v' n' =
-      (k ≡ code_of (check_call true b.check))
-      × ((c' ≡ if_accepted (check_call true b.check) (codes_of count b.answers) codes)
-      × ((b' ≡ if_accepted (check_call true b.check) b.budgets budgets)
-      × ((v' ≡ if_accepted (check_call true b.check) (vectors_of count b.answers) vectors)
-      × (n' ≡ if_accepted (check_call true b.check) (numbers_of count b.answers) numbers))))
-
-  pub handed_pass :
-      (c' b' : List ℕ) (v' : List ℤ) (n' : List ℕ) →
-      b.check ≡ pass →
-      length budgets ≡ length b.budgets →
-      b' ≡ filled budgets b.budgets →
-      (c' ≡ codes_of count b.answers) × ((v' ≡ vectors_of count b.answers) × (n' ≡ numbers_of count b.answers)) →
-      HandedOver 0 c' b' v' n'
-  handed_pass c' b' v' n' ok same given told =
-      rw ok (refl, (told.0, (given ∙ filled_whole budgets b.budgets same, (told.1.0, told.1.1))))
-
-  pub handed_refused : (k : ℕ) (why : Refusal) → b.check ≡ Err why → k ≡ code_of (check_call true (Err why))
-      → HandedOver k codes budgets vectors numbers
-  handed_refused k why no_call e = rw no_call (e, (refl, (refl, (refl, refl))))
+-- the code of a kind is that of its check
+pub kind_code : (k : Kind) → code_of (check_call true (check_of k)) ≡ code_of (answered (outcome_of k))
+kind_code Solved = refl
+kind_code Spent = refl
+kind_code Full = refl
+kind_code (Refused why) = refl
 
 -- the code 0
-passed_at_0 : (check : Check) → code_of (check_call true check) ≡ 0 → check ≡ pass
-passed_at_0 (Ok _) e = refl
-passed_at_0 (Err why) e = absurd (refusal_not_0 why e)
-
 accepted_at_0 : (check : Check) (r : Search.Answer) → answer_code (answer_unless_refused check r) ≡ 0 → check ≡ pass
 accepted_at_0 (Ok _) r e = refl
 accepted_at_0 (Err why) r e = absurd (refusal_not_0 why e)
@@ -74,11 +41,7 @@ module _
     (count total : ℕ) (jobs stores lengths : List ℕ) (table : List ℤ) (bounds codes budgets : List ℕ) (vectors : List ℤ) (numbers : List ℕ)
   where
     abbrev b : BoardAnswers
-    b = boards_answer count total jobs stores lengths table bounds
-
-    call_passed : code_of (check_call true b.check) ≡ 0 → check_jobs count (length jobs) (length lengths) ≡ pass
-    unfolding boards_answer
-    call_passed e = passed_at_0 (check_jobs count (length jobs) (length lengths)) e
+    b = boards_found count total jobs stores lengths table bounds
 
     slot_accepted : check_jobs count (length jobs) (length lengths) ≡ pass → (i : ℕ) → i < count
         → get_or (codes_of count b.answers) i 0 ≡ 0 → check_at count total jobs stores lengths table bounds i ≡ pass
@@ -89,74 +52,34 @@ module _
         ∙ in_turn_at (slot_code count b.answers) 8 i [] 0 (omega (arith, few, below)) in
         let used : slot_code count b.answers i ≡ answer_code (slot count b.answers i) = rw (lt-ltb i count below) refl in
         let told : answer_code (slot count b.answers i) ≡ answer_code (answer_at count total jobs stores lengths table bounds i) =
-        ap answer_code (slot_answer count total jobs stores lengths table bounds ok i below) in
+        ap answer_code (slot_answer count total jobs stores lengths table bounds i below) in
         accepted_at_0 (check_at count total jobs stores lengths table bounds i)
         (search_at count total jobs stores lengths table bounds i (budget_at count total jobs stores lengths table bounds i))
         (sym told ∙ sym used ∙ sym read ∙ e)
 
-    -- r is what was answered; the rest is what is left where it was handed over
+    -- what is handed over where the call is accepted
     pub certified_call :
-        (r : BoardAnswers) (k : ℕ) (c' b' : List ℕ) (v' : List ℤ) (n' : List ℕ) →
-        r ≡ b →
-        BoardsShared count total jobs stores lengths table bounds r × BoardsCertified count total jobs stores lengths table bounds r →
-        HandedOver count r codes budgets vectors numbers k c' b' v' n' →
-        k ≡ 0 →
+        (r : BoardAnswers) (c' b' : List ℕ) (v' : List ℤ) (n' : List ℕ) →
+        Ok r ≡ boards_answer count total jobs stores lengths table bounds →
+        BoardsShared count total jobs stores lengths table bounds r →
+        BoardsCertified count total jobs stores lengths table bounds r →
+        c' ≡ codes_of count r.answers →
+        b' ≡ r.budgets →
+        v' ≡ vectors_of count r.answers →
+        n' ≡ numbers_of count r.answers →
         CertifiedCall count total jobs stores lengths table bounds codes budgets vectors numbers c' b' v' n'
-    certified_call r k c' b' v' n' same promised handed at-0 =
-        let p = rw same at promised in
-        let h = rw same at handed in
-        let o = unless_refused b.check 0 in
-        let zero_code : code_of (check_call true b.check) ≡ 0 = sym h.0 ∙ at-0 in
-        let ok = call_passed zero_code in
+    certified_call r c' b' v' n' found shares certified its_codes its_budgets its_vectors its_numbers =
+        let passed = checks.answered (check_jobs count (length jobs) (length lengths)) b r (sym found) in
+        let is_b : r ≡ b = sym passed.1 in
         record {
-          given = h.1.1.0 ∙ given_at_0 o b.budgets budgets zero_code;
-          best = h.1.1.1.0 ∙ given_at_0 o (vectors_of count b.answers) vectors zero_code;
-          told = h.1.1.1.1 ∙ given_at_0 o (numbers_of count b.answers) numbers zero_code;
-          shares = p.0;
-          each = λ i below e.
+          passed = sym found ∙ ap Ok is_b;
+          given = its_budgets ∙ ap (λ (x : BoardAnswers). x.budgets) is_b;
+          best = its_vectors ∙ ap (λ (x : BoardAnswers). vectors_of count x.answers) is_b;
+          told = its_numbers ∙ ap (λ (x : BoardAnswers). numbers_of count x.answers) is_b;
+          shares = subst (BoardsShared count total jobs stores lengths table bounds) is_b shares;
+          each = λ i below at_0.
               let code : get_or (codes_of count b.answers) i 0 ≡ 0 =
-              ap (λ (l : List ℕ). get_or l i 0) (sym (h.1.0 ∙ given_at_0 o (codes_of count b.answers) codes zero_code)) ∙ e in
-              let accepted = slot_accepted ok i below code in
-              (accepted, p.1 ok i below accepted);
+              ap (λ (l : List ℕ). get_or l i 0) (sym (its_codes ∙ ap (λ (x : BoardAnswers). codes_of count x.answers) is_b)) ∙ at_0 in
+              let accepted = slot_accepted passed.0 i below code in
+              (accepted, (subst (BoardsCertified count total jobs stores lengths table bounds) is_b certified) passed.0 i below accepted);
         }
-
-    -- all that the call promises, where the lengths are right
-    pub promised :
-        (r : BoardAnswers) (k : ℕ) (c' b' : List ℕ) (v' : List ℤ) (n' : List ℕ) (u : List ℤ) (e : List ℕ) →
-        right count total jobs stores lengths table bounds codes budgets vectors numbers ≡ true →
-        (r ≡ b)
-        × (SharedTable (searches_run count total jobs stores lengths table bounds) table u
-        × (SharedBounds (searches_run count total jobs stores lengths table bounds) bounds e
-        × (BoardsShared count total jobs stores lengths table bounds r × BoardsCertified count total jobs stores lengths table bounds r))) →
-        HandedOver count r codes budgets vectors numbers k c' b' v' n' →
-        (k ≡ code_of (boards_call count total jobs stores lengths table bounds codes budgets vectors numbers))
-        × ((c' ≡ codes_after count total jobs stores lengths table bounds codes budgets vectors numbers)
-        × ((b' ≡ budgets_after count total jobs stores lengths table bounds codes budgets vectors numbers)
-        × ((v' ≡ vectors_after count total jobs stores lengths table bounds codes budgets vectors numbers)
-        × ((n' ≡ numbers_after count total jobs stores lengths table bounds codes budgets vectors numbers)
-        × (TableAfterCall count total jobs stores lengths table bounds codes budgets vectors numbers u
-        × (BoundsAfterCall count total jobs stores lengths table bounds codes budgets vectors numbers e
-        × (k ≡ 0 → CertifiedCall count total jobs stores lengths table bounds codes budgets vectors numbers c' b' v' n')))))))
-    promised r k c' b' v' n' u e ok q handed =
-        let h = rw q.0 at handed in (
-          h.0 ∙ rw ok refl,
-          (
-            h.1.0 ∙ rw ok refl,
-            (
-              h.1.1.0 ∙ rw ok refl,
-              (
-                h.1.1.1.0 ∙ rw ok refl,
-                (
-                  h.1.1.1.1 ∙ rw ok refl,
-                  (
-                    record { searched = λ _. q.1.0; kept = λ wrong. absurd (true≢false (sym ok ∙ wrong)) },
-                    (
-                      record { searched = λ _. q.1.1.0; kept = λ wrong. absurd (true≢false (sym ok ∙ wrong)) },
-                      certified_call r k c' b' v' n' q.0 q.1.1.1 handed,
-                    ),
-                  ),
-                ),
-              ),
-            ),
-          ),
-        )

@@ -1,12 +1,12 @@
 -- One split budget for several boards, through the C interface.
 use Rattle.codes.specs.Codes.{pass}
-use Rattle.std.specs.Prelude.{◌≡◌, Bool, true, false, ◌&&◌, cond, List, [], ◌∷◌, ◌++◌, ℕ, zero, suc, ◌<◌, eqb, ltb, ℤ, length, get_or}
+use Rattle.std.specs.Prelude.{◌≡◌, Bool, true, false, ◌&&◌, cond, List, [], ◌∷◌, ◌++◌, ℕ, zero, suc, ◌<◌, eqb, ltb, ℤ, length, get_or, Ok}
 use Rattle.codes.specs.declared.Refusal.{Refusal}
 use Rattle.search.specs.declared.Answer.{Answer}
-use Rattle.search.specs.Search.{kind_number, refused}
+use Rattle.search.specs.Search.{kind_number, refused, check_in}
 use Rattle.sharing.specs.Sharing.{SharedTable, SharedBounds}
 use Rattle.boards.specs.declared.BoardAnswers.{BoardAnswers}
-use Rattle.boards.specs.Boards.{in_turn, check_at, boards_answer, searches_run, BoardsShared, BoardCertified}
+use Rattle.boards.specs.Boards.{in_turn, check_at, boards_found, boards_answer, searches_run, BoardsShared, BoardCertified}
 use Rattle.c_boundary.specs.Boundary.{Call, answered, check_call, code_of, if_accepted}
 use Rattle.c_search.specs.Calls.{outcome_of, search_numbers}
 
@@ -49,12 +49,13 @@ module _
     abbrev pub right : Bool
     right = boards_lengths (length codes) (length budgets) (length vectors) (length numbers)
 
+    -- what is found, unless the call is refused
     abbrev pub found : BoardAnswers
-    found = boards_answer count total jobs stores lengths table bounds
+    found = boards_found count total jobs stores lengths table bounds
 
-    -- what the call comes to, and what it leaves in what it is lent for its results
+    -- what the call comes to: whether it is refused; and what it leaves in what it is lent for its results
     abbrev pub boards_call : Call
-    boards_call = check_call right found.check
+    boards_call = check_call right (check_in (boards_answer count total jobs stores lengths table bounds))
 
     abbrev pub codes_after : List ℕ
     codes_after = if_accepted boards_call (codes_of count found.answers) codes
@@ -81,6 +82,7 @@ module _
     -- What is handed over with the code 0: the answers found, which share T out, and each of which is certified where its own code is 0:
     -- its job was accepted, the answer is that of its search under the budget found, and of that demand 3 holds.
     pub record CertifiedCall (new_codes new_budgets : List ℕ) (new_vectors : List ℤ) (new_numbers : List ℕ) : Type 0 where
+      pub passed : boards_answer count total jobs stores lengths table bounds ≡ Ok found
       pub given : new_budgets ≡ found.budgets
       pub best : new_vectors ≡ vectors_of count found.answers
       pub told : new_numbers ≡ numbers_of count found.answers

@@ -1,32 +1,38 @@
 // The search for C.
 #![tactic(auto)]
 
-ghost use Rattle.std.specs.Prelude.{◌≡◌, length};
+ghost use Rattle.std.specs.Prelude.{◌≡◌, ◌∷◌, length};
+ghost use Rattle.search.specs.Search.{kind_number};
 ghost use Rattle.c_buffers.specs.Buffers.{filled};
 ghost use Rattle.c_boundary.specs.Boundary.{model_of, answered, code_of, value_after, if_accepted};
-ghost use Rattle.c_search.specs.Calls.{outcome_of, search_numbers, search_lengths};
+ghost use Rattle.c_search.specs.Calls.{outcome_of, search_numbers};
 ghost use Rattle.c_search.specs.Calls.{search_call, vector_after, numbers_after, TableAfterCall, BoundsAfterCall, CertifiedCall};
 
-use c_boundary::{WRONG_LENGTH, job_of, model_of, settle};
+use c_boundary::{WRONG_LENGTH, job_of, model_of, refusal_code};
 use c_buffers::{fill_coordinates, fill_numbers};
 use codes::Refusal;
 use search::{Answer, Kind};
 
+// The kind by its number, or the refusal.
 fn outcome_of(k: Kind) -> Result<u64, Refusal>
     ensures { result ≡ outcome_of k }
 {
-    match k {
-        Kind::Solved => Ok(1),
-        Kind::Spent => Ok(2),
-        Kind::Full => Ok(3),
-        Kind::Refused(why) => Err(why),
-    }
+    k.check()?;
+    Ok(u64::from(u8::from(k)))
 }
 
-fn lengths_right(corners: usize, start: usize, vector: usize, numbers: usize) -> bool
-    ensures { result ≡ search_lengths corners start vector numbers }
+// The numbers of an answer, that of its kind first; all are 0 of a refused one.
+pub fn answer_numbers(a: Answer) -> [u64; 6]
+    ensures { result ≡ kind_number a.kind ∷ search_numbers a }
 {
-    (corners == 16) & (start == 8) & (vector == 8) & (numbers == 5)
+    [
+        u64::from(u8::from(a.kind)),
+        a.cost,
+        a.bound,
+        a.count as u64,
+        a.open as u64,
+        a.peak as u64,
+    ]
 }
 
 // An answer as this interface hands it over.
@@ -39,23 +45,14 @@ fn hand_over(a: Answer, vector: &mut [i16], numbers: &mut [u64], value: &mut u64
         ≡ if_accepted (answered (outcome_of a.kind)) (filled numbers.old (search_numbers a)) numbers.old }
     ensures long { length a.vector ≡ 8 }
 {
-    let kind = a.kind;
-    let found = a.vector;
-    let outcome = outcome_of(kind);
-    match outcome {
-        Ok(_) => {
-            let told = [
-                a.cost,
-                a.bound,
-                a.count as u64,
-                a.open as u64,
-                a.peak as u64,
-            ];
-            fill_coordinates(vector, &found);
-            fill_numbers(numbers, &told);
-            settle(outcome, value)
+    match outcome_of(a.kind) {
+        Ok(kind) => {
+            fill_coordinates(vector, &a.vector);
+            fill_numbers(numbers, &answer_numbers(a)[1..]);
+            *value = kind;
+            0
         }
-        Err(_) => settle(outcome, value),
+        Err(why) => refusal_code(why),
     }
 }
 
@@ -99,7 +96,7 @@ pub fn search(
         table.old bounds.old vector.old numbers.old value.new vector.new
         numbers.new }
 {
-    if !lengths_right(corners.len(), start.len(), vector.len(), numbers.len()) {
+    if corners.len() != 16 || start.len() != 8 || vector.len() != 8 || numbers.len() != 5 {
         return WRONG_LENGTH;
     }
     let job = job_of(model_of(n, d, scale, p, eps), t, budget, 0, corners, start);

@@ -4,15 +4,9 @@
 ghost use Rattle.std.specs.Prelude.{◌≡◌};
 ghost use Rattle.sharing.specs.Sharing.{SharedTable, SharedBounds};
 ghost use Rattle.c_boundary.specs.Boundary.{model_of, code_of, value_after};
-ghost use Rattle.c_windows.specs.Calls.{windows_lengths, windows_call, searches_of_call, out_after_call, CertifiedWindows};
+ghost use Rattle.c_windows.specs.Calls.{windows_call, searches_of_call, out_after_call, CertifiedWindows};
 
 use c_boundary::{WRONG_LENGTH, job_of, model_of, settle};
-
-fn lengths_right(corners: usize, start: usize) -> bool
-    ensures { result ≡ windows_lengths corners start }
-{
-    (corners == 16) & (start == 8)
-}
 
 // Searches each window of k records, h records apart, with the rows of a lent table and a lent list of bounds, each from the vector found
 // before it. An answer record for each goes into the front of the output; the value is their number.
@@ -53,7 +47,7 @@ pub fn windows(
         CertifiedWindows store.now (model_of n d scale p eps) t budget corners.now start.now k h
         table.old bounds.old out.old value.new out.new }
 {
-    if !lengths_right(corners.len(), start.len()) {
+    if corners.len() != 16 || start.len() != 8 {
         return WRONG_LENGTH;
     }
     let job = job_of(model_of(n, d, scale, p, eps), t, budget, 0, corners, start);

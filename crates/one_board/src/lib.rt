@@ -2,41 +2,19 @@
 #![tactic(auto)]
 
 ghost use Rattle.std.specs.Prelude.{◌≡◌, ◌/◌, min};
-ghost use Rattle.search.specs.Search.{refused};
 ghost use Rattle.one_board.specs.Board.{under, board_answer, BoardTable, BoardBounds};
 
 use codes::Refusal;
 use jobs::Job;
-use search::{Answer, Kind};
+use search::Answer;
 
-// The answer to a job that is refused.
-pub fn refusal(why: Refusal) -> Answer
-    ensures { result ≡ refused why }
-{
-    Answer {
-        kind: Kind::Refused(why),
-        vector: [0i16; 8],
-        cost: 0,
-        bound: 0,
-        count: 0,
-        open: 0,
-        peak: 0,
-    }
-}
-
-// An equal part of the splits left, for each of the jobs left; with no job left it is 0.
-fn share(left: u32, waiting: u32) -> u32
-    ensures { result ≡ left / waiting }
-{
-    if waiting < 1 { 0 } else { left / waiting }
-}
-
-// A job under the smaller of its own budget and its share.
+// A job under the smaller of its own budget and an equal part of the splits left, for each of the jobs left.
 pub fn allotted(job: Job, left: u32, waiting: u32) -> Job
     ensures { result ≡ under job (min job.budget (left / waiting)) }
 {
+    let share = left.checked_div(waiting).unwrap_or(0);
     Job {
-        budget: job.budget.min(share(left, waiting)),
+        budget: job.budget.min(share),
         ..job
     }
 }
@@ -54,11 +32,8 @@ pub fn search_part(
     ensures table { BoardTable stores.now from size job table.old bounds.old table.new }
     ensures bounds { BoardBounds stores.now from size job table.old bounds.old bounds.new }
 {
-    if stores.len() < from {
-        return refusal(Refusal::Length);
-    }
-    if stores.len() - from < size {
-        return refusal(Refusal::Length);
+    if stores.len() < from || stores.len() - from < size {
+        return Answer::refused(Refusal::Length);
     }
     search::search(&stores[from..from + size], job, table, bounds)
 }

@@ -1,6 +1,6 @@
 -- What a search answers: "The search" over the points of a store, with the checks 1 to 8 and 14 before it. What it leaves in lent memory.
 use Rattle.codes.specs.Codes.{Check, pass}
-use Rattle.std.specs.Prelude.{◌≡◌, List, ◌++◌, map, ℕ, ◌*◌, ℤ, pos, length, take, drop, replicate, Ok, Err}
+use Rattle.std.specs.Prelude.{◌≡◌, List, ◌++◌, map, ℕ, ◌*◌, ℤ, pos, length, take, drop, replicate, Result, Ok, Err}
 use Rattle.codes.specs.declared.Refusal.{Refusal}
 use Rattle.boxes.specs.declared.Box.{Box}
 use Rattle.jobs.specs.declared.Job.{Job}
@@ -33,6 +33,13 @@ kind_number Spent = 2
 kind_number Full = 3
 kind_number (Refused why) = 0
 
+-- whether the job was accepted, as the kind says it
+abbrev pub check_of : Kind → Check
+check_of Solved = pass
+check_of Spent = pass
+check_of Full = pass
+check_of (Refused why) = Err why
+
 -- "The answer carries vector, C, L, count, open boxes and peak", the boxes by their number: they stand in the table.
 abbrev pub told : Search.Answer → Answer
 told r =
@@ -54,6 +61,11 @@ refused why = record { kind = Refused why; vector = replicate 8 (pos 0); cost = 
 abbrev pub answer_unless_refused : Check → Search.Answer → Answer
 answer_unless_refused (Ok _) r = told r
 answer_unless_refused (Err why) r = refused why
+
+-- the check of what a call answers
+abbrev pub check_in : {A : Type 0} → Result A Refusal → Check
+check_in (Ok value) = pass
+check_in (Err why) = Err why
 
 -- What a search leaves of the table, by its check and by what it comes to. "At the end the first rows hold the open boxes in list order.
 -- Rows from there up to peak may hold leftovers; from peak on, and in a partial row, nothing changed." At a refusal nothing changed at all.

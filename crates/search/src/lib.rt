@@ -5,7 +5,7 @@ mod run;
 mod step;
 
 ghost use Rattle.std.specs.Prelude.{◌≡◌};
-ghost use Rattle.search.specs.Search.{refused, search_answer, TableSearched, BoundsSearched, Certified};
+ghost use Rattle.search.specs.Search.{kind_number, check_of, refused, search_answer, TableSearched, BoundsSearched, Certified};
 
 use crate::run::run;
 use codes::Refusal;
@@ -14,7 +14,7 @@ use jobs::Job;
 use search_checks::check_search;
 
 // What a search comes to.
-#[derive(Clone, Copy)]
+#[derive(Clone, Copy, Debug, PartialEq, Eq)]
 pub enum Kind {
     Solved,
     Spent,
@@ -22,8 +22,34 @@ pub enum Kind {
     Refused(Refusal),
 }
 
+// "kind (1 solved, 2 spent, 3 full)"; a refusal has no kind, and 0 is no kind's number.
+impl From<Kind> for u8 {
+    ghost from_gives = { λ k n. n ≡ kind_number k };
+
+    fn from(k: Kind) -> u8 {
+        match k {
+            Kind::Solved => 1,
+            Kind::Spent => 2,
+            Kind::Full => 3,
+            Kind::Refused(_) => 0,
+        }
+    }
+}
+
+impl Kind {
+    // Whether the job was accepted.
+    pub fn check(self) -> Result<(), Refusal>
+        ensures { result ≡ check_of self }
+    {
+        match self {
+            Kind::Refused(why) => Err(why),
+            Kind::Solved | Kind::Spent | Kind::Full => Ok(()),
+        }
+    }
+}
+
 // "The answer carries vector, C, L, count, open boxes and peak." At a refusal they are all 0.
-#[derive(Clone, Copy)]
+#[derive(Clone, Copy, Debug, PartialEq, Eq)]
 pub struct Answer {
     pub kind: Kind,
     pub vector: [i16; 8],
@@ -34,18 +60,20 @@ pub struct Answer {
     pub peak: usize,
 }
 
-// The answer to a job that is refused.
-fn refusal(why: Refusal) -> Answer
-    ensures { result ≡ refused why }
-{
-    Answer {
-        kind: Kind::Refused(why),
-        vector: [0i16; 8],
-        cost: 0,
-        bound: 0,
-        count: 0,
-        open: 0,
-        peak: 0,
+impl Answer {
+    // The answer to a job that is refused.
+    pub fn refused(why: Refusal) -> Answer
+        ensures { result ≡ refused why }
+    {
+        Answer {
+            kind: Kind::Refused(why),
+            vector: [0; 8],
+            cost: 0,
+            bound: 0,
+            count: 0,
+            open: 0,
+            peak: 0,
+        }
     }
 }
 
@@ -64,6 +92,6 @@ pub fn search(store: &[u8], job: Job, table: &mut [i16], bounds: &mut [u64]) -> 
             eval_stores::decode(&mut lanes, store, m.d, scale::power(m.scale));
             run(store, &lanes, job, table, bounds)
         }
-        Err(why) => refusal(why),
+        Err(why) => Answer::refused(why),
     }
 }

@@ -19,18 +19,9 @@ fn window(store: &[u8], job: Job, table: &mut [i16], bounds: &mut [u64], place: 
         table.new bounds.new place.new }
 {
     let answer = search::search(store, job, table, bounds);
-    let m = job.model;
-    let domain = job.domain;
-    let vector = answer.vector;
-    let _ = answer_records::write_answer(answers::record_of(m, answer), place);
-    Job {
-        model: m,
-        t: job.t,
-        budget: job.budget,
-        rows: job.rows,
-        domain,
-        start: vector,
-    }
+    let _ = answer_records::write_answer(answers::record_of(job.model, answer), place);
+    let start = answer.vector;
+    Job { start, ..job }
 }
 
 // Window after window, in one table, each from the vector before it.
@@ -50,14 +41,10 @@ fn each_window(
         table.new bounds.new out.new }
 {
     let mut current = job;
-    let mut i = 0;
-    while i < count {
+    for i in 0..count {
         let from = 12 * (i * h);
-        let to = from + 12 * k;
-        let at = 40 * i;
-        let end = at + 40;
-        current = window(&store[from..to], current, table, bounds, &mut out[at..end]);
-        i += 1;
+        let place = &mut out[40 * i..40 * i + 40];
+        current = window(&store[from..from + 12 * k], current, table, bounds, place);
     }
 }
 
@@ -81,11 +68,8 @@ pub fn windows(
         bounds.old bounds.new }
     ensures certificate { WindowsCertified store.now job k h table.old bounds.old out.old out.new }
 {
-    match window_checks::count_windows(store, job, k, h, table.len(), bounds.len(), out.len()) {
-        Ok(count) => {
-            each_window(store, job, k, h, count as usize, table, bounds, out);
-            Ok(count)
-        }
-        Err(r) => Err(r),
-    }
+    let count =
+        window_checks::count_windows(store, job, k, h, table.len(), bounds.len(), out.len())?;
+    each_window(store, job, k, h, count as usize, table, bounds, out);
+    Ok(count)
 }

@@ -35,6 +35,6 @@ returns-in-Ok c =
 pub returns-in-Err : goal.returns-in-Err
 returns-in-Err c =
     let a = c.args in
-    let p = promised_refused a.store.now a.job a.table.now a.bounds.now c.in-Err.why c.refusal.result
-    (sym c.check_search.ensures ∙ c.in-Err.is) c.refusal.ensures in
+    let p = promised_refused a.store.now a.job a.table.now a.bounds.now c.in-Err.why c.refused.result
+    (sym c.check_search.ensures ∙ c.in-Err.is) c.refused.ensures in
     record { answer = p.0; table = p.1.0; bounds = p.1.1.0; certificate = p.1.1.1 }
