@@ -14,7 +14,7 @@ ghost use Rattle.ranges.specs.Inside.{told_of};
 use crate::run::{End, begin, steps};
 use boxes::Box;
 use codes::Refusal;
-use eval_lanes::{Chunk, Lanes};
+use eval_lanes::chunk_of;
 use jobs::{Job, Model};
 use range_hulls::{Range, slots};
 
@@ -113,9 +113,7 @@ pub fn ranges(store: &[u8], job: Job, ceiling: u64, table: &mut [i16]) -> Answer
     sixteen_bits(&job.domain.low);
     sixteen_bits(&job.domain.high);
     let m = job.model;
-    let column: Lanes = [0.0; 80];
-    let chunk: Chunk = [column; 5];
-    let mut lanes = [chunk; 54];
+    let mut lanes = [chunk_of(0.0); 54];
     eval_stores::decode(&mut lanes, store, m.d, scale::power(m.scale));
     let first = begin(store, &lanes, m, ceiling, table, job.domain);
     tell(m, steps(store, &lanes, job, ceiling, table, first))
