@@ -9,8 +9,8 @@ use native.Mathlib.Numerals.{add-one}
 use native.Mathlib.Omega.{arith}
 use lib.Dec.{ltb}
 use lib.IntN.{ℤ}
-use lib.ListN.{length, get_or, set, take, drop, length-append, length-set, length-take}
-use lib.Seq.{paste, take_all, length-take-le, take-suc, take-suc-set, drop-set-lt, get_or-drop, get_or-take}
+use lib.ListN.{length, set, take, drop, length-append, length-set, length-take}
+use lib.Seq.{take_all, length-take-le, take-suc, take-suc-set, drop-set-lt, get_or-drop, get_or-take}
 use borrow.Author.Tests.{lt-ltb, le-ltb}
 use Rattle.integers.proofs.Tests.{le_or_lt}
 use Rattle.boxes.specs.declared.Box.{Box}
@@ -18,7 +18,7 @@ use Rattle.list_rows.specs.Rows.{row_count, row_at, rows_of, with_row, without_r
 use Rattle.list_rows.proofs.Rows.{Whole, row_own, rest_later, rows_length, row_whole, row_of_rest, length_with, rest_with, rows_with}
 use Rattle.list_rows.proofs.Rows.{without_long, without_rest, without_before, without_behind}
 use borrow.Rule.Slice.PartMut.{put_mid}
-use Rattle.list_rows.proofs.Parts.{part_down, down_turn, down, down_long, down_rest, down_before, down_moved}
+use Rattle.list_rows.proofs.Parts.{part_down, down, down_long, down_rest, down_before, down_moved}
 use Rattle.incumbent.specs.declared.Child.{Child}
 use Rattle.list_open_boxes.specs.OpenBoxes.{fits, if_kept, others_than, picked, room_in, Held}
 use Rattle.list_first_smallest.specs.FirstSmallest.{entry_at}
@@ -261,11 +261,3 @@ module _ (t : List ℤ) (d : List ℕ) where
         let moved : m - at - 1 ≡ m - 1 - at = omega arith in
         rw (← meant, is_rows, slid)
         (rw (part_down d at 1 m (omega arith) (omega arith), moved) (taken_held at m one (omega arith) (omega arith)))
-
--- one entry more of those that move to the front by one
-pub slid_more :
-    (d p : List ℕ) (k : ℕ) → p ≡ paste d 0 (drop 1 d) k → k + 1 < length d → set p k (get_or p (k + 1) 0) ≡ paste d 0 (drop 1 d) (k + 1)
-slid_more d p k is more =
-    let none : k - 0 ≡ k = omega arith in
-    let next : k + 1 - 0 ≡ k + 1 = omega arith in
-    rw is (rw (none, next) at (down_turn d 0 1 k 0 (omega arith) more))

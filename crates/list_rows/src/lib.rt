@@ -80,14 +80,13 @@ pub fn move_row(table: &mut [i16], i: usize, to: usize)
     }
 }
 
-// Moves the numbers of rows that are lent by one row: those of the first go, and those of the last stay where they were too.
-fn slide(part: &mut [i16])
-    requires { 16 ≤ length part.old }
-    ensures { part.new ≡ paste part.old 0 (drop 16 part.old) (length part.old - 16) }
+// Moves what is lent by so many places to the front: the first of it go, and the last stay where they were too.
+pub fn slide<T: Copy>(part: &mut [T], by: usize)
+    ensures { part.new ≡ paste part.old 0 (drop by part.old) (length part.old - by) }
 {
     // no `copy_within`, which takes 1.8 times as long, as measured: of this loop the compiler makes one move
-    for k in 0..part.len() - 16 {
-        part[k] = part[k + 16];
+    for k in 0..part.len().saturating_sub(by) {
+        part[k] = part[k + by];
     }
 }
 
@@ -98,6 +97,6 @@ pub fn take_row(table: &mut [i16], i: usize, n: usize)
     ensures { table.new ≡ without_row table.old i n }
 {
     if i < n && n <= table.len() / 16 {
-        slide(&mut table[16 * i..16 * n]);
+        slide(&mut table[16 * i..16 * n], 16);
     }
 }
