@@ -16,6 +16,7 @@ use range_hulls::Range;
 use ranges::{Answer, Kind};
 use std::array;
 
+// The numbers of this interface alone. A match: `From` for a `Result` would be no plainer.
 fn outcome_of(k: Kind) -> Result<u64, Refusal>
     ensures { result ≡ outcome_of k }
 {

@@ -17,7 +17,7 @@ use eval_lanes::Chunk;
 use jobs::{Job, Model};
 
 // What the steps come to.
-#[derive(Clone, Copy)]
+#[derive(Clone, Copy, Debug, PartialEq, Eq)]
 pub struct End {
     pub kind: Kind,
     pub state: State,

@@ -15,7 +15,7 @@ use range_hulls::{one_vector, widened};
 
 // The state of the search, but for the open boxes, which are the first rows of the table. Of what is
 // found, the box of the least and the greatest values.
-#[derive(Clone, Copy)]
+#[derive(Clone, Copy, Debug, PartialEq, Eq)]
 pub struct State {
     pub hull: Option<Box>,
     pub open: usize,
