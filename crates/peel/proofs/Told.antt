@@ -3,28 +3,25 @@ use mathlib.Core.Path.{◌≡◌, refl}
 use mathlib.Core.List.{List}
 use Prim.Native.Nat.{ℕ}
 use lib.IntN.{ℤ}
-use lib.ListN.{length, replicate}
+use lib.ListN.{length}
 use Rattle.codes.specs.Codes.{pass}
-use Rattle.std.specs.Prelude.{Err}
-use Rattle.integers.specs.Lists.{over}
+use Rattle.std.specs.Prelude.{Result, Ok, Err}
 use Rattle.codes.specs.declared.Refusal.{Refusal}
 use Rattle.codes.proofs.Checks.{refused_not_passed}
 use Rattle.jobs.specs.declared.Job.{Job}
 use Rattle.points.specs.Points.{points_of}
 use Rattle.list_rows.specs.Rows.{row_count}
-use Rattle.search.specs.declared.Answer.{Answer}
 use Rattle.search_checks.proofs.Passed.{runs_accepted}
 use Rattle.sharing.proofs.Sharing.{table_shared, bounds_shared}
 use Rattle.rounds.proofs.Peeling.{all_peeling}
 use Rattle.peel_checks.proofs.Passed.{accepted}
-use Rattle.peel_rounds.specs.Told.{no_round}
 use Rattle.peel_rounds.specs.Going.{RoundsDone}
 use Rattle.peel.specs.declared.Peeled.{Peeled}
 use Rattle.peel.specs.Peel.{check_lent, peel_answer, labels_after, TablePeeled, BoundsPeeled, PeelingLent}
 
 module _ (store : List ℕ) (job : Job) (limit : ℕ) (table : List ℤ) (bounds labels : List ℕ) where
   -- all clauses of the contract
-  abbrev Kept : Peeled → List ℕ → List ℤ → List ℕ → Type 0
+  abbrev Kept : Result Peeled Refusal → List ℕ → List ℤ → List ℕ → Type 0
   Kept r ls u e =
       (r ≡ peel_answer store job limit table bounds labels)
       × ((ls ≡ labels_after store job limit table bounds labels)
@@ -38,21 +35,16 @@ module _ (store : List ℕ) (job : Job) (limit : ℕ) (table : List ℤ) (bounds
       (runs_accepted store job (length table) (length bounds) ok.searching).inside
 
   pub where_accepted : (r : Peeled) (ls : List ℕ) (u : List ℤ) (e : List ℕ) → check_lent store job limit table bounds labels ≡ pass →
-      r.check ≡ pass →
       RoundsDone store job limit table bounds labels r.rounds r.answers ls u e →
-      Kept r ls u e
-  unfolding peel_answer labels_after
-  where_accepted r ls u e pass told d =
-      rw pass (
-        (λ i. record { check = told i; rounds = d.count_told i; answers = d.slots i }),
-        (d.labelled, (d.rows, (d.entries, λ _. all_shown pass))),
+      Kept (Ok r) ls u e
+  unfolding labels_after
+  where_accepted r ls u e passed d =
+      rw passed (
+        (λ i. Ok (record { rounds = d.count_told i; answers = d.slots i })),
+        (d.labelled, (d.rows, (d.entries, λ _. all_shown passed))),
       )
 
-  pub where_refused : (why : Refusal) (blank : Answer) → check_lent store job limit table bounds labels ≡ Err why → blank ≡ no_round →
-      Kept (record { check = Err why; rounds = 0; answers = replicate 4 blank }) labels table bounds
-  unfolding peel_answer labels_after over
-  where_refused why blank refuse told =
-      rw refuse (
-        (λ i. record { check = Err why; rounds = 0; answers = replicate 4 (told i) }),
-        (refl, (table_shared.none table, (bounds_shared.none bounds, λ e. refused_not_passed why e))),
-      )
+  pub where_refused : (why : Refusal) → check_lent store job limit table bounds labels ≡ Err why → Kept (Err why) labels table bounds
+  unfolding labels_after
+  where_refused why refuse =
+      rw refuse (refl, (refl, (table_shared.none table, (bounds_shared.none bounds, λ e. refused_not_passed why e))))

@@ -1,8 +1,9 @@
 -- What peeling answers and leaves in lent memory, request 1 of document 02: the rounds over a store's points (rounds/specs/Rounds.antt),
 -- with the checks before them.
-use Rattle.std.specs.Prelude.{◌≡◌, List, [], map, ℕ, ℤ, length}
+use Rattle.std.specs.Prelude.{◌≡◌, List, [], map, ℕ, ℤ, length, Result}
 use Rattle.integers.specs.Lists.{over}
-use Rattle.codes.specs.Codes.{Check, pass, if_passed}
+use Rattle.codes.specs.declared.Refusal.{Refusal}
+use Rattle.codes.specs.Codes.{Check, pass, unless_refused, if_passed}
 use Rattle.jobs.specs.declared.Job.{Job}
 use Rattle.points.specs.Points.{points_of}
 use Rattle.list_rows.specs.Rows.{row_count}
@@ -22,12 +23,12 @@ module _ (store : List ℕ) (job : Job) (limit : ℕ) (table : List ℤ) (bounds
   abbrev pub rounds_lent : List Round
   rounds_lent = peeled job (row_count table) limit (points_of store)
 
-  -- what the call answers: a refusal with its number and no round, or the rounds
-  abbrev pub answer_to : Check → List Round → Peeled
-  answer_to check rs = record { check = check; rounds = length rs; answers = slots_of rs }
+  -- what the call answers: the refusal, or the rounds
+  abbrev pub answer_to : List Round → Peeled
+  answer_to rs = record { rounds = length rs; answers = slots_of rs }
 
-  unfoldable pub peel_answer : Peeled
-  peel_answer = answer_to check_lent (if_passed check_lent rounds_lent [])
+  abbrev pub peel_answer : Result Peeled Refusal
+  peel_answer = unless_refused check_lent (answer_to rounds_lent)
 
   -- "A point's label is the round that removed it, else 0", a byte for each record, and the buffer's rest is kept
   unfoldable pub labels_after : List ℕ

@@ -9,7 +9,7 @@ use jobs::{Job, Model};
 use search::{Answer, Kind};
 
 // What a round comes to: its answer, and how many rounds may follow.
-#[derive(Clone, Copy)]
+#[derive(Clone, Copy, Debug, PartialEq, Eq)]
 pub struct Ran {
     pub answer: Answer,
     pub more: usize,
@@ -36,9 +36,7 @@ fn remove(
             let _ = labels::labels(store, m, vector, &mut marks);
             points_left::mark(labels, &marks[..store.len() / 12], number)
         }
-        Kind::Spent => 0,
-        Kind::Full => 0,
-        Kind::Refused(_) => 0,
+        Kind::Spent | Kind::Full | Kind::Refused(_) => 0,
     }
 }
 
@@ -47,7 +45,7 @@ fn rounds_after(removed: usize, left: usize, more: usize) -> usize
     requires { 1 ≤ more }
     ensures { result ≡ rounds_after removed left more }
 {
-    if (removed == 0) | (removed == left) {
+    if removed == 0 || removed == left {
         0
     } else {
         more - 1
@@ -71,12 +69,10 @@ pub fn one_round(
     let mut left = [0u8; 49152];
     let n = points_left::gather(store, labels, &mut left);
     let answer = search::search(&left[..n], job, table, bounds);
-    let kind = answer.kind;
-    let vector = answer.vector;
-    let removed = remove(kind, store, job.model, vector, (i + 1) as u8, labels);
-    let following = rounds_after(removed, n / 12, more);
+    let number = (i + 1) as u8;
+    let removed = remove(answer.kind, store, job.model, answer.vector, number, labels);
     Ran {
         answer,
-        more: following,
+        more: rounds_after(removed, n / 12, more),
     }
 }
