@@ -1,7 +1,8 @@
 -- Peeling through the C interface.
-use Rattle.std.specs.Prelude.{◌≡◌, Bool, true, false, cond, ◌&&◌, ℕ, eqb, ℤ, length}
+use Rattle.std.specs.Prelude.{◌≡◌, Bool, true, false, cond, ◌&&◌, ℕ, eqb, ℤ, length, Result, Ok, Err}
 use mathlib.Core.List.{List, [], ◌∷◌, map, flatten}
-use Rattle.codes.specs.Codes.{Outcome, pass, unless_refused}
+use Rattle.codes.specs.declared.Refusal.{Refusal}
+use Rattle.codes.specs.Codes.{Outcome, pass}
 use Rattle.jobs.specs.declared.Job.{Job}
 use Rattle.jobs.specs.declared.Model.{Model}
 use Rattle.points.specs.Points.{points_of}
@@ -10,12 +11,13 @@ use Rattle.search.specs.declared.Answer.{Answer}
 use Rattle.search.specs.Search.{kind_number}
 use Rattle.rounds.specs.Laws.{Peeling}
 use Rattle.peel.specs.declared.Peeled.{Peeled}
-use Rattle.peel.specs.Peel.{check_lent, peel_answer, labels_after, TablePeeled, BoundsPeeled}
+use Rattle.peel.specs.Peel.{check_lent, answer_to, rounds_lent, peel_answer, labels_after, TablePeeled, BoundsPeeled}
 use Rattle.c_boundary.specs.Boundary.{Call, if_lengths, if_accepted, job_from}
 
 -- the number of rounds, or the refusal
-abbrev pub outcome_of : Peeled → Outcome
-outcome_of r = unless_refused r.check r.rounds
+abbrev pub outcome_of : Result Peeled Refusal → Outcome
+outcome_of (Ok r) = Ok r.rounds
+outcome_of (Err why) = Err why
 
 -- "vector, C, L, count, open boxes and peak" behind the kind: the numbers of a round, 0 where none was run
 abbrev pub round_numbers : Answer → List ℕ
@@ -37,7 +39,7 @@ module _
     (store : List ℕ) (m : Model) (t budget : ℕ) (corners start : List ℤ) (limit : ℕ) (table : List ℤ) (bounds labels : List ℕ)
     (vectors : List ℤ) (numbers : List ℕ)
   where
-    -- whether the lengths are right, the job, and the answer to it
+    -- whether the lengths are right, the job, and the rounds, unless the job is refused
     abbrev right : Bool
     right = peel_lengths (length corners) (length start) (length vectors) (length numbers)
 
@@ -45,11 +47,11 @@ module _
     job = job_from m t budget 0 corners start
 
     abbrev told : Peeled
-    told = peel_answer store job limit table bounds labels
+    told = answer_to store job limit table bounds labels (rounds_lent store job limit table bounds labels)
 
     -- what the call comes to
     abbrev pub peel_call : Call
-    peel_call = if_lengths right (outcome_of told)
+    peel_call = if_lengths right (outcome_of (peel_answer store job limit table bounds labels))
 
     -- the lent vectors and numbers afterwards
     abbrev pub vectors_after : List ℤ
@@ -76,6 +78,7 @@ module _
     -- rounds/specs/Laws.antt says.
     pub record PeelingCall (new_value : ℕ) (new_vectors : List ℤ) (new_numbers new_labels : List ℕ) : Type 0 where
       pub accepted : check_lent store job limit table bounds labels ≡ pass
+      pub answered : peel_answer store job limit table bounds labels ≡ Ok told
       pub count : new_value ≡ told.rounds
       pub lines : new_vectors ≡ vectors_of told.answers
       pub answers : new_numbers ≡ numbers_of told.answers

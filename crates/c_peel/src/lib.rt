@@ -3,43 +3,13 @@
 
 mod laying;
 
-ghost use Rattle.std.specs.Prelude.{◌≡◌, length};
-ghost use Rattle.c_boundary.specs.Boundary.{model_of, answered, code_of, value_after, if_accepted};
-ghost use Rattle.c_peel.specs.Calls.{outcome_of, vectors_of, numbers_of, peel_lengths};
+ghost use Rattle.std.specs.Prelude.{◌≡◌};
+ghost use Rattle.c_boundary.specs.Boundary.{model_of, code_of, value_after};
 ghost use Rattle.c_peel.specs.Calls.{peel_call, vectors_after, numbers_after, labels_after_call};
 ghost use Rattle.c_peel.specs.Calls.{TableAfterCall, BoundsAfterCall, PeelingCall};
 
 use crate::laying::lay_all;
 use c_boundary::{WRONG_LENGTH, job_of, model_of, refusal_code};
-use peel::Peeled;
-
-fn lengths_right(corners: usize, start: usize, vectors: usize, numbers: usize) -> bool
-    ensures { result ≡ peel_lengths corners start vectors numbers }
-{
-    (corners == 16) & (start == 8) & (vectors == 32) & (numbers == 24)
-}
-
-// The rounds as this interface hands them over.
-fn hand_over(r: Peeled, vectors: &mut [i16], numbers: &mut [u64], value: &mut u64) -> u32
-    requires { (length vectors.old ≡ 32) × (length numbers.old ≡ 24) }
-    ensures code { result ≡ code_of (answered (outcome_of r)) }
-    ensures value { value.new ≡ value_after (answered (outcome_of r)) value.old }
-    ensures vectors { vectors.new
-        ≡ if_accepted (answered (outcome_of r)) (vectors_of r.answers) vectors.old }
-    ensures numbers { numbers.new
-        ≡ if_accepted (answered (outcome_of r)) (numbers_of r.answers) numbers.old }
-{
-    let check = r.check;
-    match check {
-        Ok(()) => {
-            let answers = r.answers;
-            lay_all(answers, vectors, numbers);
-            *value = r.rounds as u64;
-            0
-        }
-        Err(why) => refusal_code(why),
-    }
-}
 
 // Peels one line after another. The value is the number of rounds; their vectors and numbers go into their buffers, round after round, and
 // those of rounds not run are 0.
@@ -89,14 +59,16 @@ pub fn peel(
         table.old bounds.old labels.old vectors.old numbers.old
         value.new vectors.new numbers.new labels.new }
 {
-    if !lengths_right(corners.len(), start.len(), vectors.len(), numbers.len()) {
+    if corners.len() != 16 || start.len() != 8 || vectors.len() != 32 || numbers.len() != 24 {
         return WRONG_LENGTH;
     }
     let job = job_of(model_of(n, d, scale, p, eps), t, budget, 0, corners, start);
-    hand_over(
-        peel::peel(store, job, limit, table, bounds, labels),
-        vectors,
-        numbers,
-        value,
-    )
+    match peel::peel(store, job, limit, table, bounds, labels) {
+        Ok(told) => {
+            lay_all(told.answers, vectors, numbers);
+            *value = told.rounds as u64;
+            0
+        }
+        Err(why) => refusal_code(why),
+    }
 }

@@ -6,5 +6,5 @@ use Rattle.c_peel.proofs.laying.lay_all.Given as goal
 
 abbrev pub invariant-loop-k : goal.invariant-loop-k
 invariant-loop-k l =
-    Laid (λ a. a.vector) l.answers l.initial.vectors l.k (l.k * 8) l.vectors
-    × Laid round_numbers l.answers l.initial.numbers l.k (l.k * 6) l.numbers
+    Laid (λ a. a.vector) l.fn.answers l.initial.vectors l.k (l.k * 8) l.vectors
+    × Laid round_numbers l.fn.answers l.initial.numbers l.k (l.k * 6) l.numbers
