@@ -52,6 +52,7 @@ fn flag(check: Result<(), Refusal>) -> u8
     if check.is_ok() { 1 } else { 2 }
 }
 
+// Byte 3 after a run. By a match: a Result is the library's, so no conversion of it can be ours.
 fn refusal_number(check: Result<(), Refusal>) -> u8
     ensures { result ≡ refusal_number check }
 {

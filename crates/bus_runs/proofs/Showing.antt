@@ -30,7 +30,8 @@ use Rattle.answers.proofs.Records.{record_fits}
 use Rattle.registers.specs.Runs.{run_search, found_bytes}
 use Rattle.registers.proofs.Found.{search_passed, rows_equal, found_long, run_certified}
 use Rattle.bus_runs.specs.Lent.{shown_of, check_of, TableRun, BoundsRun, RunCertified}
-use Rattle.bus_runs.specs.Inside.{RunSearched, check_for, shown_for}
+use Rattle.search.specs.Search.{check_of as check_for}
+use Rattle.bus_runs.specs.Inside.{RunSearched, shown_for}
 
 -- the error that a `?` passes on
 pub err_is : {A : Type 0} {r : Result A Refusal} (why : Refusal) → IsErrAnd r (λ e. e ≡ why) → r ≡ Err why

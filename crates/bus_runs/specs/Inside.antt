@@ -25,13 +25,6 @@ pub record RunSearched
     pub rows : TableRun store job table bounds u
     pub entries : BoundsRun store job table bounds e
 
--- an answer's check: solved, spent and full are done
-abbrev pub check_for : Kind → Check
-check_for Solved = pass
-check_for Spent = pass
-check_for Full = pass
-check_for (Refused why) = Err why
-
 -- the record of an answer, in 40 bytes that were zeros: check 9 refuses that of a refusal, so that the zeros stay
 unfoldable pub shown_for : Model → Answer → List ℕ
 shown_for m a = written (check_answer_write (record_of m a) (replicate 40 0)) (answer_bytes (record_of m a)) (replicate 40 0)

@@ -3,11 +3,11 @@
 
 ghost use Rattle.std.specs.Prelude.{◌≡◌, length, IfOk};
 ghost use Rattle.bus_runs.specs.Lent.{shown_of, TableRun, BoundsRun, RunCertified};
-ghost use Rattle.bus_runs.specs.Inside.{numbers_for, RunSearched, check_for, shown_for};
+ghost use Rattle.bus_runs.specs.Inside.{numbers_for, RunSearched, shown_for};
 
 use codes::Refusal;
 use jobs::{Job, Model};
-use search::{Answer, Kind};
+use search::Answer;
 
 // How many numbers of a table the search of a job with so many rows is lent.
 #[tactic(auto, unfolding(crate::specs::Inside::numbers_for))]
@@ -29,16 +29,7 @@ fn search_rows(store: &[u8], job: Job, table: &mut [i16], bounds: &mut [u64]) ->
     search::search(store, job, &mut table[..n], bounds)
 }
 
-fn check_for(kind: Kind) -> Result<(), Refusal>
-    ensures { result ≡ check_for kind }
-{
-    match kind {
-        Kind::Solved | Kind::Spent | Kind::Full => Ok(()),
-        Kind::Refused(why) => Err(why),
-    }
-}
-
-// The record of an answer, zeros for a refusal: check 9 refuses its record, and nothing is written.
+// The record of an answer. Check 9 would refuse that of a refusal, and leave the zeros.
 #[tactic(auto, unfolding(crate::specs::Inside::shown_for))]
 fn shown_for(m: Model, answer: Answer) -> [u8; 40]
     ensures { result ≡ shown_for m answer }
@@ -56,6 +47,6 @@ pub fn run(job: Job, store: &[u8], table: &mut [i16], bounds: &mut [u64]) -> Res
     ensures certificate { IfOk result (λ shown. RunCertified store.now job table.old bounds.old shown) }
 {
     let found = search_rows(store, job, table, bounds);
-    check_for(found.kind)?;
+    found.kind.check()?;
     Ok(shown_for(job.model, found))
 }

@@ -21,6 +21,7 @@ pub fn write(first: &[u8], second: &[u8], out: &mut [u8], bytes: usize)
     let mut i = 0;
     let mut j = 0;
     let mut n = 0;
+    // The walk steps in two stores, so no `for` over one of them is plainer.
     while n < bytes {
         let f = frames::stride(first, i, second, j);
         let s = frames::stride(second, j, first, i);

@@ -4,14 +4,14 @@ use Rattle.job_records.proofs.Typed.{is_job}
 use Rattle.bus_runs.proofs.Showing.{err_is, ran_refused, ran_done}
 use Rattle.bus_runs.proofs.run.Goals as goal
 
-pub returns-in_err-check_for : goal.returns-in_err-check_for
-returns-in_err-check_for c =
+pub returns-in_err-check : goal.returns-in_err-check
+returns-in_err-check c =
     let a = c.args in
     let w =
     ran_refused a.store.now a.job a.table.now a.bounds.now (is_job a.job _ c.well_formed.0) c.search_rows-found.result
     c.search_rows-found.new.table c.search_rows-found.new.bounds c.search_rows-found.ensures
-    _ (sym c.check_for.ensures ∙ c.in_err-check_for.was) in
-    let e : c.from_residual.result ≡ Err c.in_err-check_for.field-0.0 = err_is c.in_err-check_for.field-0.0 c.from_residual.ensures.1 in
+    _ (sym c.check.ensures ∙ c.in_err-check.was) in
+    let e : c.from_residual.result ≡ Err c.in_err-check.field-0.0 = err_is c.in_err-check.field-0.0 c.from_residual.ensures.1 in
     record { run = e ∙ w.0; table = w.1.0; bounds = w.1.1.0; certificate = rw e tt }
 
 pub returns : goal.returns
@@ -20,5 +20,5 @@ returns c =
     let w =
     ran_done a.store.now a.job a.table.now a.bounds.now (is_job a.job _ c.well_formed.0) c.search_rows-found.result
     c.search_rows-found.new.table c.search_rows-found.new.bounds c.search_rows-found.ensures
-    (sym c.check_for.ensures ∙ c.in_ok-check_for.was) c.shown_for.result c.shown_for.ensures in
+    (sym c.check.ensures ∙ c.in_ok-check.was) c.shown_for.result c.shown_for.ensures in
     record { run = w.0; table = w.1.0; bounds = w.1.1.0; certificate = w.1.1.1 }
