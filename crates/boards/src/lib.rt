@@ -47,6 +47,7 @@ fn each_board(
     let mut budgets = [0; 8];
     let mut left = total;
     let mut from: usize = 0;
+    // By places: how many jobs are left stands beside record and length.
     for i in 0..count {
         let size = lengths[i] as usize;
         let own = job_records::read_job(&jobs[72 * i..72 * i + 72]).unwrap();

@@ -15,7 +15,7 @@ use eval_lanes::Chunk;
 use incumbent::{Child, Mark, ahead, child_of};
 use jobs::Model;
 
-// A bound of each half of a box.
+// A bound of each half of a box. Not the sums of eval_halves: for p = 3 a bound is no sum.
 #[derive(Clone, Copy, Debug, PartialEq, Eq)]
 pub struct HalfBounds {
     pub left: u64,
@@ -67,6 +67,9 @@ fn side_by_side(m: Model, line: usize) -> bool
 {
     m.p < 3 && 1 < m.n && line < usize::from(m.n)
 }
+
+// Here and below store, lanes and m stand apart: the clauses `lanes` hold of lanes that are no store's, which a type
+// that keeps `Evaluable` would exclude.
 
 // The bounds of both halves of b, each up to a cap. They have every line in common but that of the side that is cut; so, with other lines
 // and a p whose bounds are sums, both are found side by side.

@@ -110,6 +110,7 @@ fn coordinates(d: u8, s: u8, bits: [u32; 4]) -> Option<[i16; 4]>
     requires { s ≤ 15 }
     ensures { result ≡ result_ok (unless_refused (check_grid d s bits) (map (coordinate_of s) bits)) }
 {
+    // Four calls with `?`: a map over the patterns would need a second pass for its Options.
     let w = [
         coordinate(s, bits[0])?,
         coordinate(s, bits[1])?,

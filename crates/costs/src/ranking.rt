@@ -86,6 +86,7 @@ fn kept_rank<const OVER: bool>(
 {
     let q = asked.model.eps;
     let mut reached: u64 = 0;
+    // By places: of a zip over `iter_mut` a proof does not know what is written already.
     for t in 0..lanes.len() {
         chunk_sizes::<OVER>(&mut sizes[t], &lanes[t], asked, fill);
         reached += reaching(&sizes[t], cap);

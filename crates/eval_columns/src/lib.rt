@@ -49,12 +49,14 @@ fn decode_column(out: &mut Lanes, store: &[u8], t: usize, c: usize)
     requires { (t < 256) × (c < 5) }
     ensures { (k : ℕ) → k < 80 → FieldOfSlots store.now t c k nan (lane out.new k) }
 {
+    // Parts by hand: of what `chunks_exact_mut` lends a proof knows no element.
     for g in 0..4 {
         decode_group(&mut out[g * 20..g * 20 + 20], store, t, g, c);
     }
 }
 
-// The records of chunk t: the first d of the x, and y. The other columns are as they were.
+// The records of chunk t: the first d of the x, and y. The other columns are as they were. Store, t and d
+// stand apart, as in the promises `RecordsOf` and `ChunkOf`.
 fn decode_records(chunk: &mut Chunk, store: &[u8], t: usize, d: u8)
     requires { t < 256 }
     ensures here { RecordsOf store.now t d chunk.new }

@@ -25,6 +25,7 @@ fn cut_square(eps: f64, size: f64) -> f64
     cut * cut
 }
 
+// p is a byte: so the interface for C has it, and so `loss_in` says it.
 #[tactic(auto, unfolding(crate::specs::Losses::loss_in))]
 fn loss(p: u8, eps: f64, size: f64) -> f64
     ensures { result ≡ loss_in p eps size }
@@ -63,7 +64,7 @@ fn group_sum(losses: &Lanes, o: usize) -> u64
     count(even) + count(odd)
 }
 
-// The sums of the four groups.
+// The sums of the four groups. Four calls: a closure over the places would repeat the clauses of `group_sum`.
 pub fn group_sums(losses: &Lanes) -> [u64; 4]
     ensures { result ≡ group_sums (lane losses.now) }
 {

@@ -4,8 +4,8 @@
 ghost use Rattle.std.specs.Prelude.{◌≡◌};
 ghost use Rattle.eval_whole.specs.Whole.{larger_of, smaller_of, counted};
 
-// A test and a choice, which the compiler turns into one instruction. f64::max and f64::min are four, since they ask besides whether one
-// is no number, and say of 0 and -0 only that it is either.
+// A test and a choice. f64::max and f64::min take more instructions, since they ask besides whether one is no number,
+// and say of 0 and -0 only that it is either.
 pub fn larger(a: f64, b: f64) -> f64
     ensures { result ≡ larger_of a b }
 {

@@ -42,7 +42,8 @@ fn begins(n: usize, j: usize) -> usize
     (j * width(n)).min(n)
 }
 
-// The first smallest number of block j, and its place in the list.
+// The first smallest number of block j, and its place in the list. n stands beside the numbers: the list that is
+// lent is longer than what is listed of it.
 fn in_block(bounds: &[u64], n: usize, j: usize) -> Lowest
     requires { (n ≤ length bounds.now) × (j < 64) }
     ensures { InBlock bounds.now n j result.at result.bound }

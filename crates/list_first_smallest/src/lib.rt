@@ -22,6 +22,7 @@ pub fn lower_bound(bounds: &[u64], cost: u64) -> Lowest
     }
     let mut low = bounds[0];
     let mut at = 0;
+    // By places: `min_by_key` does not promise the first of equals.
     for i in 1..bounds.len() {
         let x = bounds[i];
         if x < low {

@@ -16,7 +16,8 @@ fn room(table: &[i16], bounds: &[u64]) -> usize
     (table.len() / 16).min(bounds.len())
 }
 
-// How many boxes are meant by the first n: as many as there is room for.
+// How many boxes are meant by the first n: as many as there is room for. Table, bounds and n stand apart here: the
+// first two are lent by the interface for C, and hold more than is listed.
 fn listed(table: &[i16], bounds: &[u64], n: usize) -> usize
     ensures { result ≡ min n (room_in table.now bounds.now) }
 {

@@ -20,7 +20,7 @@ pub struct LateBoxes {
 }
 
 // How many rows of the table are in use, gone ones too; how many boxes are late, and the first smallest of their bounds; how many boxes
-// are open in all.
+// are open in all. What is known of the late boxes stands here, not beside their memory: this is copied, that is not.
 #[derive(Clone, Copy, Debug, PartialEq, Eq)]
 pub struct Listing {
     pub rows: usize,

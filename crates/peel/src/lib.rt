@@ -43,6 +43,7 @@ fn each_round(
     let mut more = first_rounds(points_left::set_aside(store, labels), limit);
     let mut answers = [Answer::refused(Refusal::Rounds); 4];
     let mut rounds = 0;
+    // The rounds that are still allowed end it, not a count.
     while 0 < more {
         let r = one_round(store, job, rounds, more, table, bounds, labels);
         answers[rounds] = r.answer;

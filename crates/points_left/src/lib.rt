@@ -43,6 +43,7 @@ pub fn set_aside(store: &[u8], labels: &mut [u8]) -> usize
         return 0;
     }
     let mut left = 0;
+    // By places: a record and a label, which differ in width, go side by side.
     for i in 0..count {
         let label = first_label(store, i);
         labels[i] = label;
@@ -79,6 +80,7 @@ pub fn gather(store: &[u8], labels: &[u8], out: &mut [u8]) -> usize
         return 0;
     }
     let mut n = 0;
+    // By places: three slices go side by side, of two widths.
     for i in 0..(store.len() / 12).min(labels.len()) {
         n += put_left(labels[i], out, n, store, i * 12);
     }
@@ -109,6 +111,7 @@ pub fn mark(labels: &mut [u8], marks: &[u8], number: u8) -> usize
     ensures labels { labels.new ≡ relabelled number labels.old marks.now }
 {
     let mut removed = 0;
+    // By places: of a zip over `iter_mut` a proof does not know what is written already.
     for i in 0..labels.len().min(marks.len()) {
         let label = labels[i];
         let mark = marks[i];

@@ -96,6 +96,7 @@ fn steps(
 {
     let m = job.model;
     let mut s = first;
+    // It ends by one of three answers, not by a count.
     loop {
         let mark = s.mark;
         let found = s.list.lowest(leasts, mark.cost);

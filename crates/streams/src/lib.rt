@@ -28,6 +28,7 @@ pub fn read_full<R: Read>(reader: &mut R, space: &mut [u8]) -> usize
     ensures count { result ≤ length space.old }
 {
     let mut n: usize = 0;
+    // Not by a count: how far a read gets is its own affair.
     while n < space.len() {
         match reader.read(&mut space[n..]) {
             Ok(0) | Err(_) => break,

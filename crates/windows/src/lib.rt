@@ -20,6 +20,7 @@ fn window(store: &[u8], job: Job, table: &mut [i16], bounds: &mut [u64], place: 
 {
     let answer = search::search(store, job, table, bounds);
     let _ = answer_records::write_answer(answers::record_of(job.model, answer), place);
+    // By a local: an array of one struct can't be given straight to another's field.
     let start = answer.vector;
     Job { start, ..job }
 }
@@ -41,6 +42,7 @@ fn each_window(
         table.new bounds.new out.new }
 {
     let mut current = job;
+    // By places: windows overlap, so they are no chunks of the store.
     for i in 0..count {
         let from = 12 * (i * h);
         let place = &mut out[40 * i..40 * i + 40];
