@@ -84,13 +84,5 @@ pub fn boards(
         (BoardsCertified count total jobs.now stores.now lengths.now table.old bounds.old) }
 {
     check_jobs(count, jobs.len(), lengths.len())?;
-    Ok(each_board(
-        count as usize,
-        total,
-        jobs,
-        stores,
-        lengths,
-        table,
-        bounds,
-    ))
+    Ok(each_board(count as usize, total, jobs, stores, lengths, table, bounds))
 }

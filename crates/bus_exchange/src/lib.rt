@@ -80,7 +80,14 @@ fn access(
             }
         }
         1 => Progress {
-            registers: write_rows(state.registers, offset as usize, value, store, table, bounds),
+            registers: write_rows(
+                state.registers,
+                offset as usize,
+                value,
+                store,
+                table,
+                bounds,
+            ),
             ..state
         },
         _ => state,

@@ -68,7 +68,11 @@ fn flags_after(check: Result<(), Refusal>, before: u8, enable: u8) -> u8
     ensures { result ≡ flags_after check before enable }
 {
     let pending = before / 4 % 2 == 1 || enable % 2 == 1;
-    if pending { flag(check) + 4 } else { flag(check) }
+    if pending {
+        flag(check) + 4
+    } else {
+        flag(check)
+    }
 }
 
 // The registers with what they show of a run.

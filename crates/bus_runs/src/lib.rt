@@ -40,7 +40,12 @@ fn shown_for(m: Model, answer: Answer) -> [u8; 40]
 }
 
 // The run of a job: its answer record, or the refusal.
-pub fn run(job: Job, store: &[u8], table: &mut [i16], bounds: &mut [u64]) -> Result<[u8; 40], Refusal>
+pub fn run(
+    job: Job,
+    store: &[u8],
+    table: &mut [i16],
+    bounds: &mut [u64],
+) -> Result<[u8; 40], Refusal>
     ensures run { result ≡ shown_of store.now job (length table.old) (length bounds.old) }
     ensures table { TableRun store.now job table.old bounds.old table.new }
     ensures bounds { BoundsRun store.now job table.old bounds.old bounds.new }

@@ -70,8 +70,15 @@ pub fn windows(
         bounds.old bounds.new }
     ensures certificate { WindowsCertified store.now job k h table.old bounds.old out.old out.new }
 {
-    let count =
-        window_checks::count_windows(store, job, k, h, table.len(), bounds.len(), out.len())?;
+    let count = window_checks::count_windows(
+        store,
+        job,
+        k,
+        h,
+        table.len(),
+        bounds.len(),
+        out.len(),
+    )?;
     each_window(store, job, k, h, count as usize, table, bounds, out);
     Ok(count)
 }

@@ -63,8 +63,7 @@ loop-k-preserved c =
     let v : length l.vectors ≡ length a.vectors.now =
     still_long (λ a. a.vector) a.answers a.vectors.now l.k (l.k * 8) l.vectors (omega (arith, c.requires.0, below)) l.invariant.0 in
     let n : length l.numbers ≡ length a.numbers.now =
-    still_long round_numbers a.answers a.numbers.now l.k (l.k * 6) l.numbers (omega (arith, c.requires.1, below)) l.invariant.1 in
-    (
+    still_long round_numbers a.answers a.numbers.now l.k (l.k * 6) l.numbers (omega (arith, c.requires.1, below)) l.invariant.1 in (
       vector_laid a.answers a.vectors.now l.vectors c.fill_coordinates.new.out l.k _ _ c.fill_coordinates.ensures (search rules)
           (omega arith) (omega (arith, four, below)) (omega (arith, v, c.requires.0, below)) l.invariant.0,
       numbers_laid a.answers a.numbers.now l.numbers c.fill_numbers.new.out l.k _ _
