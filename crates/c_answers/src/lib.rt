@@ -9,7 +9,7 @@ ghost use Rattle.c_answers.specs.Calls.{write_answer_call, answer_record_after};
 
 use answer_records::AnswerRecord;
 use c_boundary::{WRONG_LENGTH, check_code, refusal_code};
-use c_buffers::{fill_coordinates, fill_numbers, vector_of};
+use c_buffers::{fill, vector_of};
 
 // An answer into its two buffers.
 fn lay_answer(a: AnswerRecord, vector: &mut [i16], numbers: &mut [u64])
@@ -26,8 +26,8 @@ fn lay_answer(a: AnswerRecord, vector: &mut [i16], numbers: &mut [u64])
         a.d as u64,
         a.scale as u64,
     ];
-    fill_coordinates(vector, &a.vector);
-    fill_numbers(numbers, &told);
+    fill(vector, &a.vector);
+    fill(numbers, &told);
 }
 
 // Reads an answer record of 40 bytes.

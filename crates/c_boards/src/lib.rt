@@ -10,7 +10,7 @@ ghost use Rattle.c_boards.specs.Calls.{TableAfterCall, BoundsAfterCall, Certifie
 
 use boards::BoardAnswers;
 use c_boundary::{WRONG_LENGTH, check_code, refusal_code};
-use c_buffers::{fill_coordinates, fill_numbers};
+use c_buffers::fill;
 use c_search::answer_numbers;
 use search::Answer;
 
@@ -21,8 +21,8 @@ fn hand_slot(a: Answer, used: bool, vector: &mut [i16], numbers: &mut [u64]) -> 
     ensures numbers { numbers.new ≡ filled numbers.old (board_numbers a) }
     ensures long { length a.vector ≡ 8 }
 {
-    fill_coordinates(vector, &a.vector);
-    fill_numbers(numbers, &answer_numbers(a));
+    fill(vector, &a.vector);
+    fill(numbers, &answer_numbers(a));
     if used { check_code(a.kind.check()) } else { 0 }
 }
 

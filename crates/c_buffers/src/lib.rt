@@ -40,31 +40,3 @@ pub fn fill<T: Copy>(out: &mut [T], from: &[T])
         out.copy_from_slice(from);
     }
 }
-
-// Fills a buffer of coordinates.
-pub fn fill_coordinates(out: &mut [i16], w: &[i16])
-    ensures { out.new ≡ filled out.old w.now }
-{
-    fill(out, w);
-}
-
-// Fills a buffer of numbers.
-pub fn fill_numbers(out: &mut [u64], told: &[u64])
-    ensures { out.new ≡ filled out.old told.now }
-{
-    fill(out, told);
-}
-
-// Fills a buffer of patterns.
-pub fn fill_patterns(out: &mut [u32], bits: &[u32])
-    ensures { out.new ≡ filled out.old bits.now }
-{
-    fill(out, bits);
-}
-
-// Fills a buffer of bytes.
-pub fn fill_bytes(out: &mut [u8], bytes: &[u8])
-    ensures { out.new ≡ filled out.old bytes.now }
-{
-    fill(out, bytes);
-}

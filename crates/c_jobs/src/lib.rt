@@ -9,7 +9,7 @@ ghost use Rattle.c_jobs.specs.Calls.{job_numbers, read_job_call, job_numbers_aft
 ghost use Rattle.c_jobs.specs.Calls.{write_job_call, job_record_after};
 
 use c_boundary::{WRONG_LENGTH, check_code, job_of, model_of, refusal_code};
-use c_buffers::{fill_coordinates, fill_numbers};
+use c_buffers::fill;
 use jobs::Job;
 
 // A job into its three buffers.
@@ -30,9 +30,9 @@ fn lay_job(j: Job, numbers: &mut [u64], corners: &mut [i16], start: &mut [i16])
         j.budget as u64,
         j.rows as u64,
     ];
-    fill_coordinates(start, &j.start);
+    fill(start, &j.start);
     list_rows::write_row(corners, 0, j.domain);
-    fill_numbers(numbers, &told);
+    fill(numbers, &told);
 }
 
 // Reads the job record in the first 72 bytes.

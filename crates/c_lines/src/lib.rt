@@ -6,7 +6,7 @@ ghost use Rattle.c_boundary.specs.Boundary.{code_of};
 ghost use Rattle.c_lines.specs.Calls.{write_line_call, patterns_after, read_line_call, coordinates_after};
 
 use c_boundary::{WRONG_LENGTH, refusal_code};
-use c_buffers::{coordinates_of, fill_coordinates, fill_patterns, patterns_of};
+use c_buffers::{coordinates_of, fill, patterns_of};
 
 // Writes a line: the patterns of its four coefficients.
 #[tactic(auto, using(c_buffers::proofs::Buffers::exactly_all, c_buffers::proofs::Buffers::filled_whole))]
@@ -19,7 +19,7 @@ pub fn write_line(d: u8, scale: u8, coordinates: &[i16], patterns: &mut [u32]) -
     }
     match coefficients::write_line(d, scale, coordinates_of(coordinates)) {
         Ok(line) => {
-            fill_patterns(patterns, &coefficients::patterns(line));
+            fill(patterns, &coefficients::patterns(line));
             0
         }
         Err(r) => refusal_code(r),
@@ -37,7 +37,7 @@ pub fn read_line(d: u8, scale: u8, patterns: &[u32], coordinates: &mut [i16]) ->
     }
     match coefficients::read_patterns(d, scale, patterns_of(patterns)) {
         Ok(w) => {
-            fill_coordinates(coordinates, &w);
+            fill(coordinates, &w);
             0
         }
         Err(r) => refusal_code(r),

@@ -2,7 +2,7 @@
 ghost use Rattle.std.specs.Prelude.{◌≡◌, length};
 ghost use Rattle.c_peel.specs.Calls.{vectors_of, numbers_of};
 
-use c_buffers::{fill_coordinates, fill_numbers};
+use c_buffers::fill;
 use c_search::answer_numbers;
 use search::Answer;
 
@@ -13,7 +13,7 @@ pub fn lay_all(answers: [Answer; 4], vectors: &mut [i16], numbers: &mut [u64])
     ensures numbers { numbers.new ≡ numbers_of answers }
 {
     for (k, &a) in answers.iter().enumerate() {
-        fill_coordinates(&mut vectors[k * 8..k * 8 + 8], &a.vector);
-        fill_numbers(&mut numbers[k * 6..k * 6 + 6], &answer_numbers(a));
+        fill(&mut vectors[k * 8..k * 8 + 8], &a.vector);
+        fill(&mut numbers[k * 6..k * 6 + 6], &answer_numbers(a));
     }
 }

@@ -9,7 +9,7 @@ ghost use Rattle.c_ranges.specs.Calls.{ranges_numbers, ranges_lengths};
 ghost use Rattle.c_ranges.specs.Calls.{ranges_call, patterns_after, cases_after, numbers_after, TableAfterCall, CertifiedCall};
 
 use c_boundary::{WRONG_LENGTH, job_of, model_of, settle};
-use c_buffers::{fill_bytes, fill_numbers, fill_patterns};
+use c_buffers::fill;
 use codes::Refusal;
 use coefficients::pattern;
 use range_hulls::Range;
@@ -121,9 +121,9 @@ fn hand_over(
     let outcome = outcome_of(a.kind);
     match outcome {
         Ok(_) => {
-            fill_patterns(patterns, &patterns_of(a.slots));
-            fill_bytes(cases, &cases_of(a.slots));
-            fill_numbers(numbers, &[u64::from(a.count), a.open as u64, a.peak as u64]);
+            fill(patterns, &patterns_of(a.slots));
+            fill(cases, &cases_of(a.slots));
+            fill(numbers, &[u64::from(a.count), a.open as u64, a.peak as u64]);
             settle(outcome, value)
         }
         Err(_) => settle(outcome, value),

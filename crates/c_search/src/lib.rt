@@ -9,7 +9,7 @@ ghost use Rattle.c_search.specs.Calls.{outcome_of, search_numbers};
 ghost use Rattle.c_search.specs.Calls.{search_call, vector_after, numbers_after, TableAfterCall, BoundsAfterCall, CertifiedCall};
 
 use c_boundary::{WRONG_LENGTH, job_of, model_of, refusal_code};
-use c_buffers::{fill_coordinates, fill_numbers};
+use c_buffers::fill;
 use codes::Refusal;
 use search::{Answer, Kind};
 
@@ -47,8 +47,8 @@ fn hand_over(a: Answer, vector: &mut [i16], numbers: &mut [u64], value: &mut u64
 {
     match outcome_of(a.kind) {
         Ok(kind) => {
-            fill_coordinates(vector, &a.vector);
-            fill_numbers(numbers, &answer_numbers(a)[1..]);
+            fill(vector, &a.vector);
+            fill(numbers, &answer_numbers(a)[1..]);
             *value = kind;
             0
         }

@@ -4,7 +4,7 @@
 use codes::Refusal;
 use std::io;
 
-fn refused(rt: &impl Print, r: codes::Refusal) -> io::Result<()> {
+fn refused(rt: &impl Print, r: Refusal) -> io::Result<()> {
     let number = u8::from(r);
     println!(rt; "refused {number}")
 }
@@ -15,35 +15,27 @@ fn show(rt: &impl Print, bits: [u32; 4]) -> io::Result<()> {
 }
 
 fn write(rt: &impl Print, d: u8, s: u8, w: [i16; 4]) -> io::Result<()> {
-    let written = coefficients::write_line(d, s, w);
-    let check = written.check;
-    let line = written.line;
-    match check {
-        Ok(()) => show(rt, coefficients::patterns(line)),
+    match coefficients::write_line(d, s, w) {
+        Ok(line) => show(rt, coefficients::patterns(line)),
         Err(r) => refused(rt, r),
     }
 }
 
 // What is read is shown as it is written at scale 0, so that each pattern is the coordinate's own.
 fn read(rt: &impl Print, d: u8, s: u8, bits: [u32; 4]) -> io::Result<()> {
-    let found = coefficients::read_patterns(d, s, bits);
-    let check = found.check;
-    let w = found.w;
-    match check {
-        Ok(()) => write(rt, 4, 0, w),
+    match coefficients::read_patterns(d, s, bits) {
+        Ok(w) => write(rt, 4, 0, w),
         Err(r) => refused(rt, r),
     }
 }
 
 // What is written is handed over as numbers and read.
 fn back(rt: &impl Print, d: u8, s: u8, w: [i16; 4]) -> io::Result<()> {
-    let written = coefficients::write_line(d, s, w);
-    let line = written.line;
-    let found = coefficients::read_line(d, s, line);
-    let check = found.check;
-    let again = found.w;
-    match check {
-        Ok(()) => write(rt, 4, 0, again),
+    let again = coefficients::write_line(d, s, w).and_then(|line| coefficients::read_line(
+        d, s, line,
+    ));
+    match again {
+        Ok(w) => write(rt, 4, 0, w),
         Err(r) => refused(rt, r),
     }
 }

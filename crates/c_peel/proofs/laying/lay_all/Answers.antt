@@ -64,9 +64,9 @@ loop-k-preserved c =
     still_long (λ a. a.vector) a.answers a.vectors.now l.k (l.k * 8) l.vectors (omega (arith, c.requires.0, below)) l.invariant.0 in
     let n : length l.numbers ≡ length a.numbers.now =
     still_long round_numbers a.answers a.numbers.now l.k (l.k * 6) l.numbers (omega (arith, c.requires.1, below)) l.invariant.1 in (
-      vector_laid a.answers a.vectors.now l.vectors c.fill_coordinates.new.out l.k _ _ c.fill_coordinates.ensures (search rules)
+      vector_laid a.answers a.vectors.now l.vectors c.fill.new.out l.k _ _ c.fill.ensures (search rules)
           (omega arith) (omega (arith, four, below)) (omega (arith, v, c.requires.0, below)) l.invariant.0,
-      numbers_laid a.answers a.numbers.now l.numbers c.fill_numbers.new.out l.k _ _
-          (rw c.answer_numbers.ensures at c.fill_numbers.ensures) (omega arith) (omega (arith, four, below))
+      numbers_laid a.answers a.numbers.now l.numbers c.fill-in-loop-k.new.out l.k _ _
+          (rw c.answer_numbers.ensures at c.fill-in-loop-k.ensures) (omega arith) (omega (arith, four, below))
           (omega (arith, n, c.requires.1, below)) l.invariant.1,
     )
