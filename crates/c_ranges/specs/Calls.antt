@@ -1,12 +1,12 @@
 -- The ranges of all coefficients through the C interface.
 use Rattle.codes.specs.Codes.{Outcome, pass}
-use Rattle.std.specs.Prelude.{◌≡◌, Bool, true, false, ◌&&◌, List, [], ◌∷◌, ℕ, eqb, ℤ, length, get_or, Ok, Err, Option, Some, None}
+use Rattle.std.specs.Prelude.{◌≡◌, Bool, true, false, ◌&&◌, List, [], ◌∷◌, ℕ, eqb, ℤ, length, get_or, Ok, Err}
 use Rattle.std.specs.Float.{binary32}
 use Rattle.std.specs.Float.Ieee.{to_bits}
 use Rattle.jobs.specs.declared.Job.{Job}
 use Rattle.jobs.specs.declared.Model.{Model}
 use Rattle.range_hulls.specs.declared.Range.{Range}
-use Rattle.range_hulls.specs.declared.Range.TheVariants.{One, Between}
+use Rattle.range_hulls.specs.declared.Range.TheVariants.{One, Between, Nothing}
 use Rattle.ranges.specs.declared.Kind.{Kind}
 use Rattle.ranges.specs.declared.Kind.TheVariants.{Finished, Spent, Full}
 use Rattle.ranges.specs.declared.Kind.TheVariants as kinds
@@ -22,33 +22,33 @@ outcome_of Full = Ok (kind_number Full)
 outcome_of (kinds.Refused why) = Err why
 
 -- "one single-precision value, a low and a high value, or none": 1, 2 and 0
-abbrev pub case_of : Option Range → ℕ
-case_of (Some (One w)) = 1
-case_of (Some (Between low high)) = 2
-case_of None = 0
+abbrev pub case_of : Range → ℕ
+case_of (One w) = 1
+case_of (Between low high) = 2
+case_of Nothing = 0
 
 -- the bits of the low end and of the high end: one value has both equal, none 0 and 0
-abbrev pub low_bits : Option Range → ℕ
-low_bits (Some (One w)) = to_bits binary32 w
-low_bits (Some (Between low high)) = to_bits binary32 low
-low_bits None = 0
+abbrev pub low_bits : Range → ℕ
+low_bits (One w) = to_bits binary32 w
+low_bits (Between low high) = to_bits binary32 low
+low_bits Nothing = 0
 
-abbrev pub high_bits : Option Range → ℕ
-high_bits (Some (One w)) = to_bits binary32 w
-high_bits (Some (Between low high)) = to_bits binary32 high
-high_bits None = 0
+abbrev pub high_bits : Range → ℕ
+high_bits (One w) = to_bits binary32 w
+high_bits (Between low high) = to_bits binary32 high
+high_bits Nothing = 0
 
 -- the range of a coordinate, the first being 0
-abbrev pub range_at : List (Option Range) → ℕ → Option Range
-range_at slots k = get_or slots k None
+abbrev pub range_at : List Range → ℕ → Range
+range_at slots k = get_or slots k Nothing
 
 -- of each coordinate in order, its case; and the bits of its low end and of its high end
-abbrev pub cases_of : List (Option Range) → List ℕ
+abbrev pub cases_of : List Range → List ℕ
 cases_of slots =
     case_of (range_at slots 0) ∷ case_of (range_at slots 1) ∷ case_of (range_at slots 2) ∷ case_of (range_at slots 3)
     ∷ case_of (range_at slots 4) ∷ case_of (range_at slots 5) ∷ case_of (range_at slots 6) ∷ case_of (range_at slots 7) ∷ []
 
-abbrev pub patterns_of : List (Option Range) → List ℕ
+abbrev pub patterns_of : List Range → List ℕ
 patterns_of slots =
     low_bits (range_at slots 0) ∷ high_bits (range_at slots 0) ∷ low_bits (range_at slots 1) ∷ high_bits (range_at slots 1)
     ∷ low_bits (range_at slots 2) ∷ high_bits (range_at slots 2) ∷ low_bits (range_at slots 3) ∷ high_bits (range_at slots 3)

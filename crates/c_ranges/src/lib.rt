@@ -28,45 +28,45 @@ fn outcome_of(k: Kind) -> Result<u64, Refusal>
     }
 }
 
-fn case_of(r: Option<Range>) -> u8
+fn case_of(r: Range) -> u8
     ensures { result ≡ case_of r }
 {
     match r {
-        Some(Range::One(_)) => 1,
-        Some(Range::Between(_, _)) => 2,
-        None => 0,
+        Range::One(_) => 1,
+        Range::Between(_, _) => 2,
+        Range::Nothing => 0,
     }
 }
 
-fn low_bits(r: Option<Range>) -> u32
+fn low_bits(r: Range) -> u32
     ensures { result ≡ low_bits r }
 {
     match r {
-        Some(Range::One(w)) => pattern(w),
-        Some(Range::Between(low, _)) => pattern(low),
-        None => 0,
+        Range::One(w) => pattern(w),
+        Range::Between(low, _) => pattern(low),
+        Range::Nothing => 0,
     }
 }
 
-fn high_bits(r: Option<Range>) -> u32
+fn high_bits(r: Range) -> u32
     ensures { result ≡ high_bits r }
 {
     match r {
-        Some(Range::One(w)) => pattern(w),
-        Some(Range::Between(_, high)) => pattern(high),
-        None => 0,
+        Range::One(w) => pattern(w),
+        Range::Between(_, high) => pattern(high),
+        Range::Nothing => 0,
     }
 }
 
 // The case of each coordinate.
-fn cases_of(slots: [Option<Range>; 8]) -> [u8; 8]
+fn cases_of(slots: [Range; 8]) -> [u8; 8]
     ensures { result ≡ cases_of slots }
 {
     array::from_fn(|k| case_of(slots[k]))
 }
 
 // The bits of a coordinate's low end, at an even place, or of its high end.
-fn end_bits(slots: [Option<Range>; 8], i: usize) -> u32
+fn end_bits(slots: [Range; 8], i: usize) -> u32
     requires { i < 16 }
     ensures { result
         ≡ cond (eqb (i % 2) 0) (low_bits (range_at slots (i / 2))) (high_bits (range_at slots (i / 2))) }
@@ -79,7 +79,7 @@ fn end_bits(slots: [Option<Range>; 8], i: usize) -> u32
 }
 
 // The bits of the low and of the high end of each coordinate.
-fn patterns_of(slots: [Option<Range>; 8]) -> [u32; 16]
+fn patterns_of(slots: [Range; 8]) -> [u32; 16]
     ensures { result ≡ patterns_of slots }
 {
     let mut bits = [0; 16];

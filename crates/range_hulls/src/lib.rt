@@ -11,12 +11,12 @@ use boxes::Box;
 use coefficients::coefficient_of;
 use std::array;
 
-// "The answer for a coefficient is one single-precision value, a low and a high value, or none": an
-// `Option` of a range.
+// "The answer for a coefficient is one single-precision value, a low and a high value, or none."
 #[derive(Clone, Copy, Debug, PartialEq)]
 pub enum Range {
     One(f32),
     Between(f32, f32),
+    Nothing,
 }
 
 // Each end with one vector more.
@@ -64,18 +64,18 @@ fn range_between(s: u8, low: i16, high: i16) -> Range
 }
 
 // The range of coordinate k, where `used` of the 8 are used.
-fn range_of(s: u8, used: usize, hull: Option<Box>, k: usize) -> Option<Range>
+fn range_of(s: u8, used: usize, hull: Option<Box>, k: usize) -> Range
     requires { k < 8 }
     ensures { result ≡ range_of (coefficient_or_zero s) used (found_of hull) k }
 {
     match hull {
-        Some(ends) if k < used => Some(range_between(s, ends.low[k], ends.high[k])),
-        _ => None,
+        Some(ends) if k < used => range_between(s, ends.low[k], ends.high[k]),
+        _ => Range::Nothing,
     }
 }
 
 // The ranges of all coordinates.
-pub fn slots(s: u8, used: usize, hull: Option<Box>) -> [Option<Range>; 8]
+pub fn slots(s: u8, used: usize, hull: Option<Box>) -> [Range; 8]
     ensures { result ≡ slots_of (coefficient_or_zero s) used (found_of hull) }
 {
     array::from_fn(|k| range_of(s, used, hull, k))

@@ -1,6 +1,6 @@
 -- Request 13 of document 02: what a search for the range of every coefficient answers, over the points of a store, with the checks 1 to 8
 -- before it, and what it leaves in the table. The search itself is range_search/specs/RangeSearch.antt.
-use Rattle.std.specs.Prelude.{◌≡◌, List, [], ◌∷◌, ◌++◌, ℕ, ◌*◌, leb, ℤ, length, drop, replicate, Ok, Err, None}
+use Rattle.std.specs.Prelude.{◌≡◌, List, [], ◌∷◌, ◌++◌, ℕ, ◌*◌, leb, ℤ, length, drop, replicate, Ok, Err}
 use Rattle.codes.specs.declared.Refusal.{Refusal}
 use Rattle.codes.specs.Codes.{Check, pass, pass_if, in_order}
 use Rattle.boxes.specs.declared.Box.{Box}
@@ -15,6 +15,7 @@ use Rattle.range_search.specs.RangeSearch as Search
 use Rattle.range_search.specs.RangeSearch.{Found, nothing, range_search}
 use Rattle.range_search.specs.Ranged.{Ranged}
 use Rattle.coefficients.specs.Coefficient.{coefficient_of}
+use Rattle.range_hulls.specs.declared.Range.TheVariants.{Nothing}
 use Rattle.range_hulls.specs.Hulls.{slots_of}
 use Rattle.search_checks.specs.Checks.{check_job}
 use Rattle.ranges.specs.declared.Kind.{Kind}
@@ -64,7 +65,7 @@ told m r =
 
 -- at a refusal there is no range, and every number is 0
 abbrev pub refused : Refusal → Answer
-refused why = record { kind = Refused why; slots = replicate 8 None; count = 0; «open» = 0; peak = 0 }
+refused why = record { kind = Refused why; slots = replicate 8 Nothing; count = 0; «open» = 0; peak = 0 }
 
 abbrev pub answer_unless_refused : Check → Model → Search.Answer → Answer
 answer_unless_refused (Ok _) m r = told m r

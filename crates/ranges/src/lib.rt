@@ -32,7 +32,7 @@ pub enum Kind {
 #[derive(Clone, Copy, Debug, PartialEq)]
 pub struct Answer {
     pub kind: Kind,
-    pub slots: [Option<Range>; 8],
+    pub slots: [Range; 8],
     pub count: u32,
     pub open: usize,
     pub peak: usize,
@@ -52,7 +52,7 @@ fn refusal(why: Refusal) -> Answer
 {
     Answer {
         kind: Kind::Refused(why),
-        slots: [None; 8],
+        slots: [Range::Nothing; 8],
         count: 0,
         open: 0,
         peak: 0,
