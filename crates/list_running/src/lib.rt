@@ -12,7 +12,7 @@ use list_blocks::{Blocks, GONE, Spot};
 use list_first_smallest::{Lowest, lower_bound};
 use list_open_boxes::take_out;
 
-// The memory of the late boxes: their short table, and the list of their bounds beside it.
+// The memory that a search lends for its late boxes: their short table, and the list of their bounds beside it.
 #[derive(Clone, Copy, Debug, PartialEq, Eq)]
 pub struct LateBoxes {
     pub rows: [i16; 2048],
@@ -86,11 +86,12 @@ impl Listing {
         self,
         bounds: &mut [u64],
         leasts: &mut Blocks,
-        late: &mut LateBoxes,
+        late: &mut [i16],
+        beside: &mut [u64],
         found: Found,
     ) -> Listing
-        ensures { TakenBy bounds.old leasts.old late.old.rows late.old.bounds self found
-            result bounds.new leasts.new late.new.rows late.new.bounds }
+        ensures { TakenBy bounds.old leasts.old late.old beside.old self found
+            result bounds.new leasts.new late.new beside.new }
     {
         let number = self.number.saturating_sub(1);
         match found {
@@ -99,10 +100,10 @@ impl Listing {
                 Listing { number, ..self }
             }
             Found::Late(spot) => {
-                let left = take_out(&mut late.rows, &mut late.bounds, self.late, spot.at);
+                let left = take_out(late, beside, self.late, spot.at);
                 Listing {
                     late: left,
-                    near: lower_bound(&late.bounds[..left], GONE),
+                    near: lower_bound(&beside[..left], GONE),
                     number,
                     ..self
                 }
@@ -116,21 +117,14 @@ impl Listing {
         table: &mut [i16],
         bounds: &mut [u64],
         leasts: &mut Blocks,
-        late: &LateBoxes,
+        late: &[i16],
+        beside: &[u64],
         mark: Mark,
     ) -> Listing
-        ensures { SettledBy table.old bounds.old leasts.old late.now.rows late.now.bounds
+        ensures { SettledBy table.old bounds.old leasts.old late.now beside.now
             self mark result table.new bounds.new leasts.new }
     {
-        let rows = list_open_boxes::settle(
-            table,
-            bounds,
-            self.rows,
-            &late.rows,
-            &late.bounds,
-            self.late,
-            mark,
-        );
+        let rows = list_open_boxes::settle(table, bounds, self.rows, late, beside, self.late, mark);
         leasts.find(bounds, rows);
         Listing::of_rows(rows)
     }

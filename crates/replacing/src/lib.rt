@@ -12,24 +12,24 @@ use incumbent::{Child, Mark, ahead};
 use list_blocks::{Blocks, GONE};
 use list_first_smallest::Lowest;
 use list_open_boxes::keeping;
-use list_running::{Found, LateBoxes, Listing};
+use list_running::{Found, Listing};
 
 // How many late boxes leave room for the halves of one more: there are 128 late rows.
 const LATE: usize = 126;
 
 // The box that was found.
-pub fn box_found(table: &[i16], late: &LateBoxes, found: Found) -> Box
-    ensures { result ≡ box_in table.now late.now.rows found }
+pub fn box_found(table: &[i16], late: &[i16], found: Found) -> Box
+    ensures { result ≡ box_in table.now late.now found }
 {
     match found {
         Found::Row(spot) => list_rows::read_row(table, spot.at),
-        Found::Late(spot) => list_rows::read_row(&late.rows, spot.at),
+        Found::Late(spot) => list_rows::read_row(late, spot.at),
     }
 }
 
 // Whether it would be kept itself.
-fn kept_itself(table: &[i16], late: &LateBoxes, found: Found, mark: Mark) -> bool
-    ensures { result ≡ ahead_of mark (spot_in found).bound (box_in table.now late.now.rows found).low }
+fn kept_itself(table: &[i16], late: &[i16], found: Found, mark: Mark) -> bool
+    ensures { result ≡ ahead_of mark (spot_in found).bound (box_in table.now late.now found).low }
 {
     let b = box_found(table, late, found);
     ahead(mark, found.bound(), b.low)
@@ -47,15 +47,15 @@ fn nearest(near: Lowest, at: usize, x: u64) -> Lowest
 }
 
 // Puts a box that is kept behind the list, if there is room for one more late box.
-pub fn add(late: &mut LateBoxes, list: Listing, child: Child) -> Listing
-    ensures list { result ≡ put_late late.old.rows late.old.bounds list child }
-    ensures late { late.new.rows ≡ put_row late.old.rows late.old.bounds list child }
-    ensures beside { late.new.bounds ≡ put_entry late.old.rows late.old.bounds list child }
+pub fn add(late: &mut [i16], beside: &mut [u64], list: Listing, child: Child) -> Listing
+    ensures list { result ≡ put_late late.old beside.old list child }
+    ensures late { late.new ≡ put_row late.old beside.old list child }
+    ensures beside { beside.new ≡ put_entry late.old beside.old list child }
 {
     if list.number == GONE as usize {
         return list;
     }
-    let end = list_open_boxes::put(&mut late.rows, &mut late.bounds, list.late, child);
+    let end = list_open_boxes::put(late, beside, list.late, child);
     if end == list.late {
         return list;
     }
@@ -73,13 +73,14 @@ pub fn add(late: &mut LateBoxes, list: Listing, child: Child) -> Listing
 fn too_many(
     table: &[i16],
     bounds: &[u64],
-    late: &LateBoxes,
+    late: &[i16],
+    beside: &[u64],
     list: Listing,
     found: Found,
     br: Branches,
 ) -> bool
     ensures { result
-        ≡ too_many table.now bounds.now late.now.rows late.now.bounds list found br }
+        ≡ too_many table.now bounds.now late.now beside.now list found br }
 {
     let room = table.len() / 16;
     let more = br.left.kept as usize + br.right.kept as usize;
@@ -94,7 +95,7 @@ fn too_many(
     }
     let own = kept_itself(table, late, found, br.mark) as usize;
     let kept = keeping(table, bounds, list.rows, br.mark)
-        + keeping(&late.rows, &late.bounds, list.late, br.mark);
+        + keeping(late, beside, list.late, br.mark);
     room + own < kept + more
 }
 
@@ -103,18 +104,19 @@ fn make_room(
     table: &mut [i16],
     bounds: &mut [u64],
     leasts: &mut Blocks,
-    late: &LateBoxes,
+    late: &[i16],
+    beside: &[u64],
     list: Listing,
     br: Branches,
 ) -> Listing
-    ensures { RoomMade (memory table.old bounds.old leasts.old late.now.rows late.now.bounds)
+    ensures { RoomMade (memory table.old bounds.old leasts.old late.now beside.now)
         list br.mark br.stays result
-        (memory table.new bounds.new leasts.new late.now.rows late.now.bounds) }
+        (memory table.new bounds.new leasts.new late.now beside.now) }
 {
     if br.stays && list.late <= LATE {
         return list;
     }
-    list.settle(table, bounds, leasts, late, br.mark)
+    list.settle(table, bounds, leasts, late, beside, br.mark)
 }
 
 // Takes out the box that was found and those that are not kept, and puts its halves behind the others. Where more would remain than the
@@ -124,20 +126,21 @@ pub fn replace(
     table: &mut [i16],
     bounds: &mut [u64],
     leasts: &mut Blocks,
-    late: &mut LateBoxes,
+    late: &mut [i16],
+    beside: &mut [u64],
     list: Listing,
     found: Found,
     br: Branches,
 ) -> Option<Listing>
-    ensures { ReplacedBy (memory table.old bounds.old leasts.old late.old.rows late.old.bounds)
+    ensures { ReplacedBy (memory table.old bounds.old leasts.old late.old beside.old)
         list found br result
-        (memory table.new bounds.new leasts.new late.new.rows late.new.bounds) }
+        (memory table.new bounds.new leasts.new late.new beside.new) }
 {
-    if too_many(table, bounds, late, list, found, br) {
+    if too_many(table, bounds, late, beside, list, found, br) {
         return None;
     }
-    let taken = list.take(bounds, leasts, late, found);
-    let ready = make_room(table, bounds, leasts, late, taken, br);
-    let one = add(late, ready, br.left);
-    Some(add(late, one, br.right))
+    let taken = list.take(bounds, leasts, late, beside, found);
+    let ready = make_room(table, bounds, leasts, late, beside, taken, br);
+    let one = add(late, beside, ready, br.left);
+    Some(add(late, beside, one, br.right))
 }

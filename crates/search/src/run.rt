@@ -34,7 +34,7 @@ fn begin(store: &[u8], lanes: &[Chunk], job: Job, late: &mut LateBoxes) -> State
         best: start,
     };
     let given = branching::tested(store, lanes, m, domain, mark);
-    let list = replacing::add(late, Listing::of_rows(0), given);
+    let list = replacing::add(&mut late.rows, &mut late.bounds, Listing::of_rows(0), given);
     State {
         mark,
         list,
@@ -144,6 +144,6 @@ pub fn run(store: &[u8], lanes: &[Chunk], job: Job, table: &mut [i16], bounds: &
         first,
     );
     let s = end.state;
-    s.list.settle(table, bounds, &mut leasts, &late, s.mark);
+    s.list.settle(table, bounds, &mut leasts, &late.rows, &late.bounds, s.mark);
     answer(end.kind, s, end.low)
 }

@@ -44,9 +44,18 @@ pub fn step(
         (memory table.new bounds.new leasts.new late.new.rows late.new.bounds) }
 {
     let mark = s.mark;
-    let b = box_found(table, late, found);
+    let b = box_found(table, &late.rows, found);
     let br = cut_box(store, lanes, m, b, mark, s.count == 0);
-    let list = replace(table, bounds, leasts, late, s.list, found, br)?;
+    let list = replace(
+        table,
+        bounds,
+        leasts,
+        &mut late.rows,
+        &mut late.bounds,
+        s.list,
+        found,
+        br,
+    )?;
     Some(State {
         mark: br.mark,
         list,

@@ -35,7 +35,7 @@ returns-in_err-list c =
     (c.cut_box-br.ensures.store c.requires.0 c.requires.1.stands.marks (rw c.box_found-b.ensures c.requires.1.wide)
     (λ e. let some = eqb-false a.s.count 0 e in rw c.box_found-b.ensures (c.requires.1.costed (omega arith)))) in
     let q = c.replace in
-    let k = memory q.new.table q.new.bounds q.new.leasts q.new.late.rows q.new.late.bounds in
+    let k = memory q.new.table q.new.bounds q.new.leasts q.new.late q.new.beside in
     rw c.from_residual.ensures
     (step_full C B h a.s a.found c.requires.1 c.cut_box-br.result made q.result k q.ensures (ap is_none c.in_err-list.was))
 
@@ -50,7 +50,7 @@ returns c =
     (c.cut_box-br.ensures.store c.requires.0 c.requires.1.stands.marks (rw c.box_found-b.ensures c.requires.1.wide)
     (λ e. let some = eqb-false a.s.count 0 e in rw c.box_found-b.ensures (c.requires.1.costed (omega arith)))) in
     let q = c.replace in
-    let k = memory q.new.table q.new.bounds q.new.leasts q.new.late.rows q.new.late.bounds in
+    let k = memory q.new.table q.new.bounds q.new.leasts q.new.late q.new.beside in
     let left : Whole c.cut_box-br.result.left.half = record { low = search rules; high = search rules } in
     let right : Whole c.cut_box-br.result.right.half = record { low = search rules; high = search rules } in
     let few : row_count a.table.now < 1152921504606846976 = search rules in
