@@ -8,8 +8,8 @@ use native.Mathlib.Numerals.{add-one}
 use native.Mathlib.Omega.{arith}
 use lib.Dec.{T, leb, leb→le}
 use lib.IntN.{ℤ}
-use lib.ListN.{length, take, drop, get_or, set, replicate, length-append, length-drop, length-replicate}
-use lib.Seq.{set_at, drop-cons, get_or_at, length-take-le}
+use lib.ListN.{length, take, drop, get_or, set, replicate, length-append, length-replicate}
+use lib.Seq.{set_at, drop-cons, get_or_at}
 use Rattle.std.specs.Prelude.{Result, Ok, Err, IfOk}
 use Rattle.integers.specs.Lists.{over}
 use Rattle.integers.proofs.Tests.{and_parts, le_or_lt}
@@ -21,8 +21,7 @@ use Rattle.list_rows.specs.Rows.{row_count}
 use Rattle.certificate.specs.Search as Search
 use Rattle.search.specs.declared.Answer.{Answer}
 use Rattle.search.specs.Search.{searched, refused, answer_unless_refused}
-use Rattle.job_records.specs.Jobs.{job_of, read_job}
-use Rattle.job_records.proofs.Jobs.{accepted}
+use Rattle.job_records.specs.Jobs.{job_or_zeros}
 use Rattle.sharing.specs.Sharing.{Run, SharedTable, SharedBounds}
 use Rattle.sharing.proofs.Sharing.{table_shared, bounds_shared}
 use Rattle.shares.specs.Shares.{left_before, splits_of}
@@ -123,12 +122,9 @@ record_lent jobs i =
     rw e refl
 
 -- and as it is read
-pub record_read : (jobs : List ℕ) (i : ℕ) → 72 * i + 72 ≤ length jobs
-    → read_job (take ((72 * i + 72) - 72 * i) (drop (72 * i) jobs)) ≡ Ok (job_of (take 72 (drop (72 * i) jobs)))
-record_read jobs i there =
-    let long : length (take 72 (drop (72 * i) jobs)) ≡ 72 =
-    length-take-le 72 (drop (72 * i) jobs) (omega (arith, length-drop (72 * i) jobs, there)) in
-    rw (record_lent jobs i) (accepted (take 72 (drop (72 * i) jobs)) (omega (arith, long)))
+pub record_read : (jobs : List ℕ) (i : ℕ)
+    → job_or_zeros (take ((72 * i + 72) - 72 * i) (drop (72 * i) jobs)) ≡ job_or_zeros (take 72 (drop (72 * i) jobs))
+record_read jobs i = rw (record_lent jobs i) refl
 
 module _ (count total : ℕ) (jobs stores lengths : List ℕ) (table : List ℤ) (bounds : List ℕ) where
   abbrev own : ℕ → ℕ
@@ -169,7 +165,7 @@ module _ (count total : ℕ) (jobs stores lengths : List ℕ) (table : List ℤ)
   all_splits (suc n) = omega (arith, splits_append (in_turn answer n) (answer n ∷ []), all_splits n, answer_splits n)
 
   -- what job i is given, as the code has it
-  pub given : (i l waiting : ℕ) (own job : Job) → own ≡ job_of (take 72 (drop (72 * i) jobs)) → waiting ≡ count - i → l ≡ left i
+  pub given : (i l waiting : ℕ) (own job : Job) → own ≡ job_or_zeros (take 72 (drop (72 * i) jobs)) → waiting ≡ count - i → l ≡ left i
       → job ≡ under own (min own.budget (l / waiting)) → job ≡ under (job_at jobs i) (budget i)
   unfolding job_at
   given i l waiting own job read more same e = e ∙ rw (read, more, same) refl

@@ -10,7 +10,7 @@ use Rattle.list_rows.specs.Rows.{row_count}
 use Rattle.certificate.specs.Search as Search
 use Rattle.search.specs.declared.Answer.{Answer}
 use Rattle.search.specs.Search.{searched, told, refused, answer_unless_refused, CertifiedIn}
-use Rattle.job_records.specs.Jobs.{job_of}
+use Rattle.job_records.specs.Jobs.{job_or_zeros}
 use Rattle.sharing.specs.Sharing.{Run, run_if}
 use Rattle.shares.specs.Shares.{budget_of}
 use Rattle.one_board.specs.Board.{under, store_from, check_board}
@@ -22,7 +22,7 @@ check_jobs count bytes entries = pass_if (within 1 count 8 && (leb (72 * count) 
 
 -- "Job records stand one behind the other in one buffer": job i has the 72 bytes from 72 × i on, counted from 0.
 unfoldable pub job_at : List ℕ → ℕ → Job
-job_at jobs i = job_of (take 72 (drop (72 * i) jobs))
+job_at jobs i = job_or_zeros (take 72 (drop (72 * i) jobs))
 
 -- "stores in a second, with a list of the stores' byte lengths": a store begins behind those before it, whatever these jobs come to.
 unfoldable pub begin_of : List ℕ → ℕ → ℕ

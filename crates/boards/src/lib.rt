@@ -50,8 +50,7 @@ fn each_board(
     // By places: how many jobs are left stands beside record and length.
     for i in 0..count {
         let size = lengths[i] as usize;
-        let own = job_records::read_job(&jobs[72 * i..72 * i + 72]).unwrap();
-        let job = one_board::allotted(own, left, (count - i) as u32);
+        let job = one_board::allotted(&jobs[72 * i..72 * i + 72], left, (count - i) as u32);
         let answer = one_board::search_part(stores, from, size, job, table, bounds);
         answers[i] = answer;
         budgets[i] = job.budget;

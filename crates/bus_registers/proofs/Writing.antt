@@ -2,7 +2,7 @@
 use mathlib.Core.Bool.{true, false}
 use mathlib.Core.List.{List, ◌++◌}
 use mathlib.Core.Path.{◌≡◌, refl, sym, ap, ◌∙◌, subst}
-use borrow.Author.Tests.{eq-eqb, ne_eqb, le-leb}
+use borrow.Author.Tests.{eq-eqb, ne_eqb}
 use Prim.Native.Nat.{ℕ, ◌-◌, ◌≤◌}
 use native.Mathlib.Omega.{arith}
 use lib.Dec.{T, eqb}
@@ -13,11 +13,11 @@ use Rattle.std.specs.Prelude.{Result, Ok, Err, IfOk}
 use Rattle.codes.specs.Codes.{Check, pass, if_passed, unless_refused}
 use Rattle.codes.specs.declared.Refusal.{Refusal}
 use Rattle.jobs.specs.declared.Job.{Job}
-use Rattle.job_records.specs.Jobs.{read_job}
+use Rattle.job_records.specs.Jobs.{job_or_zeros}
 use Rattle.registers.specs.Registers.{ran, commanded, written, with_run, job_in}
 use Rattle.registers.proofs.Found.{shown_long}
 use Rattle.search.specs.Search.{CertifiedIn}
-use Rattle.job_records.proofs.Jobs.{accepted}
+use Rattle.job_records.proofs.Jobs.{record_there}
 use Rattle.registers.specs.Runs.{found_bytes, record_shown}
 use Rattle.bus_runs.specs.Lent.{shown_of, check_of, TableRun, BoundsRun, RunCertified}
 use Rattle.bus_registers.specs.Written.{is_run, with_shown, AnswerCertified, TableWritten, BoundsWritten, WriteCertified}
@@ -37,11 +37,11 @@ replaced s x m n there long =
     ∙ take_at x (drop 48 s) 40 long
 
 -- the job record in 136 bytes is whole
-pub job_there : (s part : List ℕ) → length s ≡ 136 → part ≡ take (length s - 64) (drop 64 s) → read_job part ≡ Ok (job_in s)
+pub job_there : (s part : List ℕ) → length s ≡ 136 → part ≡ take (length s - 64) (drop 64 s) → job_or_zeros part ≡ job_in s
 job_there s part whole e =
     let l = length-drop 64 s in
     let all : part ≡ drop 64 s = e ∙ take_all (length s - 64) (drop 64 s) (omega (arith, l)) in
-    rw all (accepted (drop 64 s) (omega arith))
+    rw all (record_there (drop 64 s) (omega arith))
 
 -- what is shown of a run is what the registers hold of it
 shown_run : (s : List ℕ) (c : Check) (found : List ℕ) → with_shown s (unless_refused c found) ≡ with_run s c (record_shown c found)

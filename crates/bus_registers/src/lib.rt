@@ -96,8 +96,7 @@ fn run(r: Registers, store: &[u8], table: &mut [i16], bounds: &mut [u64]) -> Reg
     ensures bounds { BoundsRun store.now (job_in r.bytes) table.old bounds.old bounds.new }
     ensures certificate { AnswerCertified store.now (job_in r.bytes) table.old bounds.old result.bytes }
 {
-    let job = job_records::read_job(&r.bytes[64..]).unwrap();
-    with_run(r, bus_runs::run(job, store, table, bounds))
+    with_run(r, bus_runs::run(&r.bytes[64..], store, table, bounds))
 }
 
 // A write to byte 0.

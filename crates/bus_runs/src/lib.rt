@@ -1,7 +1,8 @@
-// A run of the fitter on the data bus: the search of a job, and what the registers show of it.
+// A run of the fitter on the data bus: the search of a job record, and what the registers show of it.
 #![tactic(auto)]
 
 ghost use Rattle.std.specs.Prelude.{◌≡◌, length, IfOk};
+ghost use Rattle.job_records.specs.Jobs.{job_or_zeros};
 ghost use Rattle.bus_runs.specs.Lent.{shown_of, TableRun, BoundsRun, RunCertified};
 ghost use Rattle.bus_runs.specs.Inside.{numbers_for, RunSearched, shown_for};
 
@@ -39,18 +40,21 @@ fn shown_for(m: Model, answer: Answer) -> [u8; 40]
     out
 }
 
-// The run of a job: its answer record, or the refusal.
+// The run of the job record in the first 72 bytes: its answer record, or the refusal. Fewer are a job of zeros, which is refused.
 pub fn run(
-    job: Job,
+    bytes: &[u8],
     store: &[u8],
     table: &mut [i16],
     bounds: &mut [u64],
 ) -> Result<[u8; 40], Refusal>
-    ensures run { result ≡ shown_of store.now job (length table.old) (length bounds.old) }
-    ensures table { TableRun store.now job table.old bounds.old table.new }
-    ensures bounds { BoundsRun store.now job table.old bounds.old bounds.new }
-    ensures certificate { IfOk result (λ shown. RunCertified store.now job table.old bounds.old shown) }
+    ensures run { result
+        ≡ shown_of store.now (job_or_zeros bytes.now) (length table.old) (length bounds.old) }
+    ensures table { TableRun store.now (job_or_zeros bytes.now) table.old bounds.old table.new }
+    ensures bounds { BoundsRun store.now (job_or_zeros bytes.now) table.old bounds.old bounds.new }
+    ensures certificate { IfOk result
+        (λ shown. RunCertified store.now (job_or_zeros bytes.now) table.old bounds.old shown) }
 {
+    let job = job_records::job_or_zeros(bytes);
     let found = search_rows(store, job, table, bounds);
     found.kind.check()?;
     Ok(shown_for(job.model, found))

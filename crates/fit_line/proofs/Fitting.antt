@@ -7,20 +7,21 @@ use borrow.Author.Tests.{le-leb, lt-leb}
 use Prim.Native.Nat.{ℕ, ◌-◌, ◌*◌, ◌/◌, ◌≤◌, ◌<◌, min}
 use native.Mathlib.Nat.{le_of_lt, min-eq_left}
 use native.Mathlib.Omega.{arith}
-use lib.Dec.{T, leb, leb→le}
+use lib.Dec.{T, leb}
 use lib.IntN.{ℤ}
 use lib.ListN.{length, take, drop, take-append-drop, length-append, length-drop, drop_of_length-le}
 use lib.Seq.{length-take-le, take_all, take_at, drop_at, drop-append-le}
 use Rattle.std.specs.Prelude.{Ok, Err}
 use Rattle.integers.specs.Lists.{over}
 use Rattle.integers.proofs.Tests.{le_or_lt}
-use Rattle.codes.proofs.Checks.{refused_not_passed, passed, answered}
+use Rattle.codes.proofs.Checks.{refused_not_passed}
 use Rattle.codes.specs.Codes.{Check, pass, in_order, pass_if, within}
 use Rattle.codes.specs.declared.Refusal.{Refusal}
 use Rattle.jobs.specs.declared.Job.{Job}
 use Rattle.model_checks.specs.Checks.{check_model}
 use Rattle.points.specs.Points.{check_store}
-use Rattle.job_records.specs.Jobs.{job_of, read_job}
+use Rattle.job_records.specs.Jobs.{job_of, job_or_zeros}
+use Rattle.job_records.proofs.Jobs.{record_there}
 use Rattle.list_rows.specs.Rows.{row_count, rows_of}
 use Rattle.list_rows.proofs.Rows.{rows_front}
 use Rattle.certificate.specs.Search as Search
@@ -29,7 +30,7 @@ use Rattle.search_checks.proofs.Passed.{rows_accepted}
 use Rattle.search.proofs.Accepted.{peak_accepted}
 use Rattle.search.specs.Search.{TableAfter, check_lent, searched_lent, search_answer, TableSearched, BoundsSearched, Certified}
 use Rattle.search.specs.declared.Answer.{Answer}
-use Rattle.answer_line.specs.Line.{line, line_in, refusal_in}
+use Rattle.answer_line.specs.Line.{line, line_in}
 use Rattle.fit_line.specs.Inside.{Searched, numbers_lent}
 use Rattle.fit_line.specs.Report.{FitTable, FitBounds, FitCertified, TableLent, BoundsLent, check_fit, enough, fit_answer, fit_line}
 use Rattle.fit_line.specs.Report.{fit_search, report_line, store_of}
@@ -146,32 +147,22 @@ Reported input table bounds out n text u e =
     (n ≡ length (fit_line input))
     × ((text ≡ over (fit_line input) out) × (FitTable input table u × (FitBounds input bounds e × FitCertified input (take n text))))
 
--- the job record is there, and what follows it is the store
-pub job_is : (input : List ℕ) (job : Job) → read_job input ≡ Ok job → (72 ≤ length input) × (job ≡ job_of input)
-unfolding read_job
-job_is input job e =
-    let h = answered _ (job_of input) job e in
-    (leb→le 72 (length input) (passed (leb 72 (length input)) Refusal.Length h.0), sym h.1)
-
-pub store_part : (input : List ℕ) → take (length input - 72) (drop 72 input) ≡ store_of input
-store_part input = take_all (length input - 72) (drop 72 input) (omega (arith, length-drop 72 input))
-
--- or the input is too short
-pub short_is : (input : List ℕ) (why : Refusal) → read_job input ≡ Err why → (length input < 72) × (why ≡ Refusal.Length)
-unfolding read_job
-short_is input why e =
-    ⊎_elim
-    (λ whole. let e = rw (le-leb 72 (length input) whole) at e in let z : ◌≡◌ {A = ℕ} 0 1 = cc in absurd (omega arith))
-    (λ short. let e = rw (lt-leb 72 (length input) short) at e in (short, cc))
-    (le_or_lt 72 (length input))
-
-short_refused : (input : List ℕ) → length input < 72 → check_fit input ≡ Err Refusal.Length
-unfolding check_fit in_order
-short_refused input short = rw (lt-leb 72 (length input) short) refl
-
 module _ (input : List ℕ) (table : List ℤ) (bounds : List ℕ) (long : 32768 ≤ length table) (many : 2048 ≤ length bounds) where
   abbrev Promised : Answer → List ℤ → List ℕ → Type 0
   Promised a u e = (a ≡ fit_answer input) × (FitTable input table u × (FitBounds input bounds e × FitCertified input (fit_line input)))
+
+  by_length : {A : Type 0} → (72 ≤ length input → A) → (length input < 72 → A) → A
+  by_length f g = ⊎_elim f g (le_or_lt 72 (length input))
+
+  -- an input that is too short has no store
+  short_refused : length input < 72 → check_fit input ≡ Err Refusal.Length
+  unfolding check_fit in_order
+  short_refused short = rw (lt-leb 72 (length input) short) refl
+
+  empty_refused : (job : Job) (numbers entries : ℕ) → length input < 72
+      → check_search (store_of input) job numbers entries ≡ Err Refusal.Length
+  unfolding check_search check_job check_model check_store in_order
+  empty_refused job numbers entries short = rw (drop_of_length-le input {i = 72} (le_of_lt short)) refl
 
   module _ (job : Job) (a : Answer) (u : List ℤ) (e : List ℕ) (s : Searched (store_of input) job table bounds a u e) where
     abbrev lent : ℕ
@@ -256,52 +247,47 @@ module _ (input : List ℕ) (table : List ℤ) (bounds : List ℕ) (long : 32768
     by_check (Ok _) is whole read = accepted_fit read is (sym (same_checks whole read) ∙ is)
     by_check (Err why) is whole read = refused_fit why is (sym (same_checks whole read) ∙ is)
 
-    same_line : job ≡ job_of input → a ≡ fit_answer input → line job.model a ≡ fit_line input
-    unfolding fit_line
-    same_line read is = rw (is, read) refl
+    promised : (72 ≤ length input → job ≡ job_of input) → Promised a u e
+    promised read =
+        by_length
+        (λ whole. by_check (check_fit input) refl whole (read whole))
+        (λ short. refused_fit Refusal.Length (short_refused short) (empty_refused job (length front) (length bounds) short))
+
+    same_line : (72 ≤ length input → job ≡ job_of input) → a ≡ fit_answer input → line job.model a ≡ fit_line input
+    unfolding fit_line fit_answer line
+    same_line read is =
+        by_length
+        (λ whole. rw (is, read whole) refl)
+        (λ short. rw (is, short_refused short) refl)
 
     -- what a report says
     pub reported :
         (out text : List ℕ) (n : ℕ) →
-        read_job input ≡ Ok job →
+        (72 ≤ length input → job ≡ job_of input) →
         200 ≤ length out →
         (n ≡ length (line_in job.model a out)) × (text ≡ over (line_in job.model a out) out) →
         Reported input table bounds out n text u e
     unfolding line_in
-    reported out text n told room q =
-        let h = job_is input job told in
-        let p = by_check (check_fit input) refl h.0 h.1 in
-        let is = same_line h.1 p.0 in
+    reported out text n read room q =
+        let p = promised read in
+        let is = same_line read p.0 in
         let fits = le-leb 200 (length out) room in
         let long_as : n ≡ length (fit_line input) = rw fits at q.0 ∙ ap length is in
         let written : text ≡ over (fit_line input) out = rw fits at q.1 ∙ ap (λ (l : List ℕ). over l out) is in
         (long_as, (written, (p.1.0, (p.1.1.0, rw (long_as, written, written_front (fit_line input) out) p.1.1.1))))
 
--- whose line is that of the refusal
-pub short_reported :
-    (input : List ℕ) (table : List ℤ) (bounds out text : List ℕ) (n : ℕ) (why : Refusal) →
-    read_job input ≡ Err why →
-    200 ≤ length out →
-    (n ≡ length (refusal_in why out)) × (text ≡ over (refusal_in why out) out) →
-    Reported input table bounds out n text table bounds
-unfolding refusal_in fit_line fit_answer line
-short_reported input table bounds out text n why e room q =
-    let h = short_is input why e in
-    let is : check_fit input ≡ Err why = short_refused input h.0 ∙ ap Err (sym h.1) in
-    let never : check_fit input ≡ pass → ⊥ = λ k. refused_not_passed why (sym is ∙ k) in
-    let fits = le-leb 200 (length out) room in (
-      rw fits at q.0 ∙ rw is refl,
-      (
-        rw fits at q.1 ∙ rw is refl,
-        (
-          record { long = refl; untouched = λ v k. refl; leftovers = []; rows = λ k. absurd (never k); rest = λ k. absurd (never k) },
-          (
-            record { long = refl; untouched = λ v k. refl; leftovers = []; entries = λ k. absurd (never k); rest = λ k. absurd (never k) },
-            λ k. absurd (never k),
-          ),
-        ),
-      ),
-    )
+-- the job record is there, and what follows it is the store
+pub record_read : (input : List ℕ) (job : Job) → job ≡ job_or_zeros input → 72 ≤ length input → job ≡ job_of input
+record_read input job e whole = e ∙ record_there input whole
+
+pub store_part : (input : List ℕ) (start : ℕ) → start ≡ min 72 (length input)
+    → take (length input - start) (drop start input) ≡ store_of input
+store_part input start e =
+    take_all (length input - start) (drop start input) (omega (arith, length-drop start input))
+    ∙ ⊎_elim
+    (λ whole. ap (λ (k : ℕ). drop k input) (e ∙ min-eq_left whole))
+    (λ short. drop_of_length-le input {i = start} (omega (arith, e)) ∙ sym (drop_of_length-le input (le_of_lt short)))
+    (le_or_lt 72 (length input))
 
 true_not_false : {A : Type 0} → true ≡ false → A
 true_not_false e = absurd (subst T e tt)

@@ -1,10 +1,12 @@
 -- The numbers of a job that is read from bytes fit their bytes, whatever the bytes. Assumes nothing.
+use mathlib.Core.Bool.{Bool, true, false}
 use mathlib.Core.List.{List, [], ◌∷◌}
-use mathlib.Core.Path.{subst}
+use mathlib.Core.Path.{◌≡◌, refl, subst}
 use Prim.Native.Nat.{ℕ, suc, ◌+◌, ◌^◌, ◌≤◌, ◌<◌}
 use native.Mathlib.Omega.{arith}
-use lib.Dec.{T, ltb, lt→ltb}
-use lib.ListN.{length, get_or, take, drop}
+use lib.Dec.{T, leb, leb→le, ltb, lt→ltb, lit<}
+use lib.IntN.{pos}
+use lib.ListN.{length, get_or, take, drop, replicate}
 use lib.Pow.{are_bytes}
 use mir.Syntax.{w16}
 use mir.Val.{SFits}
@@ -15,7 +17,7 @@ use Rattle.fields.specs.Fields.{IsVector, from_big_endian, vector_of, vector_at,
 use Rattle.fields.proofs.BigEndian.{below}
 use Rattle.fields.proofs.Parts.{part_size, bytes_drop, bytes_take}
 use Rattle.fields.proofs.Vectors.{vector_eight}
-use Rattle.job_records.specs.Jobs.{job_of}
+use Rattle.job_records.specs.Jobs.{job_of, job_or_zeros, zero_job}
 use Rattle.job_records.specs.Laws.{IsJob}
 
 are_bytes_lem : (l : List ℕ) → ((i : ℕ) → get_or l i 0 < 256) → T (are_bytes l)
@@ -59,3 +61,28 @@ job_fits bytes small whole =
       high = vector_is bytes ok 40 (omega arith);
       start = vector_is bytes ok 56 (omega arith);
     }
+
+-- and those of zeros too
+zero_vector : IsVector (replicate 8 (pos 0))
+zero_vector =
+    let z : SFits w16 (pos 0) = record { sfits = lit< tt } in
+    record { eight = refl; signed = also z (also z (also z (also z (also z (also z (also z (also z none))))))) }
+
+zero_fits : IsJob zero_job
+zero_fits = record {
+  eps = record { fits = omega arith };
+  t = record { fits = omega arith };
+  budget = record { fits = omega arith };
+  rows = record { fits = omega arith };
+  low = zero_vector;
+  high = zero_vector;
+  start = zero_vector;
+}
+
+pub read_fits : (bytes : List ℕ) → ((i : ℕ) → get_or bytes i 0 < 256) → IsJob (job_or_zeros bytes)
+unfolding job_or_zeros
+read_fits bytes small = go (leb 72 (length bytes)) refl
+  where
+    go : (b : Bool) → leb 72 (length bytes) ≡ b → IsJob (job_or_zeros bytes)
+    go true is = rw is (job_fits bytes small (leb→le 72 (length bytes) (rw is tt)))
+    go false is = rw is zero_fits

@@ -11,7 +11,7 @@ use lib.Seq.{take_at, take-add}
 use Rattle.std.specs.Prelude.{Ok}
 use Rattle.jobs.specs.declared.Job.{Job}
 use Rattle.fields.specs.Fields.{big_endian, vector_bytes, vector_of}
-use Rattle.job_records.specs.Jobs.{job_bytes, job_of, read_job}
+use Rattle.job_records.specs.Jobs.{job_bytes, job_of, job_or_zeros, read_job}
 use Rattle.job_records.specs.Laws.{IsJob, JobRoundTrip}
 use Rattle.fields.proofs.BigEndian.{written_reads_whole}
 use Rattle.fields.proofs.Parts.{part_at, four_at}
@@ -103,6 +103,10 @@ module _ (bytes : List ℕ) (ok : T (are_bytes bytes)) (long : 72 ≤ length byt
 pub accepted : (bytes : List ℕ) → 72 ≤ length bytes → read_job bytes ≡ Ok (job_of bytes)
 unfolding read_job
 accepted bytes h = simp (le-leb 72 (length bytes) h)
+
+pub record_there : (bytes : List ℕ) → 72 ≤ length bytes → job_or_zeros bytes ≡ job_of bytes
+unfolding job_or_zeros
+record_there bytes h = simp (le-leb 72 (length bytes) h)
 
 pub job_round_trip : JobRoundTrip
 job_round_trip = record {

@@ -1,8 +1,9 @@
 -- The job record.
-use Rattle.std.specs.Prelude.{List, [], ◌∷◌, ◌++◌, ℕ, leb, length, Result}
-use Rattle.codes.specs.Codes.{pass_if, unless_refused}
+use Rattle.std.specs.Prelude.{List, [], ◌∷◌, ◌++◌, ℕ, leb, pos, length, replicate, Result}
+use Rattle.codes.specs.Codes.{pass_if, if_passed, unless_refused}
 use Rattle.codes.specs.declared.Refusal.{Refusal}
 use Rattle.codes.specs.declared.Refusal.TheVariants.{Length}
+use Rattle.boxes.specs.Split.{zero_box}
 use Rattle.jobs.specs.declared.Job.{Job}
 use Rattle.fields.specs.Fields.{big_endian, vector_bytes, byte_at, number_at, vector_at}
 
@@ -38,3 +39,18 @@ job_of bytes = record {
 -- Check 1: "input of fit under 72 bytes".
 unfoldable pub read_job : List ℕ → Result Job Refusal
 read_job bytes = unless_refused (pass_if (leb 72 (length bytes)) Length) (job_of bytes)
+
+-- of a record that is too short: zeros
+abbrev pub zero_job : Job
+zero_job = record {
+  model = record { n = 0; d = 0; scale = 0; p = 0; eps = 0 };
+  t = 0;
+  budget = 0;
+  rows = 0;
+  domain = zero_box;
+  start = replicate 8 (pos 0);
+}
+
+-- the job of the record, zeros where it is too short
+unfoldable pub job_or_zeros : List ℕ → Job
+job_or_zeros bytes = if_passed (pass_if (leb 72 (length bytes)) Length) (job_of bytes) zero_job

@@ -4,7 +4,7 @@
 ghost use Rattle.std.specs.Prelude.{◌≡◌, ◌≤◌, length};
 ghost use Rattle.integers.specs.Lists.{over};
 ghost use Rattle.fields.specs.Buffers.{check_room, written};
-ghost use Rattle.job_records.specs.Jobs.{job_bytes, job_of, read_job};
+ghost use Rattle.job_records.specs.Jobs.{job_bytes, job_of, job_or_zeros, read_job};
 
 use boxes::Box;
 use codes::Refusal;
@@ -61,6 +61,31 @@ pub fn read_job(bytes: &[u8]) -> Result<Job, Refusal>
         return Err(Refusal::Length);
     }
     Ok(get_job(bytes))
+}
+
+// The same, and of fewer bytes a job of zeros, which every search refuses.
+#[tactic(auto, unfolding(crate::specs::Jobs::read_job, crate::specs::Jobs::job_or_zeros))]
+pub fn job_or_zeros(bytes: &[u8]) -> Job
+    ensures { result ≡ job_or_zeros bytes.now }
+{
+    let zeros = [0; 8];
+    read_job(bytes).unwrap_or(Job {
+        model: Model {
+            n: 0,
+            d: 0,
+            scale: 0,
+            p: 0,
+            eps: 0,
+        },
+        t: 0,
+        budget: 0,
+        rows: 0,
+        domain: Box {
+            low: zeros,
+            high: zeros,
+        },
+        start: zeros,
+    })
 }
 
 // The job record in the first 72 bytes.

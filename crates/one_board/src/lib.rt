@@ -2,16 +2,19 @@
 #![tactic(auto)]
 
 ghost use Rattle.std.specs.Prelude.{◌≡◌, ◌/◌, min};
+ghost use Rattle.job_records.specs.Jobs.{job_or_zeros};
 ghost use Rattle.one_board.specs.Board.{under, board_answer, BoardTable, BoardBounds};
 
 use codes::Refusal;
 use jobs::Job;
 use search::Answer;
 
-// A job under the smaller of its own budget and an equal part of the splits left, for each of the jobs left.
-pub fn allotted(job: Job, left: u32, waiting: u32) -> Job
-    ensures { result ≡ under job (min job.budget (left / waiting)) }
+// The job of a record, under the smaller of its own budget and an equal part of the splits left, for each of the jobs left.
+pub fn allotted(bytes: &[u8], left: u32, waiting: u32) -> Job
+    ensures { result
+        ≡ under (job_or_zeros bytes.now) (min (job_or_zeros bytes.now).budget (left / waiting)) }
 {
+    let job = job_records::job_or_zeros(bytes);
     let share = left.checked_div(waiting).unwrap_or(0);
     Job {
         budget: job.budget.min(share),

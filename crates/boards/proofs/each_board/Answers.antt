@@ -1,12 +1,6 @@
 -- Job after job: each is given its share, and what it spends is left for none behind it.
-use Rattle.std.proofs.Common.{rules, ◌≡◌, ◌+◌, ◌-◌, ◌*◌, ◌<◌, length, get_or, ℕ, arith}
-use mathlib.Core.Path.{refl, sym, ap, ◌∙◌}
-use lib.ListN.{take, drop}
-use Rattle.std.specs.Prelude.{Result}
-use Rattle.std.specs.Result.{result_unwrap_or}
-use Rattle.codes.specs.declared.Refusal.{Refusal}
-use Rattle.jobs.specs.declared.Job.{Job}
-use Rattle.job_records.specs.Jobs.{job_of}
+use Rattle.std.proofs.Common.{◌≡◌, ◌-◌, ◌<◌, get_or, ℕ, arith}
+use mathlib.Core.Path.{refl}
 use Rattle.one_board.specs.Board.{under}
 use Rattle.boards.specs.Boards.{job_at, budget_at}
 use Rattle.boards.proofs.Boarding.{begin_few, record_read, given, affordable, next_turn, first_turn}
@@ -36,14 +30,11 @@ overflow_sub-left c =
     let a = c.args in
     let l = c.loop-i in
     let s = c.search_part-answer in
-    let reads = c.read_job.ensures ∙ record_read a.jobs.now l.i (omega (arith, c.requires.1, c.loop-i-test.true)) in
-    let got = rw reads at c.unwrap-own.ensures in
-    let read : c.unwrap-own.result ≡ job_of (take 72 (drop (72 * l.i) a.jobs.now)) =
-    ap (λ (r : Result Job Refusal). result_unwrap_or r c.unwrap-own.result) (sym got) in
+    let read = record_read a.jobs.now l.i in
     let its : c.allotted-job.result
     ≡ under (job_at a.jobs.now l.i) (budget_at a.count a.total a.jobs.now a.stores.now a.lengths.now a.table.now a.bounds.now l.i) =
     given a.count a.total a.jobs.now a.stores.now a.lengths.now a.table.now a.bounds.now l.i l.left (a.count - l.i)
-    c.unwrap-own.result c.allotted-job.result read refl l.invariant.splits c.allotted-job.ensures in
+    _ c.allotted-job.result read refl l.invariant.splits c.allotted-job.ensures in
     affordable a.count a.total a.jobs.now a.stores.now a.lengths.now a.table.now a.bounds.now l.i c.loop-i-test.true
     c.requires.0 l.left l.from l.answers l.budgets l.table l.bounds l.invariant c.allotted-job.result its
     (get_or a.lengths.now l.i 0) refl s.result s.new.table s.new.bounds
@@ -54,21 +45,12 @@ loop-i-preserved c =
     let a = c.args in
     let l = c.loop-i in
     let s = c.search_part-answer in
-    let reads = c.read_job.ensures ∙ record_read a.jobs.now l.i (omega (arith, c.requires.1, c.loop-i-test.true)) in
-    let got = rw reads at c.unwrap-own.ensures in
-    let read : c.unwrap-own.result ≡ job_of (take 72 (drop (72 * l.i) a.jobs.now)) =
-    ap (λ (r : Result Job Refusal). result_unwrap_or r c.unwrap-own.result) (sym got) in
+    let read = record_read a.jobs.now l.i in
     let its : c.allotted-job.result
     ≡ under (job_at a.jobs.now l.i) (budget_at a.count a.total a.jobs.now a.stores.now a.lengths.now a.table.now a.bounds.now l.i) =
     given a.count a.total a.jobs.now a.stores.now a.lengths.now a.table.now a.bounds.now l.i l.left (a.count - l.i)
-    c.unwrap-own.result c.allotted-job.result read refl l.invariant.splits c.allotted-job.ensures in
+    _ c.allotted-job.result read refl l.invariant.splits c.allotted-job.ensures in
     next_turn a.count a.total a.jobs.now a.stores.now a.lengths.now a.table.now a.bounds.now l.i c.loop-i-test.true
     c.requires.0 l.left l.from l.answers l.budgets l.table l.bounds l.invariant c.allotted-job.result its
     (get_or a.lengths.now l.i 0) refl s.result s.new.table s.new.bounds
     (s.ensures.answer, (s.ensures.table, s.ensures.bounds))
-
-pub unwrap-own-requires : goal.unwrap-own-requires
-unwrap-own-requires c =
-    let a = c.args in
-    let l = c.loop-i in
-    rw (c.read_job.ensures ∙ record_read a.jobs.now l.i (omega (arith, c.requires.1, c.loop-i-test.true))) (search rules)
