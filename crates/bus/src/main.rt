@@ -1,7 +1,19 @@
 // The program bus: reads a store and a driver's accesses from standard input and writes a byte for each read.
 #![tactic(auto)]
 
-use streams::{put, read_full, space, usage};
+use std::env::{Env, FillError};
+use streams::{read_full, space};
+
+// Says that the program takes no argument, where it was given one.
+fn usage(rt: &(impl Env + Eprint)) -> bool {
+    let given = !matches!(rt.arg(1, &mut [0; 1]), Err(FillError::NotPresent));
+    if given {
+        let _ = eprintln!(rt;
+            "usage: bus < INPUT, a store's number of records, the store, and accesses of 4 bytes; bus takes no argument"
+        );
+    }
+    given
+}
 
 // Says that the input is longer than the program takes, where it is.
 fn too_long(rt: &impl Eprint, n: usize) -> bool {
@@ -12,11 +24,15 @@ fn too_long(rt: &impl Eprint, n: usize) -> bool {
     long
 }
 
+// Writes the replies, or says on standard error that they could not be written.
+fn put(rt: &(impl Print + Eprint), replies: &[u8]) {
+    if rt.write_all(replies).is_err() {
+        let _ = eprintln!(rt; "bus: the replies could not be written");
+    }
+}
+
 fn main(rt: HostRuntime) {
-    if usage(
-        &rt,
-        "bus < INPUT, a store's number of records, the store, and accesses of 4 bytes; bus takes no argument",
-    ) {
+    if usage(&rt) {
         return;
     }
     // One byte more than the longest input, so that a longer one shows: two bytes, 4,096 records and 16,384 accesses.
@@ -28,5 +44,5 @@ fn main(rt: HostRuntime) {
         return;
     }
     let k = bus_exchange::exchange(&input[..n], &mut replies);
-    put(&rt, &replies[..k], "bus: the replies could not be written");
+    put(&rt, &replies[..k]);
 }
