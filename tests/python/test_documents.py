@@ -9,8 +9,8 @@ import sys
 import unittest
 
 ROOT = pathlib.Path(__file__).resolve().parents[2]
-# docs/PORT.md and docs/DESIGN-PASS.md have names that are gone beside today's.
-PAGES = [ROOT / "README.md", *(page for page in sorted((ROOT / "docs").glob("*.md")) if page.name not in ("PORT.md", "DESIGN-PASS.md")), *(ROOT / folder / "README.md" for folder in ("bench", "examples", "tests"))]
+# docs/PORT.md, docs/DESIGN-PASS.md and docs/LOOK-BACK.md have names that are gone beside today's.
+PAGES = [ROOT / "README.md", *(page for page in sorted((ROOT / "docs").glob("*.md")) if page.name not in ("PORT.md", "DESIGN-PASS.md", "LOOK-BACK.md")), *(ROOT / folder / "README.md" for folder in ("bench", "examples", "tests"))]
 # Written by hand and read as text; TRACE has rows of a table as long as a sentence of the papers,
 # USERS is the operators'.
 NARROW = ("README.md", "docs/ARCHITECTURE.md", "docs/CHANGES.md", "docs/DECISIONS.md", "docs/LAWS.md", "docs/PERFORMANCE.md",
