@@ -7,17 +7,26 @@ ghost use Rattle.beacon.specs.Beacon.{check_take_in, take_in_answer, store_after
 use codes::Refusal;
 
 // Checks 1, 10 and 11, of how many bytes the store has, the fill mark and how many the beacon has. Differences stand for the sum of mark
-// and size, which could wrap.
+// and size, which could wrap. One test for each `if`: those joined by `||` are all made, also where the first decides.
 #[tactic(auto, unfolding(crate::specs::Beacon::check_take_in, codes::specs::Codes::in_order, crate::specs::Beacon::check_mark, crate::specs::Beacon::check_space, crate::specs::Beacon::check_body))]
 fn check_take_in(room: usize, mark: usize, size: usize) -> Result<(), Refusal>
     ensures check { result ≡ check_take_in room mark size }
     ensures room { OnOk result ((mark + size ≤ room) × (mark + size ≤ 49152)) }
 {
     points::check_store(size)?;
-    if room < mark || mark % 12 != 0 {
+    if room < mark {
         return Err(Refusal::Length);
     }
-    if room - mark < size || 49152 < mark || 49152 - mark < size {
+    if mark % 12 != 0 {
+        return Err(Refusal::Length);
+    }
+    if room - mark < size {
+        return Err(Refusal::Short);
+    }
+    if 49152 < mark {
+        return Err(Refusal::Short);
+    }
+    if 49152 - mark < size {
         return Err(Refusal::Short);
     }
     if 236 < size {

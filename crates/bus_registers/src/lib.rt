@@ -1,7 +1,7 @@
 // The registers of the fitter on the data bus: 136 bytes, the board's own state.
 #![tactic(auto)]
 
-ghost use Rattle.std.specs.Prelude.{◌≡◌, ◌<◌, length, set};
+ghost use Rattle.std.specs.Prelude.{◌≡◌, length};
 ghost use Rattle.codes.specs.Codes.{if_passed};
 ghost use Rattle.registers.specs.Runs.{refusal_number};
 ghost use Rattle.registers.specs.Registers.{cleared, read_at, flags_after, ran, commanded, written, job_in};
@@ -33,16 +33,6 @@ pub fn read(r: Registers, offset: usize) -> u8
         3 | 8..=47 | 64..=135 => r.bytes[offset],
         _ => 0,
     }
-}
-
-// One byte set.
-fn stored(r: Registers, at: usize, value: u8) -> Registers
-    requires { at < 136 }
-    ensures { result.bytes ≡ set r.bytes at value }
-{
-    let mut bytes = r.bytes;
-    bytes[at] = value;
-    Registers { bytes }
 }
 
 // Done or refused.
@@ -88,40 +78,40 @@ fn with_run(r: Registers, shown: Result<[u8; 40], Refusal>) -> Registers
     Registers { bytes }
 }
 
-// Command 2.
-fn run(r: Registers, store: &[u8], table: &mut [i16], bounds: &mut [u64]) -> Registers
-    ensures registers { result.bytes
-        ≡ ran store.now r.bytes (length table.old) (length bounds.old) }
-    ensures table { TableRun store.now (job_in r.bytes) table.old bounds.old table.new }
-    ensures bounds { BoundsRun store.now (job_in r.bytes) table.old bounds.old bounds.new }
-    ensures certificate { AnswerCertified store.now (job_in r.bytes) table.old bounds.old result.bytes }
+// Command 2. Not in its caller, where the compiler would take the registers apart for every write.
+#[inline(never)]
+fn run(r: &mut Registers, store: &[u8], table: &mut [i16], bounds: &mut [u64])
+    ensures registers { r.new.bytes
+        ≡ ran store.now r.old.bytes (length table.old) (length bounds.old) }
+    ensures table { TableRun store.now (job_in r.old.bytes) table.old bounds.old table.new }
+    ensures bounds { BoundsRun store.now (job_in r.old.bytes) table.old bounds.old bounds.new }
+    ensures certificate { AnswerCertified store.now (job_in r.old.bytes) table.old bounds.old r.new.bytes }
 {
-    with_run(r, bus_runs::run(&r.bytes[64..], store, table, bounds))
+    let before = *r;
+    *r = with_run(
+        before,
+        bus_runs::run(&before.bytes[64..], store, table, bounds),
+    );
 }
 
 // A write to byte 0.
 #[tactic(auto, using(crate::proofs::Writing::run_commanded, crate::proofs::Writing::idle_commanded), unfolding(registers::specs::Registers::commanded))]
-fn command(
-    r: Registers,
-    value: u8,
-    store: &[u8],
-    table: &mut [i16],
-    bounds: &mut [u64],
-) -> Registers
-    ensures registers { result.bytes
-        ≡ commanded store.now r.bytes value (length table.old) (length bounds.old) }
-    ensures table { TableWritten r.bytes 0 value store.now table.old bounds.old table.new }
-    ensures bounds { BoundsWritten r.bytes 0 value store.now table.old bounds.old bounds.new }
-    ensures certificate { WriteCertified r.bytes 0 value store.now table.old bounds.old result.bytes }
+fn command(r: &mut Registers, value: u8, store: &[u8], table: &mut [i16], bounds: &mut [u64])
+    ensures registers { r.new.bytes
+        ≡ commanded store.now r.old.bytes value (length table.old) (length bounds.old) }
+    ensures table { TableWritten r.old.bytes 0 value store.now table.old bounds.old table.new }
+    ensures bounds { BoundsWritten r.old.bytes 0 value store.now table.old bounds.old bounds.new }
+    ensures certificate { WriteCertified r.old.bytes 0 value store.now table.old bounds.old r.new.bytes }
 {
     match value {
         2 => run(r, store, table, bounds),
-        3 => stored(r, 1, 0),
-        _ => r,
+        3 => r.bytes[1] = 0,
+        _ => {}
     }
 }
 
-// A write: "Only bytes 0, 2 and 64 to 135 take writes; all other writes are ignored."
+// A write: "Only bytes 0, 2 and 64 to 135 take writes; all other writes are ignored." It changes one copy in place: a copy for each case
+// costs more than all else that a write does.
 #[tactic(auto, using(crate::proofs::Writing::command_written, crate::proofs::Writing::idle_written), unfolding(registers::specs::Registers::written))]
 pub fn write(
     r: Registers,
@@ -137,10 +127,12 @@ pub fn write(
     ensures bounds { BoundsWritten r.bytes offset value store.now table.old bounds.old bounds.new }
     ensures certificate { WriteCertified r.bytes offset value store.now table.old bounds.old result.bytes }
 {
+    let mut after = r;
     match offset {
-        0 => command(r, value, store, table, bounds),
-        2 => stored(r, 2, value % 2),
-        64..=135 => stored(r, offset, value),
-        _ => r,
+        0 => command(&mut after, value, store, table, bounds),
+        2 => after.bytes[2] = value % 2,
+        64..=135 => after.bytes[offset] = value,
+        _ => {}
     }
+    after
 }

@@ -1,16 +1,28 @@
 -- What a call of a write says, by the length of the registers. Assumes nothing.
 use mathlib.Core.Bool.{true, false, true≢false}
-use mathlib.Core.List.{List}
+use mathlib.Core.List.{List, ◌++◌}
 use mathlib.Core.Path.{◌≡◌, refl, sym, subst, ◌∙◌}
 use borrow.Author.Tests.{eq-eqb, ne_eqb}
-use Prim.Native.Nat.{ℕ}
+use Prim.Native.Nat.{ℕ, ◌-◌}
 use native.Mathlib.Omega.{arith}
 use lib.IntN.{ℤ}
-use lib.ListN.{length}
+use lib.ListN.{length, take, drop, length-drop, take-append-drop}
+use lib.Seq.{length-take-le, take_all}
 use Rattle.registers.specs.Registers.{written}
 use Rattle.c_boundary.specs.Boundary.{code_of}
 use Rattle.bus_registers.specs.Written.{TableWritten, BoundsWritten, WriteCertified}
 use Rattle.c_bus.specs.Calls.{registers_right, registers_call, registers_after_write, TableAfterWrite, BoundsAfterWrite, CertifiedWrite}
+
+-- a copy of 136 bytes in two parts
+module _ (from : List ℕ) (long : length from ≡ 136) where
+  pub front_long : 64 ≡ length (take 64 from)
+  front_long = sym (length-take-le 64 from (omega arith))
+
+  pub both_parts : (front rest : List ℕ) → front ≡ take 64 from → rest ≡ take (length from - 64) (drop 64 from) → front ++ rest ≡ from
+  both_parts front rest e f =
+      let l = length-drop 64 from in
+      let all : rest ≡ drop 64 from = f ∙ take_all (length from - 64) (drop 64 from) (omega (arith, l)) in
+      rw (e, all) (take-append-drop 64 from)
 
 module _ (registers : List ℕ) (offset value : ℕ) (store : List ℕ) (table : List ℤ) (bounds : List ℕ) where
   abbrev pub Called : ℕ → List ℕ → List ℤ → List ℕ → Type 0

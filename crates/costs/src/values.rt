@@ -7,7 +7,8 @@ use crate::task::Task;
 use crate::{ranking, sums};
 use eval_lanes::Chunk;
 
-// Of the whole store.
+// Of the whole store. Not in its caller, whose refusals would take its stack.
+#[inline(never)]
 pub fn whole<const OVER: bool>(task: &Task) -> u64
     ensures { result ≡ value_of OVER task.now.model (points_of task.now.store.now) task.now.low task.now.high }
 {

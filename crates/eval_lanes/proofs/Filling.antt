@@ -8,6 +8,7 @@ use native.Mathlib.Omega.{arith}
 use lib.ListN.{length, set, length-set}
 use lib.Seq.{get_or-set_same, get_or-set_other}
 use lib.Ieee.{Float, nan}
+use Rattle.integers.proofs.Tests.{le_or_lt}
 use Rattle.eval_lanes.specs.Lanes.{lane}
 use Rattle.eval_lanes.specs.Inside.{Filled}
 
@@ -42,6 +43,33 @@ one_filled {p} {R} {old} {xs} {i} x g h r =
 pub all_filled : {R : ℕ → Float → Float → Type 0} {old xs : List Float} {i n : ℕ} → Filled 0 R old i xs → n ≤ i → (k : ℕ) → k < n
     → R k (lane old k) (lane xs k)
 all_filled g h k l = g.done k (omega arith) (omega arith)
+
+-- one loop after the other, where R does not ask what a number was
+pub also_filled : {p q r : ℕ} {R : ℕ → Float → Type 0} {old mid xs : List Float} → Filled p (λ k a b. R k b) old q mid
+    → Filled q (λ k a b. R k b) mid r xs → Filled p (λ k a b. R k b) old r xs
+also_filled {p} {q} {R = R} {old} {mid} {xs} g h =
+    let b = g.begun in
+    let d = h.begun in
+    record {
+      begun = omega arith;
+      long = h.long ∙ g.long;
+      done =
+          λ k l m. ⊎_elim (λ (i : q ≤ k). h.done k i m) (λ (i : k < q). subst (R k) (sym (h.front k i)) (g.done k l i)) (le_or_lt q k);
+      front = λ k l. h.front k (omega arith) ∙ g.front k l;
+      rest = λ k l. h.rest k l ∙ g.rest k (omega arith);
+    }
+
+-- what R says, in other words
+pub told_filled : {p i : ℕ} {R S : ℕ → Float → Float → Type 0} {old xs : List Float}
+    → ((k : ℕ) → p ≤ k → k < i → (a b : Float) → R k a b → S k a b) → Filled p R old i xs → Filled p S old i xs
+told_filled {old = old} {xs = xs} f g =
+    record {
+      begun = g.begun;
+      long = g.long;
+      done = λ k l m. f k l m (lane old k) (lane xs k) (g.done k l m);
+      front = g.front;
+      rest = g.rest;
+    }
 
 -- the place that a loop has come to, by another name
 pub until_filled : {p i j : ℕ} {R : ℕ → Float → Float → Type 0} {old xs : List Float} → i ≡ j → Filled p R old i xs → Filled p R old j xs

@@ -14,7 +14,7 @@ returns c =
     let e = c.write-after.ensures in
     let w = right_length a.registers.now a.offset a.value a.store.now a.table.now a.bounds.now
     c.registers_in.result.bytes
-    c.write-after.result.bytes c.copy_from_slice.new.self c.write-after.new.table c.write-after.new.bounds c.if-registers-ne136.false
-    c.registers_in.ensures c.copy_from_slice.ensures.after
+    c.write-after.result.bytes c.copy.new.to c.write-after.new.table c.write-after.new.bounds c.if-registers-ne136.false
+    c.registers_in.ensures c.copy.ensures
     (e.registers, (e.table, (e.bounds, e.certificate))) in
     record { code = w.0; registers = w.1.0; table = w.1.1.0; bounds = w.1.1.1.0; certificate = w.1.1.1.1 }
