@@ -110,8 +110,8 @@ fn command(r: &mut Registers, value: u8, store: &[u8], table: &mut [i16], bounds
     }
 }
 
-// A write: "Only bytes 0, 2 and 64 to 135 take writes; all other writes are ignored." It changes one copy in place: a copy for each case
-// costs more than all else that a write does.
+// A write: "Only bytes 0, 2 and 64 to 135 take writes; all other writes are ignored." It changes one copy in place: a copy for each
+// case takes longer.
 #[tactic(auto, using(crate::proofs::Writing::command_written, crate::proofs::Writing::idle_written), unfolding(registers::specs::Registers::written))]
 pub fn write(
     r: Registers,

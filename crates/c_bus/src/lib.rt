@@ -9,8 +9,8 @@ ghost use Rattle.c_bus.specs.Calls.{registers_call, read_call, registers_after_w
 use bus_registers::Registers;
 use c_boundary::WRONG_LENGTH;
 
-// A copy of 136 bytes, the board's own and the job record apart: what has more than 128 bytes the compiler copies by a call, which costs more
-// than all else that a write does.
+// A copy of 136 bytes, the board's own and the job record apart: what has more than 128 bytes the compiler copies by a call, which takes
+// longer.
 #[inline(always)]
 fn copy(to: &mut [u8], from: &[u8])
     requires { (length to.old ≡ 136) × (length from.now ≡ 136) }
