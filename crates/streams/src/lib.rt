@@ -34,7 +34,7 @@ pub fn read_full<R: Read>(reader: &mut R, space: &mut [u8]) -> usize
 }
 
 // Says how a program is used that takes no argument, where it was given one, and answers whether it was. No contract knows a runtime's
-// arguments, so the answer is free; nor does one know what is printed.
+// arguments or what is printed, so the answer is free: the clause holds of both.
 pub fn usage(rt: &(impl Env + Eprint), how: &str) -> bool
     ensures told { (result ≡ true) ⊎ (result ≡ false) }
 {
@@ -45,7 +45,7 @@ pub fn usage(rt: &(impl Env + Eprint), how: &str) -> bool
     given
 }
 
-// Writes the bytes, or says on standard error what failed. It answers nothing.
+// Writes the bytes, or says on standard error what failed. It answers nothing, and its clause says no more.
 pub fn put(rt: &(impl Print + Eprint), bytes: &[u8], failure: &str)
     ensures done { result ≡ tt }
 {
